@@ -152,7 +152,7 @@ def searches_find() -> None:
 # names that types of the code, and types or facts of the definitions, have in two files
 DOUBLED = {
     "src": set(),
-    "specs": {"Place", "Publishes", "WalkState"},
+    "specs": {"Place", "WalkState"},
 }
 
 

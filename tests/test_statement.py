@@ -133,7 +133,7 @@ def line_of(begin: str) -> int:
 
 @test("statement: the first screen has the sentence; then come what an editor must do, what holds, and of what")
 def in_order() -> None:
-    places = [line_of(it) for it in ("> In every interleaving", "abbrev pub EveryExchangeIsServed", "abbrev pub IsAllowedMove ", "pub record HoldsOfExchange ", "pub fn serve<")]
+    places = [line_of(it) for it in ("> In every interleaving", "abbrev pub EveryExchangeIsServed", "abbrev pub IsAllowedMove ", "pub record HoldsForExchange ", "pub fn serve<")]
     same(places, sorted(places), "the order of the page")
     holds(places[0] < 10 and places[1] < 45, f"the sentence and the theorem stand at lines {places[:2]}")
 
@@ -195,10 +195,10 @@ def counts_hold() -> None:
 @test("statement: the contract of what the program calls is on the page, and both sides of that of `play_in` on the second")
 def tie_is_there() -> None:
     first = "\n".join(text for _, text in [*fenced("agda", text_of(PAGE)), *fenced("rust", text_of(PAGE))])
-    for it in ("pub fn serve<", "record ServedExchange ", "record HoldsOfExchange ", "record AppliesAnswer ", "IsAllowedMove :", "Exchanges :"):
+    for it in ("pub fn serve<", "record IsServedExchange ", "record HoldsForExchange ", "record AppliesAnswer ", "IsAllowedMove :", "Exchanges :"):
         holds(it in first, f"docs/STATEMENT.md hasn't {it!r}")
     rest = "\n".join(text for _, text in [*fenced("agda", second()), *fenced("rust", second())])
-    for it in ("MayServe :", "pub fn play_in(", "record Plays ", "PlaysPrefix :", "record ConnectionStep ", "record HasServed ", "Serves :", "record Headline "):
+    for it in ("MayServe :", "pub fn play_in(", "record Plays ", "PlaysPrefix :", "record ConnectionSteps ", "record HasServed ", "Serves :", "record Headline "):
         holds(it in rest, f"the second page hasn't {it!r}")
 
 

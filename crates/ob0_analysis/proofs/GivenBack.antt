@@ -5,7 +5,7 @@ use Rattle.ob0_scan.specs.Refused.{IsRightRescanRefusal}
 use Rattle.ob0_scan.specs.TextWithTokens.{TextWithTokens}
 use Rattle.ob0_scan.specs.declared.incremental_scan.RescanRefusal.{RescanRefusal}
 use Rattle.ob0_scan.specs.declared.incremental_scan.RescanRefusal.TheVariants as rescanned
-use Rattle.ob0_parse.specs.KeptTokens.{AreInPlace}
+use Rattle.ob0_parse.specs.KeptTokens.{AreKeptTreesInPlace}
 use Rattle.ob0_parse.specs.declared.kept.KeptTrees.{KeptTrees}
 use Rattle.ob0_parse_descent.specs.declared.refusal.ParseRefusal.{ParseRefusal}
 use Rattle.ob0_tree.specs.ParsedModule.{IsParsed, parsed_module}
@@ -13,31 +13,31 @@ use Rattle.ob0_tree.specs.declared.tree.ModuleTree.{ModuleTree}
 use Rattle.ob0_scope_table.specs.Bindings.{resolution_with}
 use Rattle.ob0_scope_table.specs.Resolution.{IsResolution}
 use Rattle.ob0_scope_table.specs.declared.resolved.Bindings.{Bindings}
-use Rattle.ob0_types.specs.CheckedModules.{AreTypesOf}
-use Rattle.ob0_types.specs.declared.checked.ModuleTypes.{ModuleTypes}
-use Rattle.ob0_analysis.specs.ReuseConditions.{IsFailureAfterModule, IsFailureAfterRefusal}
+use Rattle.ob0_types.specs.CheckedModules.{IsCheckResultOf}
+use Rattle.ob0_types.specs.declared.checked.CheckResult.{CheckResult}
+use Rattle.ob0_analysis.specs.ReuseConditions.{IsRightScanFailureAfterModule, IsRightScanFailureAfterRefusal}
 use Rattle.ob0_analysis.specs.AnalysisInvariants.{IsRefusedByParser}
 use Rattle.ob0_analysis.specs.LastModule.{IsLastModuleOf}
 use Rattle.ob0_analysis.specs.declared.last_module.LastModule.{LastModule}
 
 pub refusal_given_back : (old : TextWithTokens) (text : List ℕ) (refusal : ParseRefusal) (kept : KeptTrees) (last : Option LastModule) (unread : RescanRefusal) → IsRightRescanRefusal old text unread
-    → IsRefusedByParser old refusal → AreInPlace old.tokens kept → IfSome last (IsLastModuleOf old) → IsFailureAfterRefusal text refusal kept last unread
+    → IsRefusedByParser old refusal → AreKeptTreesInPlace old.tokens kept → IfSome last (IsLastModuleOf old) → IsRightScanFailureAfterRefusal text refusal kept last unread
 refusal_given_back old text refusal kept last (rescanned.Faults faults tokens) by r k l = (
   by.0,
   by.1,
   subst (λ (s : TextWithTokens). IsRefusedByParser s refusal) (sym by.2) r,
-  subst (λ (s : TextWithTokens). AreInPlace s.tokens kept) (sym by.2) k,
+  subst (λ (s : TextWithTokens). AreKeptTreesInPlace s.tokens kept) (sym by.2) k,
   subst (λ (s : TextWithTokens). IfSome last (IsLastModuleOf s)) (sym by.2) l,
 )
 refusal_given_back old text refusal kept last rescanned.Memory by r k l = tt
 
-pub module_given_back : (old : TextWithTokens) (text : List ℕ) (tree : ModuleTree) (b : Bindings) (types : ModuleTypes) (unread : RescanRefusal) → IsRightRescanRefusal old text unread
-    → IsParsed (parsed_module old tree) → IsResolution (resolution_with (parsed_module old tree) b) → AreTypesOf (resolution_with (parsed_module old tree) b) types → IsFailureAfterModule text tree b types unread
+pub module_given_back : (old : TextWithTokens) (text : List ℕ) (tree : ModuleTree) (b : Bindings) (types : CheckResult) (unread : RescanRefusal) → IsRightRescanRefusal old text unread
+    → IsParsed (parsed_module old tree) → IsResolution (resolution_with (parsed_module old tree) b) → IsCheckResultOf (resolution_with (parsed_module old tree) b) types → IsRightScanFailureAfterModule text tree b types unread
 module_given_back old text tree b types (rescanned.Faults faults tokens) by p r t = (
   by.0,
   by.1,
   subst (λ (s : TextWithTokens). IsParsed (parsed_module s tree)) (sym by.2) p,
   subst (λ (s : TextWithTokens). IsResolution (resolution_with (parsed_module s tree) b)) (sym by.2) r,
-  subst (λ (s : TextWithTokens). AreTypesOf (resolution_with (parsed_module s tree) b) types) (sym by.2) t,
+  subst (λ (s : TextWithTokens). IsCheckResultOf (resolution_with (parsed_module s tree) b) types) (sym by.2) t,
 )
 module_given_back old text tree b types rescanned.Memory by p r t = tt

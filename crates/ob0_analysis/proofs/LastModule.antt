@@ -2,15 +2,15 @@
 use Rattle.std.proofs.Common.{◌≡◌, ◌≤◌, ◌+◌, ◌-◌, ℕ, List, Some, take, drop, length, sym, ap, ◌∙◌, arith, length-drop}
 use Rattle.std.proofs.lemmas.List.{drop-drop, length-map, take-take}
 use Rattle.ob0_scan.specs.declared.lexeme.Token.{Token}
-use Rattle.ob0_scan.specs.declared.tokens.SameParts.{SameParts}
+use Rattle.ob0_scan.specs.declared.tokens.CommonPrefixAndSuffix.{CommonPrefixAndSuffix}
 use Rattle.ob0_scan.specs.Reused.{kinds, kind_without_value, words_of_tokens}
-use Rattle.ob0_scan.specs.SameKinds.{HasSameKinds, HasSameWords}
+use Rattle.ob0_scan.specs.SameKinds.{PrefixAndSuffixHaveSameKinds, PrefixAndSuffixHaveSameWords}
 use Rattle.ob0_scan.specs.TextWithTokens.{IsScan, TextWithTokens}
 use Rattle.ob0_tree.specs.declared.tree.ModuleTree.{ModuleTree}
-use Rattle.ob0_scope_table.specs.BodyPlaces.{body_place_of_range, module_tree_of}
-use Rattle.ob0_scope_table.specs.declared.one_body.BodyPlace.{BodyPlace}
+use Rattle.ob0_scope_table.specs.BodyPlaces.{body_bounds_of_range, module_tree_of}
+use Rattle.ob0_scope_table.specs.declared.one_body.BodyBounds.{BodyBounds}
 use Rattle.ob0_scope_table.specs.declared.resolved.Bindings.{Bindings}
-use Rattle.ob0_types.specs.declared.checked.ModuleTypes.{ModuleTypes}
+use Rattle.ob0_types.specs.declared.checked.CheckResult.{CheckResult}
 use Rattle.ob0_analysis.specs.LastModule.{IsEarlierModule, WidensDifference, IsLastModuleOf}
 use Rattle.ob0_analysis.specs.declared.last_module.LastModule.{LastModule}
 
@@ -25,13 +25,13 @@ count_kinds : (ts : List Token) → length (kinds ts) ≡ length ts
 count_kinds ts = length-map ts (λ (t : Token). kind_without_value t.kind)
 
 -- Both texts have the same number of tokens after the range of differences.
-as_many : (s : SameParts) (old new : List Token) → HasSameKinds s old new → length new + s.old_suffix ≡ length old + s.new_suffix
+as_many : (s : CommonPrefixAndSuffix) (old new : List Token) → PrefixAndSuffixHaveSameKinds s old new → length new + s.old_suffix ≡ length old + s.new_suffix
 as_many s old new h =
     let left : length (kinds new) - s.new_suffix ≡ length (kinds old) - s.old_suffix =
     sym (length-drop s.new_suffix (kinds new)) ∙ (ap length h.back ∙ length-drop s.old_suffix (kinds old)) in
     omega (arith, left, count_kinds new, count_kinds old, h.new_inside, h.old_inside)
 
-module _ (s wider : SameParts) (still : WidensDifference s wider) where
+module _ (s wider : CommonPrefixAndSuffix) (still : WidensDifference s wider) where
   abbrev more : ℕ
   more = wider.old_suffix - s.old_suffix
 
@@ -41,7 +41,7 @@ module _ (s wider : SameParts) (still : WidensDifference s wider) where
   here : s.new_suffix + more ≡ wider.new_suffix
   here = omega (arith, still.back, still.adds_equally_many_tokens)
 
-  tokens_still : (old new : List Token) → HasSameKinds s old new → wider.old_suffix ≤ length old → HasSameKinds wider old new
+  tokens_still : (old new : List Token) → PrefixAndSuffixHaveSameKinds s old new → wider.old_suffix ≤ length old → PrefixAndSuffixHaveSameKinds wider old new
   tokens_still old new h inside = record {
     old_range = omega (arith, still.front, still.back, h.old_range);
     new_range = omega (arith, still.front, still.back, still.adds_equally_many_tokens, h.new_range);
@@ -51,19 +51,19 @@ module _ (s wider : SameParts) (still : WidensDifference s wider) where
     back = less_back s.new_suffix s.old_suffix more wider.new_suffix wider.old_suffix (kinds new) (kinds old) here there h.back;
   }
 
-  words_still : (old new : TextWithTokens) → HasSameWords s old new → HasSameWords wider old new
+  words_still : (old new : TextWithTokens) → PrefixAndSuffixHaveSameWords s old new → PrefixAndSuffixHaveSameWords wider old new
   words_still old new h = record {
     front = less_front wider.prefix s.prefix _ _ still.front h.front;
     back = less_back s.new_suffix s.old_suffix more wider.new_suffix wider.old_suffix _ _ here there h.back;
   }
 
   -- A wider range that ends inside the new text also ends inside the old text.
-  inside_old : (old new : List Token) → HasSameKinds s old new → wider.new_suffix ≤ length new → wider.old_suffix ≤ length old
+  inside_old : (old new : List Token) → PrefixAndSuffixHaveSameKinds s old new → wider.new_suffix ≤ length new → wider.old_suffix ≤ length old
   inside_old old new h inside = omega (arith, still.adds_equally_many_tokens, inside, as_many s old new h)
 
 -- ---- two changes
 
-joined : (s t : SameParts) (old mid new : List Token) → t.prefix ≡ s.prefix → t.old_suffix ≡ s.new_suffix → HasSameKinds s old mid → HasSameKinds t mid new → HasSameKinds (record { prefix = s.prefix; old_suffix = s.old_suffix; new_suffix = t.new_suffix }) old new
+joined : (s t : CommonPrefixAndSuffix) (old mid new : List Token) → t.prefix ≡ s.prefix → t.old_suffix ≡ s.new_suffix → PrefixAndSuffixHaveSameKinds s old mid → PrefixAndSuffixHaveSameKinds t mid new → PrefixAndSuffixHaveSameKinds (record { prefix = s.prefix; old_suffix = s.old_suffix; new_suffix = t.new_suffix }) old new
 joined s t old mid new p q h k = record {
   old_range = h.old_range;
   new_range = omega (arith, p, k.new_range);
@@ -73,7 +73,7 @@ joined s t old mid new p q h k = record {
   back = k.back ∙ (ap (λ n. drop n (kinds mid)) q ∙ h.back);
 }
 
-joined_words : (s t : SameParts) (old mid new : TextWithTokens) → t.prefix ≡ s.prefix → t.old_suffix ≡ s.new_suffix → HasSameWords s old mid → HasSameWords t mid new → HasSameWords (record { prefix = s.prefix; old_suffix = s.old_suffix; new_suffix = t.new_suffix }) old new
+joined_words : (s t : CommonPrefixAndSuffix) (old mid new : TextWithTokens) → t.prefix ≡ s.prefix → t.old_suffix ≡ s.new_suffix → PrefixAndSuffixHaveSameWords s old mid → PrefixAndSuffixHaveSameWords t mid new → PrefixAndSuffixHaveSameWords (record { prefix = s.prefix; old_suffix = s.old_suffix; new_suffix = t.new_suffix }) old new
 joined_words s t old mid new p q h k = record {
   front = ap (λ n. take n (words_of_tokens new.text new.tokens)) (sym p) ∙ (k.front ∙ (ap (λ n. take n (words_of_tokens mid.text mid.tokens)) p ∙ h.front));
   back = k.back ∙ (ap (λ n. drop n (words_of_tokens mid.text mid.tokens)) q ∙ h.back);
@@ -82,8 +82,8 @@ joined_words s t old mid new p q h k = record {
 -- ---- the last module
 
 -- The module of the previous text is the last module if the range of differences is widened within one of its bodies.
-pub is_last : (new : TextWithTokens) (tree : ModuleTree) (b : Bindings) (types : ModuleTypes) (s wider : SameParts) (place : BodyPlace) → IsEarlierModule new tree b types s → WidensDifference s wider → wider.new_suffix ≤ length new.tokens
-    → body_place_of_range wider.prefix wider.old_suffix (module_tree_of tree) ≡ Some place → IsLastModuleOf new (record { bindings = b; types = types; same = wider; place = place })
+pub is_last : (new : TextWithTokens) (tree : ModuleTree) (b : Bindings) (types : CheckResult) (s wider : CommonPrefixAndSuffix) (place : BodyBounds) → IsEarlierModule new tree b types s → WidensDifference s wider → wider.new_suffix ≤ length new.tokens
+    → body_bounds_of_range wider.prefix wider.old_suffix (module_tree_of tree) ≡ Some place → IsLastModuleOf new (record { bindings = b; types = types; same = wider; place = place })
 is_last new tree b types s wider place h still inside placed = record {
   tree = tree;
   earlier_module = record {
@@ -100,7 +100,7 @@ is_last new tree b types s wider place h still inside placed = record {
 }
 
 -- The last module is still the last module after a further change.
-pub last_stays : (mid new : TextWithTokens) (last : LastModule) (change wider : SameParts) → IsLastModuleOf mid last → HasSameKinds change mid.tokens new.tokens → HasSameWords change mid new → IsScan new → WidensDifference change wider → wider.prefix ≡ last.same.prefix → wider.old_suffix ≡ last.same.new_suffix
+pub last_stays : (mid new : TextWithTokens) (last : LastModule) (change wider : CommonPrefixAndSuffix) → IsLastModuleOf mid last → PrefixAndSuffixHaveSameKinds change mid.tokens new.tokens → PrefixAndSuffixHaveSameWords change mid new → IsScan new → WidensDifference change wider → wider.prefix ≡ last.same.prefix → wider.old_suffix ≡ last.same.new_suffix
     → IsLastModuleOf new (record { bindings = last.bindings; types = last.types; same = record { prefix = last.same.prefix; old_suffix = last.same.old_suffix; new_suffix = wider.new_suffix }; place = last.place })
 last_stays mid new last change wider w tokens words scan still p q =
     let inside : wider.old_suffix ≤ length mid.tokens = omega (arith, q, w.earlier_module.same.new_inside) in

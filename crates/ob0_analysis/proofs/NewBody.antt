@@ -6,10 +6,10 @@ use Rattle.std.proofs.lemmas.Bool.{le-ltb}
 use Rattle.ob0_scan.specs.declared.lexeme.TokenKind.{TokenKind}
 use Rattle.ob0_scan.specs.declared.lexeme.TokenKind.TheVariants as kind
 use Rattle.ob0_scan.specs.declared.lexeme.ReservedWord.TheVariants as reserved
-use Rattle.ob0_scan.specs.declared.tokens.RescanInPlace.{RescanInPlace}
-use Rattle.ob0_scan.specs.declared.tokens.SameParts.{SameParts}
+use Rattle.ob0_scan.specs.declared.tokens.RescanWithComparison.{RescanWithComparison}
+use Rattle.ob0_scan.specs.declared.tokens.CommonPrefixAndSuffix.{CommonPrefixAndSuffix}
 use Rattle.ob0_scan.specs.Reused.{kinds, words_of_tokens}
-use Rattle.ob0_scan.specs.SameKinds.{HasSameKinds, HasSameWords}
+use Rattle.ob0_scan.specs.SameKinds.{PrefixAndSuffixHaveSameKinds, PrefixAndSuffixHaveSameWords}
 use Rattle.ob0_scan.specs.TextWithTokens.{IsScan, TextWithTokens, Word}
 use Rattle.ob0_tree.specs.Lexeme.{EndOfText, WordOrSymbol, Name, Number, Terminal, mapped_terminal}
 use Rattle.ob0_tree.specs.Order.{names_without_roles}
@@ -23,21 +23,21 @@ use Rattle.ob0_tree.proofs.Mapped.{spell_mapped}
 use Rattle.ob0_parse_descent.proofs.Unique.{same}
 use Rattle.ob0_scope.specs.NewBody.{WasBoundBeforeNewBody}
 use Rattle.ob0_scope_table.specs.Bindings.{resolution_with}
-use Rattle.ob0_scope_table.specs.BodyPlaces.{body_place_of_range, module_tree_of}
+use Rattle.ob0_scope_table.specs.BodyPlaces.{body_bounds_of_range, module_tree_of}
 use Rattle.ob0_tree.specs.FirstIdentifier.{token_of_first_identifier}
 use Rattle.ob0_scope_table.specs.BodyReplaced.{IsBodyReplaced, PathToBody, body_at_path, closing_name_at_path, moved_token_index, path_to_body_in_module, module_without_body}
 use Rattle.ob0_scope_table.specs.OneBody.{is_outside_range}
 use Rattle.ob0_scope_table.proofs.BodyPlaces.{body_place_read}
 use Rattle.ob0_scope_table.proofs.Moved.{moved_above, moved_below, out_cases}
-use Rattle.ob0_scope_table.specs.declared.one_body.BodyPlace.{BodyPlace}
+use Rattle.ob0_scope_table.specs.declared.one_body.BodyBounds.{BodyBounds}
 use Rattle.ob0_scope_table.specs.declared.resolved.Bindings.{Bindings}
-use Rattle.ob0_types.specs.NewBody.{WereTypesBeforeNewBody}
-use Rattle.ob0_types.specs.declared.checked.ModuleTypes.{ModuleTypes}
+use Rattle.ob0_types.specs.NewBody.{WasCheckResultBeforeNewBody}
+use Rattle.ob0_types.specs.declared.checked.CheckResult.{CheckResult}
 use Rattle.ob0_analysis.specs.ReuseConditions.{WasModuleBeforeChange}
 use Rattle.ob0_analysis.specs.LastModule.{IsEarlierModule, IsLastModuleOf}
 use Rattle.ob0_analysis.specs.NewBody.{IsSameBody}
 use Rattle.ob0_analysis.specs.declared.last_module.LastModule.{LastModule}
-use Rattle.ob0_analysis.specs.declared.fault_places.FaultPlaces.{FaultPlaces}
+use Rattle.ob0_analysis.specs.declared.fault_places.ModuleFaultsWithTokenIndexes.{ModuleFaultsWithTokenIndexes}
 use Rattle.ob0_analysis.proofs.Marked.{drop_marked, marked, moved_on, name_index, spelled_marked, take_marked}
 use Rattle.ob0_analysis.proofs.OneBody.{get_dropped, get_taken}
 use Rattle.ob0_analysis.proofs.NoBegin.{NoBegin, begin_mark, first_part, last_begin, no_begin}
@@ -150,7 +150,7 @@ take_short zero xs = omega arith
 take_short (suc n) [] = omega arith
 take_short (suc n) (x ∷ xs) = let h = take_short n xs in omega (arith, h)
 
-module _ (s : SameParts) (old_range : s.prefix ≤ s.old_suffix) (new_range : s.prefix ≤ s.new_suffix) where
+module _ (s : CommonPrefixAndSuffix) (old_range : s.prefix ≤ s.old_suffix) (new_range : s.prefix ≤ s.new_suffix) where
   -- A moved token is on the same side of the range of differences as before.
   same_side : (c : ℕ) → nat_lt (moved_token_index s c) s.prefix ≡ nat_lt c s.prefix
   same_side c = one (nat_lt c s.prefix) refl
@@ -167,7 +167,7 @@ module _ (s : SameParts) (old_range : s.prefix ≤ s.old_suffix) (new_range : s.
       ∙ (way_moved s.prefix (moved_token_index s) same_side (module_without_body (path_to_body_in_module s.prefix (tree_of old)) (tree_of old))
       ∙ way_less s.prefix (path_to_body_in_module s.prefix (tree_of old)) (tree_of old)))
 
-module _ (old new : ParsedModule) (s : SameParts) (tokens : HasSameKinds s old.source.tokens new.source.tokens) where
+module _ (old new : ParsedModule) (s : CommonPrefixAndSuffix) (tokens : PrefixAndSuffixHaveSameKinds s old.source.tokens new.source.tokens) where
   -- The new module without its body is the old module without its body, with its tokens moved.
   without_same : (path new_path : PathToBody) (first closing now_closing : ℕ) → Halves old path first closing → Halves new new_path first now_closing → first < s.prefix → s.old_suffix < closing → now_closing + s.old_suffix ≡ closing + s.new_suffix
       → module_without_body new_path (tree_of new) ≡ mapped_tree (moved_token_index s) (moved_token_index s) (module_without_body path (tree_of old))
@@ -205,7 +205,7 @@ module _ (old new : ParsedModule) (s : SameParts) (tokens : HasSameKinds s old.s
 
 -- ---- tokens outside the range have the same spelling
 
-words_outside : (s : SameParts) (old new : TextWithTokens) → HasSameWords s old new → s.prefix ≤ s.old_suffix → (i : ℕ) → is_outside_range s.prefix s.old_suffix i ≡ true
+words_outside : (s : CommonPrefixAndSuffix) (old new : TextWithTokens) → PrefixAndSuffixHaveSameWords s old new → s.prefix ≤ s.old_suffix → (i : ℕ) → is_outside_range s.prefix s.old_suffix i ≡ true
     → slice_get (words_of_tokens new.text new.tokens) (moved_token_index s i) ≡ slice_get (words_of_tokens old.text old.tokens) i
 words_outside s old new written range i out = ⊎_elim
     (λ less. ap (slice_get (words_of_tokens new.text new.tokens)) (moved_below s i less)
@@ -217,8 +217,8 @@ words_outside s old new written range i out = ⊎_elim
     ∙ (ap (λ (l : List Word). slice_get l (i - s.old_suffix)) written.back ∙ get_dropped s.old_suffix (words_of_tokens old.text old.tokens) (i - s.old_suffix) i here)))
     (out_cases s.prefix s.old_suffix i out)
 
-pub body_replaced : (old new : ParsedModule) (s : SameParts) → IsScan old.source → IsScan new.source → IsParsed old → IsParsed new → HasSameKinds s old.source.tokens new.source.tokens → HasSameWords s old.source new.source
-    → (was : BodyPlace) → body_place_of_range s.prefix s.old_suffix (tree_of old) ≡ Some was → IsSameBody was (body_place_of_range s.prefix s.new_suffix (tree_of new)) s → IsBodyReplaced old new (path_to_body_in_module s.prefix (tree_of old)) s
+pub body_replaced : (old new : ParsedModule) (s : CommonPrefixAndSuffix) → IsScan old.source → IsScan new.source → IsParsed old → IsParsed new → PrefixAndSuffixHaveSameKinds s old.source.tokens new.source.tokens → PrefixAndSuffixHaveSameWords s old.source new.source
+    → (was : BodyBounds) → body_bounds_of_range s.prefix s.old_suffix (tree_of old) ≡ Some was → IsSameBody was (body_bounds_of_range s.prefix s.new_suffix (tree_of new)) s → IsBodyReplaced old new (path_to_body_in_module s.prefix (tree_of old)) s
 body_replaced old new s old_scan new_scan old_parsed new_parsed tokens written place placed b =
     let path : PathToBody = path_to_body_in_module s.prefix (tree_of old) in
     let new_path : PathToBody = path_to_body_in_module s.prefix (tree_of new) in
@@ -258,7 +258,7 @@ body_replaced old new s old_scan new_scan old_parsed new_parsed tokens written p
 -- ---- the reused results
 
 -- If the previous text was a module, `IsEarlierModule` holds for it; all other facts about it are dropped.
-abbrev pub had_module : (c : RescanInPlace) (tree : ModuleTree) (b : Bindings) (types : ModuleTypes) (places : FaultPlaces) → WasModuleBeforeChange c tree b types places → IsEarlierModule c.rescan.tokens tree b types c.same
+abbrev pub had_module : (c : RescanWithComparison) (tree : ModuleTree) (b : Bindings) (types : CheckResult) (places : ModuleFaultsWithTokenIndexes) → WasModuleBeforeChange c tree b types places → IsEarlierModule c.rescan.tokens tree b types c.same
 had_module c tree b types places h = record {
   old = h.old;
   old_scan = h.old_scan;
@@ -270,7 +270,7 @@ had_module c tree b types places h = record {
   written = h.written;
 }
 
-module _ (new : TextWithTokens) (tree : ModuleTree) (last : LastModule) (now : Option BodyPlace) (h : IsLastModuleOf new last) (placed : now ≡ body_place_of_range last.same.prefix last.same.new_suffix (module_tree_of tree)) (parsed : IsParsed (parsed_module new tree)) (one_body : IsSameBody last.place now last.same) where
+module _ (new : TextWithTokens) (tree : ModuleTree) (last : LastModule) (now : Option BodyBounds) (h : IsLastModuleOf new last) (placed : now ≡ body_bounds_of_range last.same.prefix last.same.new_suffix (module_tree_of tree)) (parsed : IsParsed (parsed_module new tree)) (one_body : IsSameBody last.place now last.same) where
   abbrev before_it : ParsedModule
   before_it = parsed_module h.earlier_module.old h.tree
 
@@ -282,5 +282,5 @@ module _ (new : TextWithTokens) (tree : ModuleTree) (last : LastModule) (now : O
   pub was_bound_elsewhere : WasBoundBeforeNewBody (parsed_module new tree) last.bindings last.same
   was_bound_elsewhere = record { old = before_it; path = path_to_body_in_module last.same.prefix (tree_of before_it); replaced = is_replaced; resolved = h.earlier_module.resolved }
 
-  pub were_types_elsewhere : (c : Bindings) → WereTypesBeforeNewBody (resolution_with (parsed_module new tree) c) last.types last.same
+  pub were_types_elsewhere : (c : Bindings) → WasCheckResultBeforeNewBody (resolution_with (parsed_module new tree) c) last.types last.same
   were_types_elsewhere c = record { old = resolution_with before_it last.bindings; path = path_to_body_in_module last.same.prefix (tree_of before_it); replaced = is_replaced; types_are = h.earlier_module.types_are }

@@ -4,7 +4,7 @@ use Rattle.std.proofs.Common.{◌≡◌, Bool, true, false, ◌||◌, Option, So
 use Rattle.ob0_scan.specs.declared.lexeme.TokenKind.{TokenKind}
 use Rattle.ob0_scan.specs.declared.lexeme.TokenKind.TheVariants as kind
 use Rattle.ob0_scan.specs.declared.lexeme.ReservedWord.TheVariants as reserved
-use Rattle.ob0_tree.specs.Lexeme.{Terminal, WordOrSymbol, add_operator_token, multiply_operator_token, relation_token, sign_tokens}
+use Rattle.ob0_tree.specs.Lexeme.{Terminal, WordOrSymbol, add_operator_token_kind, multiply_operator_token_kind, relation_token_kind, sign_tokens}
 use Rattle.ob0_tree.specs.declared.tree.AddOperator.{AddOperator}
 use Rattle.ob0_tree.specs.declared.tree.AddOperator.TheVariants as add_operator
 use Rattle.ob0_tree.specs.declared.tree.MultiplyOperator.{MultiplyOperator}
@@ -76,7 +76,7 @@ last_begin [] u (y ∷ b) v p q e = absurd (is_there b v (record { has = ap has_
 last_begin (x ∷ a) u [] v p q e = absurd (is_there a u (record { has = ap has_begin (tail_of e) ∙ q.has }))
 last_begin (x ∷ a) u (y ∷ b) v p q e = let h : a ≡ b = last_begin a u b v p q (tail_of e) in let g : x ≡ y = head_of e in cc (h, g)
 
-relation_apart : (r : Relation) → is_begin_kind (relation_token r) ≡ false
+relation_apart : (r : Relation) → is_begin_kind (relation_token_kind r) ≡ false
 relation_apart relation.Equal = refl
 relation_apart relation.NotEqual = refl
 relation_apart relation.Less = refl
@@ -84,12 +84,12 @@ relation_apart relation.LessEqual = refl
 relation_apart relation.Greater = refl
 relation_apart relation.GreaterEqual = refl
 
-add_apart : (o : AddOperator) → is_begin_kind (add_operator_token o) ≡ false
+add_apart : (o : AddOperator) → is_begin_kind (add_operator_token_kind o) ≡ false
 add_apart add_operator.Add = refl
 add_apart add_operator.Subtract = refl
 add_apart add_operator.Or = refl
 
-multiply_apart : (o : MultiplyOperator) → is_begin_kind (multiply_operator_token o) ≡ false
+multiply_apart : (o : MultiplyOperator) → is_begin_kind (multiply_operator_token_kind o) ≡ false
 multiply_apart multiply_operator.Multiply = refl
 multiply_apart multiply_operator.Divide = refl
 multiply_apart multiply_operator.Modulo = refl

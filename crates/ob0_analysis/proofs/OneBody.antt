@@ -4,20 +4,20 @@ use Rattle.std.proofs.Common.{◌≡◌, ◌<◌, ◌≤◌, ℕ, zero, suc, ◌
 use Rattle.std.proofs.lemmas.Bool.Decides.{nat_tests}
 use Rattle.std.proofs.lemmas.List.{length-map}
 use Rattle.ob0_scan.specs.Reused.{kinds, kind_without_value, words_of_tokens}
-use Rattle.ob0_scan.specs.SameKinds.{HasSameKinds, HasSameWords}
+use Rattle.ob0_scan.specs.SameKinds.{PrefixAndSuffixHaveSameKinds, PrefixAndSuffixHaveSameWords}
 use Rattle.ob0_scan.specs.TextWithTokens.{TextWithTokens, Word, word_of_token}
 use Rattle.ob0_scan.specs.declared.lexeme.Token.{Token}
-use Rattle.ob0_scan.specs.declared.tokens.SameParts.{SameParts}
+use Rattle.ob0_scan.specs.declared.tokens.CommonPrefixAndSuffix.{CommonPrefixAndSuffix}
 use Rattle.ob0_tree.specs.ParsedModule.{IsParsed, parsed_module, tree_of}
 use Rattle.ob0_tree.specs.declared.tree.ModuleTree.{ModuleTree}
 use Rattle.ob0_scope.proofs.Rebound.{ordinals_outside}
-use Rattle.ob0_scope.specs.Rebound.{WasBoundBeforeChange}
+use Rattle.ob0_scope.specs.Rebound.{WasBoundBeforeBodyChange}
 use Rattle.ob0_scope_table.specs.Bindings.{resolution_with}
 use Rattle.ob0_scope_table.specs.OneBody.{IsBodyChange, is_range_in_one_body, is_outside_range}
 use Rattle.ob0_scope_table.specs.Resolution.{IsResolution}
 use Rattle.ob0_scope_table.specs.declared.resolved.Bindings.{Bindings}
-use Rattle.ob0_types.specs.OneBody.{WereTypesBeforeChange}
-use Rattle.ob0_types.specs.declared.checked.ModuleTypes.{ModuleTypes}
+use Rattle.ob0_types.specs.OneBody.{WasCheckResultBeforeBodyChange}
+use Rattle.ob0_types.specs.declared.checked.CheckResult.{CheckResult}
 use Rattle.ob0_analysis.specs.OneBody.{IsEarlierModuleWithSameKinds}
 
 pub get_taken : {A : Type 0} (k : ℕ) (xs : List A) (i : ℕ) → i < k → slice_get (take k xs) i ≡ slice_get xs i
@@ -32,7 +32,7 @@ get_dropped (suc k) [] i j e = refl
 get_dropped (suc k) (x ∷ xs) i zero e = absurd (omega (arith, e))
 get_dropped (suc k) (x ∷ xs) i (suc j) e = get_dropped k xs i j (omega (arith, e))
 
-module _ (s : SameParts) (old new : TextWithTokens) (alike : kinds new.tokens ≡ kinds old.tokens) (same : HasSameKinds s old.tokens new.tokens) (written : HasSameWords s old new) where
+module _ (s : CommonPrefixAndSuffix) (old new : TextWithTokens) (alike : kinds new.tokens ≡ kinds old.tokens) (same : PrefixAndSuffixHaveSameKinds s old.tokens new.tokens) (written : PrefixAndSuffixHaveSameWords s old new) where
   abbrev before : List Word
   before = words_of_tokens old.text old.tokens
 
@@ -67,7 +67,7 @@ module _ (s : SameParts) (old new : TextWithTokens) (alike : kinds new.tokens �
           past true f g = grind (arith, nat_tests)
           past false f g = absurd (cc)
 
-module _ {new : TextWithTokens} {tree : ModuleTree} {b : Bindings} {types : ModuleTypes} {s : SameParts} (h : IsEarlierModuleWithSameKinds new tree b types s) (lies : is_range_in_one_body s.prefix s.old_suffix (tree_of (parsed_module new tree)) ≡ true) where
+module _ {new : TextWithTokens} {tree : ModuleTree} {b : Bindings} {types : CheckResult} {s : CommonPrefixAndSuffix} (h : IsEarlierModuleWithSameKinds new tree b types s) (lies : is_range_in_one_body s.prefix s.old_suffix (tree_of (parsed_module new tree)) ≡ true) where
   body_change : IsBodyChange h.earlier_module.old (parsed_module new tree) s.prefix s.old_suffix
   body_change = record {
     old_scan = h.earlier_module.old_scan;
@@ -77,11 +77,11 @@ module _ {new : TextWithTokens} {tree : ModuleTree} {b : Bindings} {types : Modu
     in_body = lies;
   }
 
-  pub was_bound : IsParsed (parsed_module new tree) → WasBoundBeforeChange (parsed_module new tree) b s.prefix s.old_suffix
+  pub was_bound : IsParsed (parsed_module new tree) → WasBoundBeforeBodyChange (parsed_module new tree) b s.prefix s.old_suffix
   was_bound parsed = record { old = h.earlier_module.old; change = body_change; parsed = parsed; resolved = h.earlier_module.resolved }
 
   -- The old results for types can be reused if the names were bound again.
-  pub were_types : (c : Bindings) → IsResolution (resolution_with (parsed_module new tree) c) → WereTypesBeforeChange (resolution_with (parsed_module new tree) c) types s.prefix
+  pub were_types : (c : Bindings) → IsResolution (resolution_with (parsed_module new tree) c) → WasCheckResultBeforeBodyChange (resolution_with (parsed_module new tree) c) types s.prefix
   were_types c resolved = record {
     high = s.old_suffix;
     old = h.earlier_module.old;
@@ -92,5 +92,5 @@ module _ {new : TextWithTokens} {tree : ModuleTree} {b : Bindings} {types : Modu
   }
 
   -- The old results for types can be reused if the bindings are kept.
-  pub kept_types : WereTypesBeforeChange (resolution_with (parsed_module new tree) b) types s.prefix
+  pub kept_types : WasCheckResultBeforeBodyChange (resolution_with (parsed_module new tree) b) types s.prefix
   kept_types = record { high = s.old_suffix; old = h.earlier_module.old; bindings = b; change = body_change; bound = λ token e. refl; types_are = h.earlier_module.types_are }

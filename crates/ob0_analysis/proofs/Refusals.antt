@@ -1,29 +1,29 @@
 -- A text has only one refusal by the parser and only one report of it.
 use Rattle.std.proofs.Common.{◌≡◌, ℕ, [], ◌∷◌, sym, ◌∙◌, ap, subst}
 use Rattle.ob0_scan.specs.TextWithTokens.{TextWithTokens}
-use Rattle.ob0_parse_descent.specs.Descent.{StopIsUnique, Expects, Deep}
+use Rattle.ob0_parse_descent.specs.Descent.{StopIsUnique, Expects, TooDeepAt}
 use Rattle.ob0_parse_descent.specs.ExpectedText.{expected_text}
 use Rattle.ob0_parse.specs.IsRightParseRefusal.{IsRightParseRefusal}
-use Rattle.ob0_parse_descent.specs.declared.refusal.Expected.{Expected}
+use Rattle.ob0_parse_descent.specs.declared.refusal.ExpectedSyntax.{ExpectedSyntax}
 use Rattle.ob0_parse_descent.specs.declared.refusal.ParseRefusal.{ParseRefusal}
 use Rattle.ob0_parse_descent.specs.declared.refusal.ParseRefusal.TheVariants.{Syntax, TooDeep, Memory}
-use Rattle.ob0_analysis.specs.Diagnosed.{ReportedDiagnosis, ReportsRefusal, RefusalIsUnique, syntax_error, depth_error, token_span_or_end}
+use Rattle.ob0_analysis.specs.Diagnosed.{ReportedDiagnosis, ReportsRefusal, RefusalIsUnique, syntax_error_diagnosis, depth_error_diagnosis, token_span_or_end}
 use Rattle.ob0_analysis.proofs.Scanning.{OneScan}
 
-same_place : {i j : ℕ} {x y : Expected} → Expects i x ≡ Expects j y → (i ≡ j) × (x ≡ y)
+same_place : {i j : ℕ} {x y : ExpectedSyntax} → Expects i x ≡ Expects j y → (i ≡ j) × (x ≡ y)
 same_place e = (cc, cc)
 
-same_depth : {i j : ℕ} → Deep i ≡ Deep j → i ≡ j
+same_depth : {i j : ℕ} → TooDeepAt i ≡ TooDeepAt j → i ≡ j
 same_depth e = cc
 
-not_deep : {i j : ℕ} {x : Expected} → Expects i x ≡ Deep j → ⊥
+not_deep : {i j : ℕ} {x : ExpectedSyntax} → Expects i x ≡ TooDeepAt j → ⊥
 not_deep e = cc
 
 same_parser_diagnosis : (s : TextWithTokens) (p q : ParseRefusal) (c d : ReportedDiagnosis) → StopIsUnique → IsRightParseRefusal s p → IsRightParseRefusal s q → ReportsRefusal s p c → ReportsRefusal s q d → c ≡ d
 same_parser_diagnosis s (Syntax i x) (Syntax j y) c d one p q a b =
     let same = same_place (one _ _ _ _ _ p.2 q.2) in
-    a ∙ (ap (λ k. syntax_error (expected_text x) (token_span_or_end s k)) same.0 ∙ (ap (λ z. syntax_error (expected_text z) (token_span_or_end s j)) same.1 ∙ sym b))
-same_parser_diagnosis s (TooDeep i) (TooDeep j) c d one p q a b = a ∙ (ap (λ k. depth_error (token_span_or_end s k)) (same_depth (one _ _ _ _ _ p.2 q.2)) ∙ sym b)
+    a ∙ (ap (λ k. syntax_error_diagnosis (expected_text x) (token_span_or_end s k)) same.0 ∙ (ap (λ z. syntax_error_diagnosis (expected_text z) (token_span_or_end s j)) same.1 ∙ sym b))
+same_parser_diagnosis s (TooDeep i) (TooDeep j) c d one p q a b = a ∙ (ap (λ k. depth_error_diagnosis (token_span_or_end s k)) (same_depth (one _ _ _ _ _ p.2 q.2)) ∙ sym b)
 same_parser_diagnosis s (Syntax i x) (TooDeep j) c d one p q a b = absurd (not_deep (one _ _ _ _ _ p.2 q.2))
 same_parser_diagnosis s (TooDeep i) (Syntax j y) c d one p q a b = absurd (not_deep (one _ _ _ _ _ q.2 p.2))
 same_parser_diagnosis s Memory q c d one p r a b = absurd a

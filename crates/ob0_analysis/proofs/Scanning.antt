@@ -3,13 +3,13 @@ use Rattle.std.proofs.Common.{◌≡◌, ◌⊎◌, ◌<◌, ◌∙◌, ◌+◌,
 use Rattle.std.proofs.lemmas.List.{take-append-drop}
 use Rattle.std.specs.Str.{chars, IsUtf8}
 use Rattle.std.proofs.lemmas.Str.{encodes-chars}
-use Rattle.ob0_scan.specs.Refused.{AreFaults}
+use Rattle.ob0_scan.specs.Refused.{AreFaultsOfRefusedText}
 use Rattle.ob0_scan.specs.TextWithTokens.{TextWithTokens, IsScan, IsScannable, IsScanOf}
 use Rattle.ob0_scan.specs.declared.fault.Fault.{Fault}
 use Rattle.ob0_tree.specs.Lexeme.{Terminal, EndOfText}
 use Rattle.ob0_tree.specs.Module.{ModuleOf, terminals_of_text}
 use Rattle.ob0_tree.specs.Tree.{Tree, module_text}
-use Rattle.ob0_parse.specs.IsRightParseRefusal.{NoModuleBegins, IsRightParseRefusal}
+use Rattle.ob0_parse.specs.IsRightParseRefusal.{NoModuleBeginsWithTokens, IsRightParseRefusal}
 use Rattle.ob0_parse_descent.specs.declared.refusal.ParseRefusal.{ParseRefusal}
 use Rattle.ob0_parse_descent.specs.declared.refusal.ParseRefusal.TheVariants.{Syntax, TooDeep, Memory}
 use Rattle.ob0_scope_table.specs.Resolution.{Resolution}
@@ -31,18 +31,18 @@ OneScan = (s t : TextWithTokens) → IsScan s → IsScan t → s.text ≡ t.text
 scannable : (text : List ℕ) → IsWellTypedModule text → IsScannable text
 scannable text w = subst IsScannable w.text_of.scan.of (w.text_of.scan.scan.short, (w.text_of.scan.scan.lexemes, w.text_of.scan.scan.lexed))
 
-pub finds_lexemes : (text : List ℕ) (faults : List Fault) (reported : List ReportedDiagnosis) → (IsScannable text → ⊥) → AreFaults text faults → reported ≡ map reported_diagnosis_of_fault faults
+pub finds_lexemes : (text : List ℕ) (faults : List Fault) (reported : List ReportedDiagnosis) → (IsScannable text → ⊥) → AreFaultsOfRefusedText text faults → reported ≡ map reported_diagnosis_of_fault faults
     → ¬ IsWellTypedModule text × ReportsFaults text reported
 finds_lexemes text faults reported bad are is =
     (λ w. bad (scannable text w), inl (record { unscannable = bad; faults = faults; of_text = are; all = is }))
 
 -- If no module begins with these tokens, no tree is the tree of a module with all the tokens.
-none : (s : TextWithTokens) (i : ℕ) (tree : Tree (List ℕ) module_text) → NoModuleBegins s i → ModuleOf s tree → ⊥
+none : (s : TextWithTokens) (i : ℕ) (tree : Tree (List ℕ) module_text) → NoModuleBeginsWithTokens s i → ModuleOf s tree → ⊥
 none s i tree h is =
     let all : List (Terminal (List ℕ)) = terminals_of_text s ++ (EndOfText ∷ []) in
     h tree (drop (i + 1) all) is.shallow (ap (λ (w : List (Terminal (List ℕ))). w ++ (EndOfText ∷ [])) (sym is.spelled) ∙ sym (take-append-drop (i + 1) all))
 
-unformed : (s : TextWithTokens) (i : ℕ) → OneScan → IsScan s → NoModuleBegins s i → IsWellTypedModule s.text → ⊥
+unformed : (s : TextWithTokens) (i : ℕ) → OneScan → IsScan s → NoModuleBeginsWithTokens s i → IsWellTypedModule s.text → ⊥
 unformed s i one scan h w =
     let same : w.text_of.scanned ≡ s = one w.text_of.scanned s w.text_of.scan.scan scan w.text_of.scan.of in
     none s i w.tree h (subst (λ (x : TextWithTokens). ModuleOf x w.tree) same w.text_of.module_of)

@@ -5,7 +5,7 @@ use Rattle.ob0_scan.specs.declared.lexeme.ReservedWord.TheVariants as reserved
 use Rattle.ob0_scan.specs.declared.lexeme.Symbol.TheVariants as symbol
 use Rattle.ob0_tree.specs.Lexeme.{Terminal, Name, WordOrSymbol}
 use Rattle.ob0_tree.specs.Tree.{Tree, block, body, declares, declares_procedure, end, forms_block, is_module, item, items, mapped_tree, maybe, module_text, more, one, procedure, spell}
-use Rattle.ob0_scope_table.specs.BodyReplaced.{PathToBody, block_without, body_at_path_in_procedures, body_at_path, body_at_path_in_block, body_at_path_in_procedure, closing_name_at_path_in_procedures, closing_name_at_path, closing_name_at_path_in_block, closing_name_at_path_in_procedure, path_after_insertion_in_front, procedure_without, procedures_without, path_to_body_in_procedures, path_to_body_in_block, path_to_body_in_module, module_without_body}
+use Rattle.ob0_scope_table.specs.BodyReplaced.{PathToBody, block_without_body, body_at_path_in_procedures, body_at_path, body_at_path_in_block, body_at_path_in_procedure, closing_name_at_path_in_procedures, closing_name_at_path, closing_name_at_path_in_block, closing_name_at_path_in_procedure, path_after_insertion_in_front, procedure_without_body, procedures_without_body, path_to_body_in_procedures, path_to_body_in_block, path_to_body_in_module, module_without_body}
 
 -- Holds if `whole` and `less` are the tokens of a part with a body and without it. Both have the same tokens before the
 -- body, and the END and the closing name of its block after it.
@@ -42,7 +42,7 @@ in_heading x n semi fs b e r f z is =
 
 mutual
   around_block : {N : Type 0} (path : PathToBody) (own : N) (b : Tree N block) (after : List (Terminal N)) (y : Tree N (item body)) → body_at_path_in_block path b ≡ one y
-      → Around (spell b ++ (WordOrSymbol (kind.ReservedWord reserved.End) ∷ Name own ∷ after)) (spell (block_without path b) ++ (WordOrSymbol (kind.ReservedWord reserved.End) ∷ Name own ∷ after)) (body_at_path_in_block path b) (closing_name_at_path_in_block path own b)
+      → Around (spell b ++ (WordOrSymbol (kind.ReservedWord reserved.End) ∷ Name own ∷ after)) (spell (block_without_body path b) ++ (WordOrSymbol (kind.ReservedWord reserved.End) ∷ Name own ∷ after)) (body_at_path_in_block path b) (closing_name_at_path_in_block path own b)
   around_block [] own (forms_block ds statements) after y e =
       record { front = spell ds; back = after; whole_is = append_assoc (spell ds) (spell statements) _; less_is = append_assoc (spell ds) [] _ }
   around_block (k ∷ path) own (forms_block (declares cs ts vs ps) statements) after y e =
@@ -52,11 +52,11 @@ mutual
         front = spell cs ++ (spell ts ++ (spell vs ++ h.front));
         back = h.back;
         whole_is = in_declarations (spell cs) (spell ts) (spell vs) (spell ps) (spell statements) r h.front _ h.whole_is;
-        less_is = in_declarations (spell cs) (spell ts) (spell vs) (spell (procedures_without k path ps)) (spell statements) r h.front _ h.less_is;
+        less_is = in_declarations (spell cs) (spell ts) (spell vs) (spell (procedures_without_body k path ps)) (spell statements) r h.front _ h.less_is;
       }
 
   around_among : {N : Type 0} (k : ℕ) (path : PathToBody) (own : N) (ps : Tree N (items procedure)) (after : List (Terminal N)) (y : Tree N (item body)) → body_at_path_in_procedures k path ps ≡ one y
-      → Around (spell ps ++ after) (spell (procedures_without k path ps) ++ after) (body_at_path_in_procedures k path ps) (closing_name_at_path_in_procedures k path own ps)
+      → Around (spell ps ++ after) (spell (procedures_without_body k path ps) ++ after) (body_at_path_in_procedures k path ps) (closing_name_at_path_in_procedures k path own ps)
   around_among k path own end after y e = absurd (cc (e))
   around_among zero path own (more p ps) after y e =
       let h = around_procedure path p (spell ps ++ after) y e in
@@ -64,7 +64,7 @@ mutual
         front = h.front;
         back = h.back;
         whole_is = in_first (spell p) (spell ps) after h.front _ h.whole_is;
-        less_is = in_first (spell (procedure_without path p)) (spell ps) after h.front _ h.less_is;
+        less_is = in_first (spell (procedure_without_body path p)) (spell ps) after h.front _ h.less_is;
       }
   around_among (suc k) path own (more p ps) after y e =
       let h = around_among k path own ps after y e in
@@ -72,11 +72,11 @@ mutual
         front = spell p ++ h.front;
         back = h.back;
         whole_is = in_later (spell p) (spell ps) after h.front _ h.whole_is;
-        less_is = in_later (spell p) (spell (procedures_without k path ps)) after h.front _ h.less_is;
+        less_is = in_later (spell p) (spell (procedures_without_body k path ps)) after h.front _ h.less_is;
       }
 
   around_procedure : {N : Type 0} (path : PathToBody) (p : Tree N (item procedure)) (after : List (Terminal N)) (y : Tree N (item body)) → body_at_path_in_procedure path p ≡ one y
-      → Around (spell p ++ after) (spell (procedure_without path p) ++ after) (body_at_path_in_procedure path p) (closing_name_at_path_in_procedure path p)
+      → Around (spell p ++ after) (spell (procedure_without_body path p) ++ after) (body_at_path_in_procedure path p) (closing_name_at_path_in_procedure path p)
   around_procedure path (declares_procedure n fs b c) after y e =
       let last : List (Terminal _) = WordOrSymbol (kind.ReservedWord reserved.End) ∷ Name c ∷ WordOrSymbol (kind.Symbol symbol.Semicolon) ∷ [] in
       let h = around_block path c b (WordOrSymbol (kind.Symbol symbol.Semicolon) ∷ after) y e in
@@ -84,7 +84,7 @@ mutual
         front = WordOrSymbol (kind.ReservedWord reserved.Procedure) ∷ Name n ∷ (spell fs ++ (WordOrSymbol (kind.Symbol symbol.Semicolon) ∷ h.front));
         back = h.back;
         whole_is = in_heading _ _ _ (spell fs) (spell b) last after h.front _ h.whole_is;
-        less_is = in_heading _ _ _ (spell fs) (spell (block_without path b)) last after h.front _ h.less_is;
+        less_is = in_heading _ _ _ (spell fs) (spell (block_without_body path b)) last after h.front _ h.less_is;
       }
 
 pub around_body : {N : Type 0} (path : PathToBody) (t : Tree N module_text) (y : Tree N (item body)) → body_at_path path t ≡ one y → Around (spell t) (spell (module_without_body path t)) (body_at_path path t) (closing_name_at_path path t)
@@ -100,11 +100,11 @@ around_body path (is_module n b c) y e =
 -- ---- a way leads through procedures, so it doesn't depend on a body
 
 mutual
-  way_less_block : (low : ℕ) (path : PathToBody) (b : Tree ℕ block) → path_to_body_in_block low (block_without path b) ≡ path_to_body_in_block low b
+  way_less_block : (low : ℕ) (path : PathToBody) (b : Tree ℕ block) → path_to_body_in_block low (block_without_body path b) ≡ path_to_body_in_block low b
   way_less_block low [] (forms_block (declares cs ts vs ps) statements) = refl
   way_less_block low (k ∷ path) (forms_block (declares cs ts vs ps) statements) = way_less_among low k path ps
 
-  way_less_among : (low k : ℕ) (path : PathToBody) (ps : Tree ℕ (items procedure)) → path_to_body_in_procedures low (procedures_without k path ps) ≡ path_to_body_in_procedures low ps
+  way_less_among : (low k : ℕ) (path : PathToBody) (ps : Tree ℕ (items procedure)) → path_to_body_in_procedures low (procedures_without_body k path ps) ≡ path_to_body_in_procedures low ps
   way_less_among low k path end = refl
   way_less_among low zero path (more (declares_procedure n fs b c) ps) = ap (λ w. if nat_lt c low then path_after_insertion_in_front (path_to_body_in_procedures low ps) else zero ∷ w) (way_less_block low path b)
   way_less_among low (suc k) path (more (declares_procedure n fs b c) ps) = ap (λ w. if nat_lt c low then path_after_insertion_in_front w else zero ∷ path_to_body_in_block low b) (way_less_among low k path ps)

@@ -1,9 +1,9 @@
 -- Defines the invariants of the analysis of a text.
 -- Rule: none; used in private contracts about the results that an analysis keeps.
 use Rattle.std.specs.Prelude.{ℕ, IfSome, List, string_bytes}
-use Rattle.ob0_scan.specs.Refused.{AreFaults}
+use Rattle.ob0_scan.specs.Refused.{AreFaultsOfRefusedText}
 use Rattle.ob0_scan.specs.TextWithTokens.{TextWithTokens, IsScannable}
-use Rattle.ob0_parse.specs.KeptTokens.{AreInPlace}
+use Rattle.ob0_parse.specs.KeptTokens.{AreKeptTreesInPlace}
 use Rattle.ob0_parse.specs.IsRightParseRefusal.{IsRightParseRefusal}
 use Rattle.ob0_parse_descent.specs.declared.refusal.ParseRefusal.{ParseRefusal}
 use Rattle.ob0_parse_descent.specs.declared.refusal.ParseRefusal.TheVariants.{Syntax, TooDeep, Memory}
@@ -32,22 +32,22 @@ text_of_outcome (NoTree ill) = ill.tokens.text
 text_of_outcome (Module m) = m.module_read.source.text
 
 -- States that the outcome of parsing a text is right. If the text has no tree, the parser refuses
--- its tokens with this refusal, and the kept trees belong to its tokens. Also, `last` is None or has
--- the names and types of the last module before this text. If the text is a module, this always
+-- its tokens with this refusal, and the kept trees belong to its tokens. Also, `last` is None or
+-- has the names and types of the last module before this text. If the text is a module, this always
 -- holds, because a `ModuleParts` has its own invariant.
-abbrev pub IsValidOutcome : ParseOutcome → Type 0
-IsValidOutcome (NoTree ill) =
+abbrev pub IsValidParseOutcome : ParseOutcome → Type 0
+IsValidParseOutcome (NoTree ill) =
     IsRefusedByParser ill.tokens ill.refusal
-    × AreInPlace ill.tokens.tokens ill.kept
+    × AreKeptTreesInPlace ill.tokens.tokens ill.kept
     × IfSome ill.last (IsLastModuleOf ill.tokens)
-IsValidOutcome (Module m) = Unit {0}
+IsValidParseOutcome (Module m) = Unit {0}
 
 -- States that the failure to analyse the changed text is right. If the reason is lexical faults,
--- the text can't be scanned, and these are the lexical faults to report for it (`AreFaults`).
+-- the text can't be scanned, and these are the lexical faults to report for it (`AreFaultsOfRefusedText`).
 -- Always holds for lack of memory.
-abbrev pub IsReanalysisFailure : List ℕ → ReanalysisFailure → Type 0
-IsReanalysisFailure text (reanalysis_failure.Faults faults last) = (IsScannable text → ⊥) × AreFaults text faults.items
-IsReanalysisFailure text reanalysis_failure.Memory = Unit {0}
+abbrev pub IsRightReanalysisFailure : List ℕ → ReanalysisFailure → Type 0
+IsRightReanalysisFailure text (reanalysis_failure.Faults faults last) = (IsScannable text → ⊥) × AreFaultsOfRefusedText text faults.items
+IsRightReanalysisFailure text reanalysis_failure.Memory = Unit {0}
 
 -- returns the text that was analysed
 abbrev pub text_of : AnalysisResult → List ℕ
@@ -55,9 +55,9 @@ text_of (Unscannable ill) = string_bytes ill.text
 text_of (Read read) = read
 
 -- States that the result of analysing a text is right. If the result is lexical faults, the text
--- can't be scanned, and these are the lexical faults to report for it (`AreFaults`). For any other
+-- can't be scanned, and these are the lexical faults to report for it (`AreFaultsOfRefusedText`). For any other
 -- result this always holds, because a `ScannedText` has its own invariant.
 abbrev pub IsValidAnalysisResult : AnalysisResult → Type 0
 IsValidAnalysisResult (Unscannable ill) =
-    (IsScannable (string_bytes ill.text) → ⊥) × AreFaults (string_bytes ill.text) ill.faults.items
+    (IsScannable (string_bytes ill.text) → ⊥) × AreFaultsOfRefusedText (string_bytes ill.text) ill.faults.items
 IsValidAnalysisResult (Read read) = Unit {0}

@@ -4,7 +4,7 @@
 -- Faults of scopes and types 1.
 use Rattle.std.specs.Prelude.{◌≡◌, ◌⊎◌, ◌≤◌, ◌<◌, ◌++◌, ◌∷◌, ℕ, List, [], Option, Some, None, map, length, slice_get, codes, string_bytes}
 use Rattle.ob0_scan.specs.CodeTexts.{code_name, code_message}
-use Rattle.ob0_scan.specs.Refused.{AreFaults}
+use Rattle.ob0_scan.specs.Refused.{AreFaultsOfRefusedText}
 use Rattle.ob0_scan.specs.TextWithTokens.{TextWithTokens, IsScannable, IsScanOf, max_faults}
 use Rattle.ob0_scan.specs.declared.fault.Fault.{Fault}
 use Rattle.ob0_scan.specs.declared.lexeme.Span.{Span}
@@ -15,7 +15,7 @@ use Rattle.ob0_tree.specs.ParsedModule.{named_tree_of}
 use Rattle.ob0_language_names.specs.Names.{Name}
 use Rattle.ob0_scope_table.specs.Resolution.{IsResolution, Resolution}
 use Rattle.ob0_language_types.specs.WellTyped.{WellTyped}
-use Rattle.ob0_types.specs.FaultOrder.{AreFirstFaults}
+use Rattle.ob0_types.specs.FaultOrder.{AreFirstFaultsOfModule}
 use Rattle.ob0_parse_descent.specs.ExpectedText.{expected_text}
 use Rattle.ob0_parse.specs.IsRightParseRefusal.{IsRightParseRefusal}
 use Rattle.ob0_parse_descent.specs.declared.refusal.ParseRefusal.{ParseRefusal}
@@ -35,7 +35,7 @@ abbrev pub reported_diagnosis_of : Diagnosis → ReportedDiagnosis
 reported_diagnosis_of d = record { code = d.code.now; message = string_bytes d.message; span = d.span }
 
 -- states that the text is a module with this tree
-pub record IsTextOf (tree : Tree Name module_text) (text : List ℕ) : Type 0 where
+pub record IsTextOfTree (tree : Tree Name module_text) (text : List ℕ) : Type 0 where
   pub scanned : TextWithTokens
   pub scan : IsScanOf text scanned
   pub module_of : ModuleOf scanned tree
@@ -43,7 +43,7 @@ pub record IsTextOf (tree : Tree Name module_text) (text : List ℕ) : Type 0 wh
 -- states that the text is a well-typed module
 pub record IsWellTypedModule (text : List ℕ) : Type 0 where
   pub tree : Tree Name module_text
-  pub text_of : IsTextOf tree text
+  pub text_of : IsTextOfTree tree text
   pub well_typed : WellTyped tree
 
 -- ---- the errors of a text with lexical faults
@@ -58,7 +58,7 @@ reported_diagnosis_of_fault fault =
 pub record ReportsLexicalFaults (text : List ℕ) (reported : List ReportedDiagnosis) : Type 0 where
   pub unscannable : IsScannable text → ⊥
   pub faults : List Fault
-  pub of_text : AreFaults text faults
+  pub of_text : AreFaultsOfRefusedText text faults
   pub all : reported ≡ map reported_diagnosis_of_fault faults
 
 -- ---- the error of a text that scans and that the parser refuses
@@ -75,19 +75,19 @@ token_span_or_end s token = span_or_end s.text (slice_get s.tokens token)
 
 -- Returns the reported error for a syntax error at the span `place`. The message is the word
 -- *expected*, followed by `word`.
-abbrev pub syntax_error : List ℕ → Span → ReportedDiagnosis
-syntax_error word place =
+abbrev pub syntax_error_diagnosis : List ℕ → Span → ReportedDiagnosis
+syntax_error_diagnosis word place =
     record { code = codes "Syntax"; message = codes "expected " ++ word; span = place }
 
 -- returns the reported error for a construct at this span that is nested too deep
-abbrev pub depth_error : Span → ReportedDiagnosis
-depth_error place = record { code = codes "TooDeep"; message = codes "nested too deep"; span = place }
+abbrev pub depth_error_diagnosis : Span → ReportedDiagnosis
+depth_error_diagnosis place = record { code = codes "TooDeep"; message = codes "nested too deep"; span = place }
 
 -- States that the error `c` reports this refusal of the text with the tokens `s`, at the token that
 -- the parser refused. Never holds if the refusal is lack of memory.
 abbrev pub ReportsRefusal : TextWithTokens → ParseRefusal → ReportedDiagnosis → Type 0
-ReportsRefusal s (Syntax token expected) c = c ≡ syntax_error (expected_text expected) (token_span_or_end s token)
-ReportsRefusal s (TooDeep token) c = c ≡ depth_error (token_span_or_end s token)
+ReportsRefusal s (Syntax token expected) c = c ≡ syntax_error_diagnosis (expected_text expected) (token_span_or_end s token)
+ReportsRefusal s (TooDeep token) c = c ≡ depth_error_diagnosis (token_span_or_end s token)
 ReportsRefusal s Memory c = ⊥
 
 -- States that the text scans and the parser refuses it. The list must have only one error
@@ -111,7 +111,7 @@ pub record ReportsNameAndTypeFaults (text : List ℕ) (reported : List ReportedD
   pub scan : IsScanOf text names.module_read.source
   pub ill_typed : WellTyped (named_tree_of names.module_read) → ⊥
   pub faults : List Fault
-  pub first : AreFirstFaults names faults
+  pub first : AreFirstFaultsOfModule names faults
   pub some : 0 < length faults
   pub few : length faults ≤ max_faults
   pub all : reported ≡ map reported_diagnosis_of_fault faults

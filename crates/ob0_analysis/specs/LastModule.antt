@@ -1,17 +1,17 @@
 -- Defines the last text that was a module, and the tokens that the current text shares with it.
 -- Rule: none; used in private contracts about the results that an analysis reuses.
 use Rattle.std.specs.Prelude.{◌≡◌, ◌≤◌, ◌+◌, IfSome, Option, Some}
-use Rattle.ob0_scan.specs.SameKinds.{HasSameKinds, HasSameWords}
+use Rattle.ob0_scan.specs.SameKinds.{PrefixAndSuffixHaveSameKinds, PrefixAndSuffixHaveSameWords}
 use Rattle.ob0_scan.specs.TextWithTokens.{IsScan, TextWithTokens}
-use Rattle.ob0_scan.specs.declared.tokens.SameParts.{SameParts}
+use Rattle.ob0_scan.specs.declared.tokens.CommonPrefixAndSuffix.{CommonPrefixAndSuffix}
 use Rattle.ob0_tree.specs.declared.tree.ModuleTree.{ModuleTree}
 use Rattle.ob0_tree.specs.ParsedModule.{IsParsed, parsed_module}
 use Rattle.ob0_scope_table.specs.Bindings.{resolution_with}
-use Rattle.ob0_scope_table.specs.BodyPlaces.{body_place_of_range, module_tree_of}
+use Rattle.ob0_scope_table.specs.BodyPlaces.{body_bounds_of_range, module_tree_of}
 use Rattle.ob0_scope_table.specs.Resolution.{IsResolution}
 use Rattle.ob0_scope_table.specs.declared.resolved.Bindings.{Bindings}
-use Rattle.ob0_types.specs.CheckedModules.{AreTypesOf}
-use Rattle.ob0_types.specs.declared.checked.ModuleTypes.{ModuleTypes}
+use Rattle.ob0_types.specs.CheckedModules.{IsCheckResultOf}
+use Rattle.ob0_types.specs.declared.checked.CheckResult.{CheckResult}
 use Rattle.ob0_analysis.specs.declared.last_module.LastModule.{LastModule}
 
 -- States that an earlier text was a module with this tree, these bindings and this result of
@@ -19,29 +19,29 @@ use Rattle.ob0_analysis.specs.declared.last_module.LastModule.{LastModule}
 -- text `new`, and the tokens that end both texts. These tokens must have the same kinds and
 -- spellings in both texts.
 pub record IsEarlierModule
-    (new : TextWithTokens) (tree : ModuleTree) (b : Bindings) (types : ModuleTypes) (s : SameParts)
+    (new : TextWithTokens) (tree : ModuleTree) (b : Bindings) (types : CheckResult) (s : CommonPrefixAndSuffix)
     : Type 0 where
   pub old : TextWithTokens
   pub old_scan : IsScan old
   pub new_scan : IsScan new
   pub parsed : IsParsed (parsed_module old tree)
   pub resolved : IsResolution (resolution_with (parsed_module old tree) b)
-  pub types_are : AreTypesOf (resolution_with (parsed_module old tree) b) types
-  pub same : HasSameKinds s old.tokens new.tokens
-  pub written : HasSameWords s old new
+  pub types_are : IsCheckResultOf (resolution_with (parsed_module old tree) b) types
+  pub same : PrefixAndSuffixHaveSameKinds s old.tokens new.tokens
+  pub written : PrefixAndSuffixHaveSameWords s old new
 
 -- States that `last` has the names and types of an earlier text that was a module. All tokens of
--- the earlier text that may differ from the current text `new` must lie in the body at
--- `last.place`.
+-- the earlier text that may differ from the current text `new` must lie in one body, and
+-- `last.place` must have the token indexes that bound this body.
 pub record IsLastModuleOf (new : TextWithTokens) (last : LastModule) : Type 0 where
   pub tree : ModuleTree
   pub earlier_module : IsEarlierModule new tree last.bindings last.types last.same
-  pub placed : body_place_of_range last.same.prefix last.same.old_suffix (module_tree_of tree) ≡ Some last.place
+  pub placed : body_bounds_of_range last.same.prefix last.same.old_suffix (module_tree_of tree) ≡ Some last.place
 
 -- States that the tokens that may differ according to `wide` include the tokens that may differ
 -- according to `narrow`. At the end of the range, `wide` must add as many tokens in the old text as
 -- in the new text.
-pub record WidensDifference (narrow wide : SameParts) : Type 0 where
+pub record WidensDifference (narrow wide : CommonPrefixAndSuffix) : Type 0 where
   pub front : wide.prefix ≤ narrow.prefix
   pub back : narrow.old_suffix ≤ wide.old_suffix
   pub adds_equally_many_tokens : wide.new_suffix + narrow.old_suffix ≡ narrow.new_suffix + wide.old_suffix
@@ -50,11 +50,11 @@ pub record WidensDifference (narrow wide : SameParts) : Type 0 where
 -- belongs to the old text, then `after` belongs to the new text. This must hold for any old text
 -- and any scanned new text (`IsScan`) that share the tokens described by `change`. Always holds if
 -- `after` is None.
-abbrev pub KeepsLastModule : Option LastModule → SameParts → Option LastModule → Type 0
+abbrev pub KeepsLastModule : Option LastModule → CommonPrefixAndSuffix → Option LastModule → Type 0
 KeepsLastModule before change after =
     (old new : TextWithTokens)
     → IfSome before (IsLastModuleOf old)
-    → HasSameKinds change old.tokens new.tokens
-    → HasSameWords change old new
+    → PrefixAndSuffixHaveSameKinds change old.tokens new.tokens
+    → PrefixAndSuffixHaveSameWords change old new
     → IsScan new
     → IfSome after (IsLastModuleOf new)

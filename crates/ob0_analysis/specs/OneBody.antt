@@ -4,17 +4,17 @@
 use Rattle.std.specs.Prelude.{◌≡◌}
 use Rattle.ob0_scan.specs.Reused.{kinds}
 use Rattle.ob0_scan.specs.TextWithTokens.{TextWithTokens}
-use Rattle.ob0_scan.specs.declared.tokens.SameParts.{SameParts}
+use Rattle.ob0_scan.specs.declared.tokens.CommonPrefixAndSuffix.{CommonPrefixAndSuffix}
 use Rattle.ob0_tree.specs.declared.tree.ModuleTree.{ModuleTree}
 use Rattle.ob0_scope_table.specs.declared.resolved.Bindings.{Bindings}
-use Rattle.ob0_types.specs.declared.checked.ModuleTypes.{ModuleTypes}
+use Rattle.ob0_types.specs.declared.checked.CheckResult.{CheckResult}
 use Rattle.ob0_analysis.specs.LastModule.{IsEarlierModule}
 
 -- States that an earlier text was a module with this tree, these bindings and this result of
 -- checking its types. The tokens of the earlier text must have the same kinds as the tokens of
 -- `new`, one by one. The tokens that `s` describes must also have the same spellings.
 pub record IsEarlierModuleWithSameKinds
-    (new : TextWithTokens) (tree : ModuleTree) (b : Bindings) (types : ModuleTypes) (s : SameParts)
+    (new : TextWithTokens) (tree : ModuleTree) (b : Bindings) (types : CheckResult) (s : CommonPrefixAndSuffix)
     : Type 0 where
   pub earlier_module : IsEarlierModule new tree b types s
   pub same_kinds : kinds new.tokens ≡ kinds earlier_module.old.tokens

@@ -1,4 +1,4 @@
--- States that two texts have the same bytes from given offsets, one offset in each text.
+-- States that two texts have equal bytes at given offsets, one offset in each text.
 -- Rule: none; used in private contracts about the comparison of two texts.
 use Rattle.std.specs.Prelude.{◌≡◌, ◌+◌, ◌≤◌, ℕ, List, length, take, drop}
 

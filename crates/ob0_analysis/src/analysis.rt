@@ -7,7 +7,7 @@
 //!   `ScannedText` of the last text that had lexemes, if it is kept.
 //!
 //! In contracts, the value of an `Analysis` is only the text. Its invariant says that the analysis
-//! is right for that text (`IsValidAnalysisResult`, `IsValidOutcome`). So `analyse_text` and
+//! is right for that text (`IsValidAnalysisResult`, `IsValidParseOutcome`). So `analyse_text` and
 //! `reanalyse` have the same `ensures` clause, which doesn't mention the results that are reused.
 //! The crates that use an `Analysis` don't depend on how much is reused.
 //!
@@ -15,28 +15,29 @@
 //! (`Difference::between`). It scans only the rest, and replaces the old tokens there
 //! (`rescan_in_place`). The next step depends on the tokens:
 //! - All tokens have the same kinds as before, and the old text has a tree: the tree is kept. It
-//!   has token indexes instead of names and numbers, and is also the tree of the new text
+//!   has token indexes instead of names and numbers, so it is also the tree of the new text
 //!   (`tree_stays` of `ob0_parse`). Bindings are kept if the identifiers have the same spelling and
-//!   no name has a fault. Suppose that all tokens that may differ in spelling lie in one body. Then
-//!   only the names in that body are bound again, and the types outside the body are reused
-//!   (`one_body.rt`). Otherwise all names are bound and all types are checked again.
+//!   no name has a fault. If all tokens that may differ in spelling lie in one body, only the names
+//!   in that body are bound again, and the types outside the body are reused (`one_body.rt`).
+//!   Otherwise all names are bound and all types are checked again.
 //! - All tokens have the same kinds as before, and the parser refused the old text: the refusal is
 //!   kept (`refusal_stays`). The parser looks only at kinds, so it would stop at the same token.
 //!   This saves the parsing for half of the keystrokes in an unfinished statement.
 //! - A kind has changed: the text is parsed, but procedures of the module's own block and the
-//!   module's body are reused (`reparse_tree`). Suppose that the tokens that differ lie in one body
-//!   of both modules, after the body's first identifier. Then all results outside the body are
-//!   kept, with their tokens moved (`new_body.rt`). The two modules are equal outside this body
+//!   module's body are reused (`reparse_tree`). If the tokens that differ lie in one body of both
+//!   modules, after the body's first identifier, all results outside the body are kept, with their
+//!   token indexes adapted (`new_body.rt`). The two modules are equal outside this body
 //!   (`body_replaced` in `proofs/NewBody.antt`). Between the two modules there may be texts that
 //!   the parser refuses. Meanwhile the results for the earlier module are kept (`last_module.rt`).
 //!
 //! If all tokens have the same spelling (`words_of_tokens`), for example after a change of blanks,
 //! line endings or comments, everything is kept (`reanalyse_with_same_spellings`). The tree has the
 //! same names and numbers, and each fault is at the same tokens (`bindings_move_with_tokens` of
-//! `ob0_scope`, `types_depend_on_tokens` of `ob0_types`). Faults are stored with spans. So the
-//! tokens of each fault are found by binary search before the scan, and the spans are computed
-//! again after the scan (`FaultPlaces`). A fault without tokens is at the text's start. So
-//! everything is kept only if both texts begin with a token, or neither does (`AreWrittenAlike`).
+//! `ob0_scope`, `check_result_depends_only_on_tokens` of `ob0_types`). Faults are stored with
+//! spans. So the tokens of each fault are found by binary search before the scan, and the spans are
+//! computed again after the scan (`ModuleFaultsWithTokenIndexes`). A fault without tokens is at the
+//! text's start. So everything is kept only if both texts begin with a token, or neither does
+//! (`HaveSameKindsAndSpellings`).
 //!
 //! If a new text has lexical faults, all results for the last text that had lexemes are kept,
 //! because a failing scan returns the old tokens (`IsRightRescanRefusal`). The next successful scan
@@ -46,7 +47,7 @@
 
 ghost use Rattle.std.specs.Prelude.{◌≡◌, ◌≤◌, IfErr, IfOk, MatchOption, length, map};
 ghost use Rattle.std.specs.Str.{IsUtf8};
-ghost use Rattle.ob0_scan.specs.Refused.{AreFaults};
+ghost use Rattle.ob0_scan.specs.Refused.{AreFaultsOfRefusedText};
 ghost use Rattle.ob0_scan.specs.TextWithTokens.{IsScannable, IsScanOf};
 ghost use Rattle.ob0_analysis.specs.Diagnosed.{IsWellTypedModule, Reports, reported_diagnosis_of};
 
@@ -120,7 +121,12 @@ impl Analysis {
     {
         match scan(alloc, text) {
             Ok(tokens) => {
-                let read = ScannedText::parse_tokens(alloc, tokens, KeptTrees::empty(alloc), None)?;
+                let read = ScannedText::analyse_tokens(
+                    alloc,
+                    tokens,
+                    KeptTrees::empty(alloc),
+                    None,
+                )?;
                 Ok(Analysis {
                     outcome: AnalysisResult::Read(read),
                     room: 0,
@@ -149,7 +155,7 @@ impl Analysis {
             ),
             AnalysisResult::Read(read) => {
                 let room = read.text().len().max(room);
-                Analysis::analyse_after_scanned(alloc, read, room, text)
+                Analysis::analyse_after_scanned_text(alloc, read, room, text)
             }
         }
     }
@@ -172,14 +178,14 @@ impl Analysis {
         } = ill;
         match last {
             None => Analysis::analyse_text(alloc, text),
-            Some(last) => Analysis::analyse_after_scanned(alloc, last, room, text),
+            Some(last) => Analysis::analyse_after_scanned_text(alloc, last, room, text),
         }
     }
 
     /// Analyses a changed text (`text`), and reuses the analysis `read` of an earlier text, which
     /// has lexemes. The lists of `read` have room for a text of `room` bytes. If `room` is much
     /// more than `text` needs, `read` is dropped, because reused lists keep their capacity.
-    fn analyse_after_scanned(
+    fn analyse_after_scanned_text(
         alloc: Global,
         read: ScannedText,
         room: usize,
@@ -214,7 +220,7 @@ impl Analysis {
         last: Option<ScannedText>,
         room: usize,
     ) -> Result<Analysis, AllocError>
-        requires faults { AreFaults text.now faults.items }
+        requires faults { AreFaultsOfRefusedText text.now faults.items }
         requires unscannable { IsScannable text.now → ⊥ }
         ensures { IfOk result (λ a. a ≡ text.now) }
     {

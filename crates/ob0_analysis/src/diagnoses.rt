@@ -2,7 +2,7 @@
 //! diagnosis for each fault, or only one diagnosis for the parser's refusal.
 
 ghost use Rattle.std.specs.Prelude.{◌≡◌, IfOk, map};
-ghost use Rattle.ob0_analysis.specs.Diagnosed.{ReportsRefusal, reported_diagnosis_of, reported_diagnosis_of_fault, syntax_error as expected_at, depth_error as too_deep_at, token_span_or_end as span_or_end};
+ghost use Rattle.ob0_analysis.specs.Diagnosed.{ReportsRefusal, reported_diagnosis_of, reported_diagnosis_of_fault, syntax_error_diagnosis as expected_at, depth_error_diagnosis as too_deep_at, token_span_or_end as span_or_end};
 
 use ob0_parse_descent::ParseRefusal;
 use ob0_scan::{Fault, Span, Tokens};
@@ -50,19 +50,22 @@ pub fn diagnosis_of_refusal(
     ensures { IfOk result (λ d. ReportsRefusal tokens.now refusal.now (reported_diagnosis_of d)) }
 {
     match refusal {
-        ParseRefusal::Syntax { token, expected } => syntax_error(
+        ParseRefusal::Syntax { token, expected } => syntax_error_diagnosis(
             alloc,
             expected.text(),
             token_span_or_end(tokens, *token),
         ),
-        ParseRefusal::TooDeep { token } => depth_error(alloc, token_span_or_end(tokens, *token)),
+        ParseRefusal::TooDeep { token } => depth_error_diagnosis(
+            alloc,
+            token_span_or_end(tokens, *token),
+        ),
         ParseRefusal::Memory => Err(AllocError),
     }
 }
 
 /// Returns the diagnosis of a syntax error at this span. The message is the word *expected*,
 /// followed by `word`.
-fn syntax_error(alloc: Global, word: &str, span: Span) -> Result<Diagnosis, AllocError>
+fn syntax_error_diagnosis(alloc: Global, word: &str, span: Span) -> Result<Diagnosis, AllocError>
     ensures { IfOk result (λ d. reported_diagnosis_of d ≡ expected_at word.now span) }
 {
     Ok(Diagnosis {
@@ -73,7 +76,7 @@ fn syntax_error(alloc: Global, word: &str, span: Span) -> Result<Diagnosis, Allo
 }
 
 /// Returns the diagnosis of a construct at this span that is nested too deep.
-fn depth_error(alloc: Global, span: Span) -> Result<Diagnosis, AllocError>
+fn depth_error_diagnosis(alloc: Global, span: Span) -> Result<Diagnosis, AllocError>
     ensures { IfOk result (λ d. reported_diagnosis_of d ≡ too_deep_at span) }
 {
     Ok(Diagnosis {

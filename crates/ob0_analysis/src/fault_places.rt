@@ -3,38 +3,40 @@
 //! computed from these tokens.
 
 ghost use Rattle.std.specs.Prelude.{◌≡◌, ◌==◌, true, IfOk, map};
-ghost use Rattle.ob0_scope_table.specs.FaultTokens.{fault_at, first_token_start};
-ghost use Rattle.ob0_analysis.specs.ReuseConditions.{AreFaultPlacesOf, HasSameBindingsWithFaultsAt, HasSameTypesWithFaultsAt};
+ghost use Rattle.ob0_scope_table.specs.FaultTokens.{fault_with_span, first_token_start};
+ghost use Rattle.ob0_analysis.specs.ReuseConditions.{AreFaultsWithTokenIndexesOf, HasSameBindingsWithFaultsAt, HasSameTypesWithFaultsAt};
 
 use ob0_scan::Tokens;
-use ob0_scope_table::{Bindings, FaultByTokens, faults_at_tokens, faults_by_tokens, token_span};
-use ob0_types::ModuleTypes;
+use ob0_scope_table::{
+    Bindings, FaultWithTokenIndexes, faults_with_spans, faults_with_token_indexes, token_span,
+};
+use ob0_types::CheckResult;
 use std::alloc::{AllocError, Global};
 
 /// The faults of a module's names (`names`) and types (`types`), each with the indexes of its first
 /// and last token instead of its span. `starts_with_token` is true if the module's text begins with
 /// a token or has no tokens.
 #[derive(Drop)]
-pub(crate) struct FaultPlaces {
-    pub(crate) names: Vec<FaultByTokens>,
-    pub(crate) types: Vec<FaultByTokens>,
+pub(crate) struct ModuleFaultsWithTokenIndexes {
+    pub(crate) names: Vec<FaultWithTokenIndexes>,
+    pub(crate) types: Vec<FaultWithTokenIndexes>,
     pub(crate) starts_with_token: bool,
 }
 
-impl FaultPlaces {
+impl ModuleFaultsWithTokenIndexes {
     /// Returns the faults of a module's names and types, each with the indexes of its first and
     /// last token instead of its span.
     pub(crate) fn from_faults(
         alloc: Global,
         tokens: &Tokens,
         bindings: &Bindings,
-        types: &ModuleTypes,
-    ) -> Result<FaultPlaces, AllocError>
-        ensures { IfOk result (AreFaultPlacesOf tokens.now bindings.now types.now) }
+        types: &CheckResult,
+    ) -> Result<ModuleFaultsWithTokenIndexes, AllocError>
+        ensures { IfOk result (AreFaultsWithTokenIndexesOf tokens.now bindings.now types.now) }
     {
-        let names = faults_by_tokens(alloc, tokens, &bindings.faults)?;
-        let types = faults_by_tokens(alloc, tokens, &types.faults)?;
-        Ok(FaultPlaces {
+        let names = faults_with_token_indexes(alloc, tokens, &bindings.faults)?;
+        let types = faults_with_token_indexes(alloc, tokens, &types.faults)?;
+        Ok(ModuleFaultsWithTokenIndexes {
             names,
             types,
             starts_with_token: begins_with_token(tokens),
@@ -60,16 +62,16 @@ fn begins_with_token(tokens: &Tokens) -> bool
 
 /// Adapts a module's bindings to another text, whose tokens (`tokens`) have the same spellings as
 /// the module's tokens. Only the spans of the faults change. Each span is computed again from the
-/// fault's tokens, which `places` has.
+/// token indexes that `places` has for the fault.
 pub(crate) fn move_binding_faults(
     alloc: Global,
     tokens: &Tokens,
     bindings: Bindings,
-    places: &FaultPlaces,
+    places: &ModuleFaultsWithTokenIndexes,
 ) -> Result<Bindings, AllocError>
     ensures { IfOk result (HasSameBindingsWithFaultsAt tokens.now bindings places.now.names.items) }
 {
-    let faults = faults_at_tokens(alloc, tokens, &places.names)?;
+    let faults = faults_with_spans(alloc, tokens, &places.names)?;
     let Bindings {
         ordinals,
         declaration_tokens,
@@ -86,23 +88,23 @@ pub(crate) fn move_binding_faults(
 
 /// Adapts the result of checking a module's types to another text, whose tokens (`tokens`) have the
 /// same spellings as the module's tokens. Only the spans of the faults change. Each span is
-/// computed again from the fault's tokens, which `places` has.
+/// computed again from the token indexes that `places` has for the fault.
 pub(crate) fn move_type_faults(
     alloc: Global,
     tokens: &Tokens,
-    types: ModuleTypes,
-    places: &FaultPlaces,
-) -> Result<ModuleTypes, AllocError>
+    types: CheckResult,
+    places: &ModuleFaultsWithTokenIndexes,
+) -> Result<CheckResult, AllocError>
     ensures { IfOk result (HasSameTypesWithFaultsAt tokens.now types places.now.types.items) }
 {
-    let faults = faults_at_tokens(alloc, tokens, &places.types)?;
-    let ModuleTypes {
+    let faults = faults_with_spans(alloc, tokens, &places.types)?;
+    let CheckResult {
         known,
         fields,
         faults: _,
         bodies_with_faults,
     } = types;
-    Ok(ModuleTypes {
+    Ok(CheckResult {
         known,
         fields,
         faults,

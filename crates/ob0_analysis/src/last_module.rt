@@ -15,20 +15,20 @@
 ghost use Rattle.std.specs.Prelude.{◌≡◌, ◌≤◌, IfSome, Some};
 ghost use Rattle.ob0_analysis.specs.LastModule.{IsEarlierModule, WidensDifference, KeepsLastModule, IsLastModuleOf};
 
-use ob0_scan::{SameParts, Tokens};
-use ob0_scope_table::{Bindings, BodyPlace, body_place_in_tree};
+use ob0_scan::{CommonPrefixAndSuffix, Tokens};
+use ob0_scope_table::{Bindings, BodyBounds, body_bounds_in_tree};
 use ob0_tree::ModuleTree;
-use ob0_types::ModuleTypes;
+use ob0_types::CheckResult;
 
 /// The names and types of the last text that was a module. `same` describes the tokens that the
 /// current text certainly shares with that module. All other tokens of that module lie in one body:
-/// `place` has the tokens of this body's first identifier and of its block's closing name.
+/// `place` has the token indexes of this body's first identifier and of its block's closing name.
 #[derive(Drop)]
 pub(crate) struct LastModule {
     pub(crate) bindings: Bindings,
-    pub(crate) types: ModuleTypes,
-    pub(crate) same: SameParts,
-    pub(crate) place: BodyPlace,
+    pub(crate) types: CheckResult,
+    pub(crate) same: CommonPrefixAndSuffix,
+    pub(crate) place: BodyBounds,
 }
 
 impl LastModule {
@@ -40,15 +40,15 @@ impl LastModule {
         tokens: &Tokens,
         tree: &ModuleTree,
         bindings: Bindings,
-        types: ModuleTypes,
-        same: SameParts,
+        types: CheckResult,
+        same: CommonPrefixAndSuffix,
     ) -> Option<LastModule>
         requires { IsEarlierModule tokens.now tree.now bindings types same }
         ensures { IfSome result (IsLastModuleOf tokens.now) }
     {
-        let body = body_place_in_tree(tree, same.prefix, same.old_suffix)?;
+        let body = body_bounds_in_tree(tree, same.prefix, same.old_suffix)?;
         let wider = widen_to_body(same, body, tokens.tokens().len())?;
-        let place = body_place_in_tree(tree, wider.prefix, wider.old_suffix)?;
+        let place = body_bounds_in_tree(tree, wider.prefix, wider.old_suffix)?;
         Some(LastModule {
             bindings,
             types,
@@ -62,7 +62,7 @@ impl LastModule {
     /// lie in the body that contains all earlier differences.
     pub(crate) fn keep_optional_across_change(
         last: Option<LastModule>,
-        change: SameParts,
+        change: CommonPrefixAndSuffix,
     ) -> Option<LastModule>
         ensures { KeepsLastModule last change result }
     {
@@ -75,7 +75,7 @@ impl LastModule {
     /// Keeps the names and types of the last module when the text changes again. `change` describes
     /// the tokens that this change keeps. Returns None if the change doesn't lie in the body that
     /// contains all earlier differences.
-    fn keep_across_change(self, change: SameParts) -> Option<LastModule>
+    fn keep_across_change(self, change: CommonPrefixAndSuffix) -> Option<LastModule>
         ensures { KeepsLastModule (Some self) change result }
     {
         let LastModule {
@@ -88,7 +88,7 @@ impl LastModule {
         Some(LastModule {
             bindings,
             types,
-            same: SameParts {
+            same: CommonPrefixAndSuffix {
                 prefix: same.prefix,
                 old_suffix: same.old_suffix,
                 new_suffix: wider.new_suffix,
@@ -102,7 +102,11 @@ impl LastModule {
 /// `body` of the old text. The extended range begins after the body's first identifier and ends
 /// before the END of its block. Returns None if a token that may differ lies outside the extended
 /// range, or if this range would end after the current text's `count` tokens.
-fn widen_to_body(same: SameParts, body: BodyPlace, count: usize) -> Option<SameParts>
+fn widen_to_body(
+    same: CommonPrefixAndSuffix,
+    body: BodyBounds,
+    count: usize,
+) -> Option<CommonPrefixAndSuffix>
     ensures { IfSome result (λ wider. WidensDifference same wider × (wider.new_suffix ≤ count)) }
 {
     let prefix = body.first.checked_add(1)?;
@@ -118,7 +122,11 @@ fn widen_to_body(same: SameParts, body: BodyPlace, count: usize) -> Option<SameP
 /// `same.prefix..same.old_suffix` to `prefix..old_suffix`. The end of the range moves by the same
 /// number of tokens in the new text. Returns None if `prefix..old_suffix` doesn't contain the range
 /// of `same`.
-fn widen_difference(same: SameParts, prefix: usize, old_suffix: usize) -> Option<SameParts>
+fn widen_difference(
+    same: CommonPrefixAndSuffix,
+    prefix: usize,
+    old_suffix: usize,
+) -> Option<CommonPrefixAndSuffix>
     ensures wider { IfSome result (WidensDifference same) }
     ensures prefix { IfSome result (λ wider. wider.prefix ≡ prefix) }
     ensures suffix { IfSome result (λ wider. wider.old_suffix ≡ old_suffix) }
@@ -128,7 +136,7 @@ fn widen_difference(same: SameParts, prefix: usize, old_suffix: usize) -> Option
     }
     let more = old_suffix.checked_sub(same.old_suffix)?;
     let new_suffix = same.new_suffix.checked_add(more)?;
-    Some(SameParts {
+    Some(CommonPrefixAndSuffix {
         prefix,
         old_suffix,
         new_suffix,

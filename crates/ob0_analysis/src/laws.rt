@@ -5,7 +5,7 @@ ghost use Rattle.ob0_analysis.specs.Diagnosed.{RefusalIsUnique};
 
 use ob0_scan::laws::scan_is_unique;
 
-/// Proves that two reports of the parser's refusal for the same text are equal.
+/// Proves that any two reports of the parser's refusal of the same text are equal.
 pub fn refusal_is_unique()
     ensures { RefusalIsUnique }
 {

@@ -6,18 +6,18 @@ ghost use Rattle.ob0_tree.specs.ParsedModule.{IsParsed, parsed_module};
 ghost use Rattle.ob0_scope.specs.NewBody.{WasBoundBeforeNewBody};
 ghost use Rattle.ob0_scope_table.specs.Bindings.{resolution_with};
 ghost use Rattle.ob0_scope_table.specs.Resolution.{IsResolution};
-ghost use Rattle.ob0_types.specs.CheckedModules.{AreTypesOf};
-ghost use Rattle.ob0_types.specs.NewBody.{WereTypesBeforeNewBody};
+ghost use Rattle.ob0_types.specs.CheckedModules.{IsCheckResultOf};
+ghost use Rattle.ob0_types.specs.NewBody.{WasCheckResultBeforeNewBody};
 ghost use Rattle.ob0_analysis.specs.LastModule.{IsLastModuleOf};
 ghost use Rattle.ob0_analysis.specs.NewBody.{IsSameBody};
 
 use crate::last_module::LastModule;
 use crate::parts::ModuleParts;
-use ob0_scan::{SameParts, Tokens};
+use ob0_scan::{CommonPrefixAndSuffix, Tokens};
 use ob0_scope::rebind_new_body;
-use ob0_scope_table::{Bindings, BodyPlace, Resolved, body_place_in_tree};
+use ob0_scope_table::{Bindings, BodyBounds, Resolved, body_bounds_in_tree};
 use ob0_tree::{Module, ModuleTree};
-use ob0_types::{ModuleTypes, types_with_new_body};
+use ob0_types::{CheckResult, check_result_with_new_body};
 use std::alloc::{AllocError, Global};
 
 /// Analyses a module, given its tokens and tree, and reuses names and types of an earlier module
@@ -40,7 +40,7 @@ pub(crate) fn reuse_last_module(
         same,
         place,
     } = last;
-    let now = body_place_in_tree(&tree, same.prefix, same.new_suffix);
+    let now = body_bounds_in_tree(&tree, same.prefix, same.new_suffix);
     if !is_same_body(place, now, same) {
         return ModuleParts::bind_and_check(alloc, tokens, tree);
     }
@@ -53,7 +53,7 @@ pub(crate) fn reuse_last_module(
 /// same body. Its first identifier must be at the same token index in both modules, before the
 /// tokens that may differ. The closing name of its block must be at the same distance after these
 /// tokens in both modules. Returns false if `now` is None.
-fn is_same_body(was: BodyPlace, now: Option<BodyPlace>, same: SameParts) -> bool
+fn is_same_body(was: BodyBounds, now: Option<BodyBounds>, same: CommonPrefixAndSuffix) -> bool
     ensures { result ≡ true → IsSameBody was now same }
 {
     let Some(place) = now else {
@@ -81,7 +81,7 @@ fn bind_new_body(
     tokens: &Tokens,
     tree: &ModuleTree,
     bindings: Bindings,
-    same: SameParts,
+    same: CommonPrefixAndSuffix,
 ) -> Result<Bindings, AllocError>
     requires parsed { IsParsed (parsed_module tokens.now tree.now) }
     requires before { WasBoundBeforeNewBody (parsed_module tokens.now tree.now) bindings same }
@@ -98,18 +98,18 @@ fn check_new_body(
     tokens: &Tokens,
     tree: &ModuleTree,
     bindings: &Bindings,
-    types: ModuleTypes,
-    same: SameParts,
-) -> Result<ModuleTypes, AllocError>
+    types: CheckResult,
+    same: CommonPrefixAndSuffix,
+) -> Result<CheckResult, AllocError>
     requires parsed { IsParsed (parsed_module tokens.now tree.now) }
     requires resolved { IsResolution (resolution_with (parsed_module tokens.now tree.now) bindings.now) }
-    requires before { WereTypesBeforeNewBody
+    requires before { WasCheckResultBeforeNewBody
         (resolution_with (parsed_module tokens.now tree.now) bindings.now) types same }
     ensures { IfOk result
-        (AreTypesOf (resolution_with (parsed_module tokens.now tree.now) bindings.now)) }
+        (IsCheckResultOf (resolution_with (parsed_module tokens.now tree.now) bindings.now)) }
 {
     let module = Module::from_parts(tokens, tree);
     let resolved = Resolved::from_parts(&module, bindings);
-    let again = types_with_new_body(alloc, &resolved, types, same)?;
+    let again = check_result_with_new_body(alloc, &resolved, types, same)?;
     Ok(again)
 }

@@ -3,24 +3,28 @@
 
 ghost use Rattle.std.specs.Prelude.{◌≡◌, true, IfOk};
 ghost use Rattle.ob0_tree.specs.ParsedModule.{IsParsed, parsed_module, tree_of};
-ghost use Rattle.ob0_scope.specs.Rebound.{WasBoundBeforeChange};
+ghost use Rattle.ob0_scope.specs.Rebound.{WasBoundBeforeBodyChange};
 ghost use Rattle.ob0_scope_table.specs.Bindings.{resolution_with};
 ghost use Rattle.ob0_scope_table.specs.OneBody.{is_range_in_one_body};
 ghost use Rattle.ob0_scope_table.specs.Resolution.{IsResolution};
-ghost use Rattle.ob0_types.specs.CheckedModules.{AreTypesOf};
-ghost use Rattle.ob0_types.specs.OneBody.{WereTypesBeforeChange};
+ghost use Rattle.ob0_types.specs.CheckedModules.{IsCheckResultOf};
+ghost use Rattle.ob0_types.specs.OneBody.{WasCheckResultBeforeBodyChange};
 
 use crate::parts::check_types;
-use ob0_scan::{SameParts, Tokens};
+use ob0_scan::{CommonPrefixAndSuffix, Tokens};
 use ob0_scope::{bindings_of, rebind_body};
 use ob0_scope_table::{Bindings, Resolved, is_range_in_one_body};
 use ob0_tree::{Module, ModuleTree};
-use ob0_types::{ModuleTypes, types_after_body_change};
+use ob0_types::{CheckResult, check_result_after_body_change};
 use std::alloc::{AllocError, Global};
 
 /// Returns whether all tokens that may differ in spelling from the previous text lie in one body
 /// (the statements of one block). These are the tokens `same.prefix..same.old_suffix`.
-pub(crate) fn differs_in_one_body(tokens: &Tokens, tree: &ModuleTree, same: SameParts) -> bool
+pub(crate) fn differs_in_one_body(
+    tokens: &Tokens,
+    tree: &ModuleTree,
+    same: CommonPrefixAndSuffix,
+) -> bool
     requires { IsParsed (parsed_module tokens.now tree.now) }
     ensures { result
         ≡ is_range_in_one_body same.prefix same.old_suffix (tree_of (parsed_module tokens.now tree.now)) }
@@ -37,12 +41,12 @@ pub(crate) fn rebind_names(
     tokens: &Tokens,
     tree: &ModuleTree,
     bindings: Bindings,
-    same: SameParts,
+    same: CommonPrefixAndSuffix,
     in_body: bool,
 ) -> Result<Bindings, AllocError>
     requires parsed { IsParsed (parsed_module tokens.now tree.now) }
     requires before { in_body ≡ true
-        → WasBoundBeforeChange (parsed_module tokens.now tree.now) bindings same.prefix same.old_suffix }
+        → WasBoundBeforeBodyChange (parsed_module tokens.now tree.now) bindings same.prefix same.old_suffix }
     ensures { IfOk result (λ b. IsResolution (resolution_with (parsed_module tokens.now tree.now) b)) }
 {
     let read = Module::from_parts(tokens, tree);
@@ -62,16 +66,16 @@ pub(crate) fn recheck_types(
     tokens: &Tokens,
     tree: &ModuleTree,
     bindings: &Bindings,
-    types: ModuleTypes,
-    same: SameParts,
+    types: CheckResult,
+    same: CommonPrefixAndSuffix,
     in_body: bool,
-) -> Result<ModuleTypes, AllocError>
+) -> Result<CheckResult, AllocError>
     requires parsed { IsParsed (parsed_module tokens.now tree.now) }
     requires resolved { IsResolution (resolution_with (parsed_module tokens.now tree.now) bindings.now) }
-    requires before { in_body ≡ true → WereTypesBeforeChange
+    requires before { in_body ≡ true → WasCheckResultBeforeBodyChange
         (resolution_with (parsed_module tokens.now tree.now) bindings.now) types same.prefix }
     ensures { IfOk result
-        (AreTypesOf (resolution_with (parsed_module tokens.now tree.now) bindings.now)) }
+        (IsCheckResultOf (resolution_with (parsed_module tokens.now tree.now) bindings.now)) }
 {
     if !in_body {
         drop(types);
@@ -79,6 +83,6 @@ pub(crate) fn recheck_types(
     }
     let module = Module::from_parts(tokens, tree);
     let resolved = Resolved::from_parts(&module, bindings);
-    let again = types_after_body_change(alloc, &resolved, types, same.prefix)?;
+    let again = check_result_after_body_change(alloc, &resolved, types, same.prefix)?;
     Ok(again)
 }

@@ -10,13 +10,13 @@ ghost use Rattle.std.specs.Prelude.{◌≡◌, IfOk};
 ghost use Rattle.ob0_tree.specs.ParsedModule.{IsParsed, parsed_module};
 ghost use Rattle.ob0_scope_table.specs.Bindings.{resolution_with};
 ghost use Rattle.ob0_scope_table.specs.Resolution.{IsResolution};
-ghost use Rattle.ob0_types.specs.CheckedModules.{AreCheckedFaults, AreTypesOf, IsChecked};
+ghost use Rattle.ob0_types.specs.CheckedModules.{AreFaultsOfCheckedModule, IsCheckResultOf, IsChecked};
 
 use ob0_scan::{Fault, Tokens};
 use ob0_scope::bindings_of;
 use ob0_scope_table::{Bindings, Resolved};
 use ob0_tree::{Module, ModuleTree};
-use ob0_types::{Checked, ModuleTypes, types_of};
+use ob0_types::{CheckResult, Checked, check_result_of};
 use std::alloc::{AllocError, Global};
 use std::marker::Model;
 
@@ -27,14 +27,14 @@ pub(crate) struct ModuleParts {
     tokens: Tokens,
     tree: ModuleTree,
     bindings: Bindings,
-    types: ModuleTypes,
+    types: CheckResult,
 }
 
 impl Model for ModuleParts {
     ghost use Rattle.ob0_tree.specs.ParsedModule.{IsParsed, parsed_module};
     ghost use Rattle.ob0_scope_table.specs.Bindings.{resolution_with};
     ghost use Rattle.ob0_scope_table.specs.Resolution.{IsResolution, Resolution};
-    ghost use Rattle.ob0_types.specs.CheckedModules.{AreTypesOf};
+    ghost use Rattle.ob0_types.specs.CheckedModules.{IsCheckResultOf};
 
     ghost Value = { Resolution };
 
@@ -46,7 +46,7 @@ impl Model for ModuleParts {
     ghost view = { λ m. resolution_with (parsed_module m.tokens m.tree) m.bindings };
 
     ghost invariant = { λ m. let r = resolution_with (parsed_module m.tokens m.tree) m.bindings in
-        IsParsed r.module_read × (IsResolution r × AreTypesOf r m.types) };
+        IsParsed r.module_read × (IsResolution r × IsCheckResultOf r m.types) };
 }
 
 impl ModuleParts {
@@ -74,11 +74,11 @@ impl ModuleParts {
         tokens: Tokens,
         tree: ModuleTree,
         bindings: Bindings,
-        types: ModuleTypes,
+        types: CheckResult,
     ) -> ModuleParts
         requires parsed { IsParsed (parsed_module tokens tree) }
         requires resolved { IsResolution (resolution_with (parsed_module tokens tree) bindings) }
-        requires types { AreTypesOf (resolution_with (parsed_module tokens tree) bindings) types }
+        requires types { IsCheckResultOf (resolution_with (parsed_module tokens tree) bindings) types }
         ensures { result ≡ resolution_with (parsed_module tokens tree) bindings }
     {
         ModuleParts {
@@ -115,7 +115,7 @@ impl ModuleParts {
 
     /// Returns the faults of the module's names and types, at most a hundred.
     pub(crate) fn faults(&self) -> &[Fault]
-        ensures { AreCheckedFaults self.now result.now }
+        ensures { AreFaultsOfCheckedModule self.now result.now }
     {
         self.types.faults.as_slice()
     }
@@ -129,10 +129,10 @@ impl ModuleParts {
     }
 
     /// Takes the module apart and returns its parts, so that each part can be reused separately.
-    pub(crate) fn into_parts(self) -> (Tokens, ModuleTree, Bindings, ModuleTypes)
+    pub(crate) fn into_parts(self) -> (Tokens, ModuleTree, Bindings, CheckResult)
         ensures parsed { IsParsed (parsed_module result.0 result.1) }
         ensures resolved { IsResolution (resolution_with (parsed_module result.0 result.1) result.2) }
-        ensures types { AreTypesOf (resolution_with (parsed_module result.0 result.1) result.2) result.3 }
+        ensures types { IsCheckResultOf (resolution_with (parsed_module result.0 result.1) result.2) result.3 }
     {
         let ModuleParts {
             tokens,
@@ -150,14 +150,14 @@ pub(crate) fn check_types(
     tokens: &Tokens,
     tree: &ModuleTree,
     bindings: &Bindings,
-) -> Result<ModuleTypes, AllocError>
+) -> Result<CheckResult, AllocError>
     requires parsed { IsParsed (parsed_module tokens.now tree.now) }
     requires resolved { IsResolution (resolution_with (parsed_module tokens.now tree.now) bindings.now) }
     ensures { IfOk result
-        (AreTypesOf (resolution_with (parsed_module tokens.now tree.now) bindings.now)) }
+        (IsCheckResultOf (resolution_with (parsed_module tokens.now tree.now) bindings.now)) }
 {
     let module = Module::from_parts(tokens, tree);
     let resolved = Resolved::from_parts(&module, bindings);
-    let types = types_of(alloc, &resolved)?;
+    let types = check_result_of(alloc, &resolved)?;
     Ok(types)
 }

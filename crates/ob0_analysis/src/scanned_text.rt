@@ -2,26 +2,26 @@
 //! the text's tokens, with its module or the parser's refusal.
 
 ghost use Rattle.std.specs.Prelude.{◌≡◌, [], true, IfErr, IfOk, IfSome, MatchOption, map};
-ghost use Rattle.ob0_scan.specs.Refused.{AreFaults, IsRightRescanRefusal};
+ghost use Rattle.ob0_scan.specs.Refused.{AreFaultsOfRefusedText, IsRightRescanRefusal};
 ghost use Rattle.ob0_scan.specs.Reused.{kinds, names_in, words_of_tokens};
-ghost use Rattle.ob0_scan.specs.SameKinds.{HasSameKinds, HasSameWords};
+ghost use Rattle.ob0_scan.specs.SameKinds.{PrefixAndSuffixHaveSameKinds, PrefixAndSuffixHaveSameWords};
 ghost use Rattle.ob0_scan.specs.TextWithTokens.{IsScan, IsScanOf};
 ghost use Rattle.ob0_tree.specs.ParsedModule.{IsParsed, parsed_module};
 ghost use Rattle.ob0_scope_table.specs.Bindings.{resolution_with};
 ghost use Rattle.ob0_scope_table.specs.Resolution.{IsResolution};
-ghost use Rattle.ob0_parse.specs.KeptTokens.{AreInPlace};
-ghost use Rattle.ob0_analysis.specs.AnalysisInvariants.{IsValidOutcome, IsRefusedByParser, IsReanalysisFailure};
-ghost use Rattle.ob0_analysis.specs.ReuseConditions.{AreKeptResultsBeforeChange, WasModuleBeforeChange, IsFailureAfterModule, IsFailureAfterRefusal, IsModuleWithSameSpelling};
+ghost use Rattle.ob0_parse.specs.KeptTokens.{AreKeptTreesInPlace};
+ghost use Rattle.ob0_analysis.specs.AnalysisInvariants.{IsValidParseOutcome, IsRefusedByParser, IsRightReanalysisFailure};
+ghost use Rattle.ob0_analysis.specs.ReuseConditions.{AreKeptResultsBeforeChange, WasModuleBeforeChange, IsRightScanFailureAfterModule, IsRightScanFailureAfterRefusal, IsModuleWithSameSpelling};
 ghost use Rattle.ob0_analysis.specs.LastModule.{IsEarlierModule, IsLastModuleOf};
 ghost use Rattle.ob0_analysis.specs.declared.scanned_text.ReanalysisFailure.TheVariants as reanalysis_failure;
 ghost use Rattle.ob0_analysis.specs.declared.scanned_text.ParseOutcome.TheVariants.{NoTree};
 ghost use Rattle.ob0_analysis.specs.Diagnosed.{IsWellTypedModule, Reports, reported_diagnosis_of};
 ghost use Rattle.ob0_analysis.specs.OneBody.{IsEarlierModuleWithSameKinds};
-ghost use Rattle.ob0_types.specs.OneBody.{WereTypesBeforeChange};
+ghost use Rattle.ob0_types.specs.OneBody.{WasCheckResultBeforeBodyChange};
 
 use crate::diagnoses::Diagnosis;
 use crate::differences::Difference;
-use crate::fault_places::{FaultPlaces, move_binding_faults, move_type_faults};
+use crate::fault_places::{ModuleFaultsWithTokenIndexes, move_binding_faults, move_type_faults};
 use crate::last_module::LastModule;
 use crate::new_body::reuse_last_module;
 use crate::one_body::{differs_in_one_body, rebind_names, recheck_types};
@@ -30,12 +30,14 @@ use crate::text_errors::{diagnose_module, diagnose_refusal};
 use ob0_parse::{KeptTrees, reparse_tree};
 use ob0_parse_descent::ParseRefusal;
 use ob0_scan::laws::scan_is_unique;
-use ob0_scan::{Fault, RescanInPlace, RescanRefusal, SameParts, Tokens, rescan_in_place};
-use ob0_scope::laws::{bindings_depend_on_names, bindings_move_with_tokens};
+use ob0_scan::{
+    CommonPrefixAndSuffix, Fault, RescanRefusal, RescanWithComparison, Tokens, rescan_in_place,
+};
+use ob0_scope::laws::{bindings_depend_only_on_names, bindings_move_with_tokens};
 use ob0_scope_table::Bindings;
 use ob0_tree::ModuleTree;
-use ob0_types::ModuleTypes;
-use ob0_types::laws::types_depend_on_tokens;
+use ob0_types::CheckResult;
+use ob0_types::laws::check_result_depends_only_on_tokens;
 use std::alloc::{AllocError, Global};
 use std::marker::Model;
 
@@ -69,11 +71,11 @@ impl Model for ScannedText {
 
     ghost Value = { List ℕ };
 
-    ghost use Rattle.ob0_analysis.specs.AnalysisInvariants.{text_of_outcome, IsValidOutcome};
+    ghost use Rattle.ob0_analysis.specs.AnalysisInvariants.{text_of_outcome, IsValidParseOutcome};
 
     ghost view = { λ r. text_of_outcome r.parse_outcome };
 
-    ghost invariant = { λ r. IsValidOutcome r.parse_outcome };
+    ghost invariant = { λ r. IsValidParseOutcome r.parse_outcome };
 }
 
 /// The reason why a changed text can't be analysed: its lexical faults, or lack of memory. The
@@ -95,13 +97,13 @@ impl From<AllocError> for ReanalysisFailure {
 impl ScannedText {
     /// Parses and analyses a text, given its tokens. The trees in `kept` and the names and types in
     /// `last` come from earlier texts and are reused if possible.
-    pub(crate) fn parse_tokens(
+    pub(crate) fn analyse_tokens(
         alloc: Global,
         tokens: Tokens,
         kept: KeptTrees,
         last: Option<LastModule>,
     ) -> Result<ScannedText, AllocError>
-        requires kept { AreInPlace tokens.tokens kept }
+        requires kept { AreKeptTreesInPlace tokens.tokens kept }
         requires last { IfSome last (IsLastModuleOf tokens) }
         ensures { IfOk result (λ r. r ≡ tokens.text) }
     {
@@ -164,7 +166,7 @@ impl ScannedText {
         text: &str,
     ) -> Result<ScannedText, ReanalysisFailure>
         ensures ok { IfOk result (λ r. r ≡ text.now) }
-        ensures err { IfErr result (IsReanalysisFailure text.now) }
+        ensures err { IfErr result (IsRightReanalysisFailure text.now) }
     {
         let ScannedText { parse_outcome } = self;
         match parse_outcome {
@@ -179,9 +181,9 @@ impl ScannedText {
         ill: UnparsableText,
         text: &str,
     ) -> Result<ScannedText, ReanalysisFailure>
-        requires { IsValidOutcome (NoTree ill) }
+        requires { IsValidParseOutcome (NoTree ill) }
         ensures ok { IfOk result (λ r. r ≡ text.now) }
-        ensures err { IfErr result (IsReanalysisFailure text.now) }
+        ensures err { IfErr result (IsRightReanalysisFailure text.now) }
     {
         let UnparsableText {
             tokens,
@@ -190,7 +192,9 @@ impl ScannedText {
             last,
         } = ill;
         match rescan_text(alloc, tokens, text) {
-            Ok(changed) => Ok(ScannedText::reanalyse_refused(alloc, changed, refusal, kept, last)?),
+            Ok(changed) => Ok(ScannedText::reanalyse_refused_text(
+                alloc, changed, refusal, kept, last,
+            )?),
             Err(unread) => Err(ScannedText::failure_after_refusal(
                 text, unread, refusal, kept, last,
             )),
@@ -207,8 +211,8 @@ impl ScannedText {
         kept: KeptTrees,
         last: Option<LastModule>,
     ) -> ReanalysisFailure
-        requires { IsFailureAfterRefusal _text.now refusal kept last unread }
-        ensures { IsReanalysisFailure _text.now result }
+        requires { IsRightScanFailureAfterRefusal _text.now refusal kept last unread }
+        ensures { IsRightReanalysisFailure _text.now result }
     {
         match unread {
             RescanRefusal::Faults(faults, tokens) => {
@@ -230,9 +234,9 @@ impl ScannedText {
     /// If all tokens have the same kinds as before, the refusal is kept. Otherwise the text is
     /// parsed, and the kept trees (`kept`) and the names and types of the last module (`last`) are
     /// reused if possible.
-    fn reanalyse_refused(
+    fn reanalyse_refused_text(
         alloc: Global,
-        changed: RescanInPlace,
+        changed: RescanWithComparison,
         refusal: ParseRefusal,
         kept: KeptTrees,
         last: Option<LastModule>,
@@ -241,7 +245,7 @@ impl ScannedText {
         requires before { AreKeptResultsBeforeChange changed kept last }
         ensures { IfOk result (λ r. r ≡ changed.rescan.tokens.text) }
     {
-        let RescanInPlace {
+        let RescanWithComparison {
             rescan,
             same,
             same_kinds,
@@ -252,7 +256,7 @@ impl ScannedText {
         let last = LastModule::keep_optional_across_change(last, same);
         if !same_kinds {
             let kept = kept.relocate(alloc, same)?;
-            return ScannedText::parse_tokens(alloc, tokens, kept, last);
+            return ScannedText::analyse_tokens(alloc, tokens, kept, last);
         }
         Ok(ScannedText {
             parse_outcome: ParseOutcome::NoTree(UnparsableText {
@@ -271,10 +275,10 @@ impl ScannedText {
         text: &str,
     ) -> Result<ScannedText, ReanalysisFailure>
         ensures ok { IfOk result (λ r. r ≡ text.now) }
-        ensures err { IfErr result (IsReanalysisFailure text.now) }
+        ensures err { IfErr result (IsRightReanalysisFailure text.now) }
     {
         let (tokens, tree, bindings, types) = old.into_parts();
-        let places = FaultPlaces::from_faults(alloc, &tokens, &bindings, &types)?;
+        let places = ModuleFaultsWithTokenIndexes::from_faults(alloc, &tokens, &bindings, &types)?;
         // The proof needs the invariant of the tokens, which this call's contract states.
         let _text = tokens.text();
         match rescan_text(alloc, tokens, text) {
@@ -294,10 +298,10 @@ impl ScannedText {
         unread: RescanRefusal,
         tree: ModuleTree,
         bindings: Bindings,
-        types: ModuleTypes,
+        types: CheckResult,
     ) -> ReanalysisFailure
-        requires { IsFailureAfterModule _text.now tree bindings types unread }
-        ensures { IsReanalysisFailure _text.now result }
+        requires { IsRightScanFailureAfterModule _text.now tree bindings types unread }
+        ensures { IsRightReanalysisFailure _text.now result }
     {
         match unread {
             RescanRefusal::Faults(faults, tokens) => {
@@ -309,21 +313,21 @@ impl ScannedText {
     }
 
     /// Analyses a changed text, given its scan (`changed`). The previous text was a module with the
-    /// tree `tree`, and `places` has the tokens of its faults. If all tokens have the same kinds as
-    /// before, the tree is kept. The bindings and types are reused if possible.
+    /// tree `tree`, and `places` has the token indexes of its faults. If all tokens have the same
+    /// kinds as before, the tree is kept. The bindings and types are reused if possible.
     fn reanalyse_module(
         alloc: Global,
-        changed: RescanInPlace,
+        changed: RescanWithComparison,
         tree: ModuleTree,
         bindings: Bindings,
-        types: ModuleTypes,
-        places: FaultPlaces,
+        types: CheckResult,
+        places: ModuleFaultsWithTokenIndexes,
     ) -> Result<ScannedText, AllocError>
         requires { WasModuleBeforeChange changed tree bindings types places }
         ensures { IfOk result (λ r. r ≡ changed.rescan.tokens.text) }
     {
-        bindings_depend_on_names();
-        let RescanInPlace {
+        bindings_depend_only_on_names();
+        let RescanWithComparison {
             rescan,
             same,
             same_kinds,
@@ -332,7 +336,9 @@ impl ScannedText {
         } = changed;
         let tokens = rescan.tokens;
         if !same_kinds {
-            return ScannedText::reanalyse_changed_kinds(alloc, tokens, tree, bindings, types, same);
+            return ScannedText::reanalyse_with_changed_kinds(
+                alloc, tokens, tree, bindings, types, same,
+            );
         }
         if same_words {
             if places.begins_like_module_text(&tokens) {
@@ -341,40 +347,42 @@ impl ScannedText {
                 );
             }
         }
-        ScannedText::reanalyse_same_tree(alloc, tokens, tree, bindings, types, same, same_names)
+        ScannedText::reanalyse_with_same_tree(
+            alloc, tokens, tree, bindings, types, same, same_names,
+        )
     }
 
     /// Parses and analyses a changed text whose tokens may have other kinds than the tokens of the
     /// previous text, a module. Procedures of the previous tree are reused. If the changed text is
     /// also a module and the two modules differ in only one body, the names and types outside this
     /// body are reused.
-    fn reanalyse_changed_kinds(
+    fn reanalyse_with_changed_kinds(
         alloc: Global,
         tokens: Tokens,
         tree: ModuleTree,
         bindings: Bindings,
-        types: ModuleTypes,
-        same: SameParts,
+        types: CheckResult,
+        same: CommonPrefixAndSuffix,
     ) -> Result<ScannedText, AllocError>
         requires { IsEarlierModule tokens tree bindings types same }
         ensures { IfOk result (λ r. r ≡ tokens.text) }
     {
         let last = LastModule::keep_module(&tokens, &tree, bindings, types, same);
         let kept = KeptTrees::from_tree(alloc, tree).relocate(alloc, same)?;
-        ScannedText::parse_tokens(alloc, tokens, kept, last)
+        ScannedText::analyse_tokens(alloc, tokens, kept, last)
     }
 
     /// Analyses a text that has the same tree as the previous text. If the identifiers have the
     /// same spellings as before (`same_names`) and no name has a fault, the bindings are kept.
     /// Otherwise names are bound again, because their bindings or the spans of their faults may
     /// have changed.
-    fn reanalyse_same_tree(
+    fn reanalyse_with_same_tree(
         alloc: Global,
         tokens: Tokens,
         tree: ModuleTree,
         bindings: Bindings,
-        types: ModuleTypes,
-        same: SameParts,
+        types: CheckResult,
+        same: CommonPrefixAndSuffix,
         same_names: bool,
     ) -> Result<ScannedText, AllocError>
         requires parsed { IsParsed (parsed_module tokens tree) }
@@ -402,14 +410,14 @@ impl ScannedText {
         tokens: Tokens,
         tree: ModuleTree,
         bindings: Bindings,
-        types: ModuleTypes,
-        same: SameParts,
+        types: CheckResult,
+        same: CommonPrefixAndSuffix,
         in_body: bool,
     ) -> Result<ScannedText, AllocError>
         requires parsed { IsParsed (parsed_module tokens tree) }
         requires resolved { IsResolution (resolution_with (parsed_module tokens tree) bindings) }
         requires before { in_body ≡ true
-            → WereTypesBeforeChange (resolution_with (parsed_module tokens tree) bindings) types same.prefix }
+            → WasCheckResultBeforeBodyChange (resolution_with (parsed_module tokens tree) bindings) types same.prefix }
         ensures { IfOk result (λ r. r ≡ tokens.text) }
     {
         let types = recheck_types(alloc, &tokens, &tree, &bindings, types, same, in_body)?;
@@ -418,21 +426,21 @@ impl ScannedText {
     }
 
     /// Analyses a changed text whose tokens have the same spellings as the previous text's tokens.
-    /// The tree, bindings and types are kept. Only the spans of the faults are computed again, from
-    /// each fault's first and last token (`places`) in the changed text.
+    /// The tree, bindings and types are kept. Only the spans of the faults are computed again: from
+    /// the indexes of each fault's first and last token, which `places` has.
     fn reanalyse_with_same_spellings(
         alloc: Global,
         tokens: Tokens,
         tree: ModuleTree,
         bindings: Bindings,
-        types: ModuleTypes,
-        places: FaultPlaces,
+        types: CheckResult,
+        places: ModuleFaultsWithTokenIndexes,
     ) -> Result<ScannedText, AllocError>
         requires { IsModuleWithSameSpelling tokens tree bindings types places }
         ensures { IfOk result (λ r. r ≡ tokens.text) }
     {
         bindings_move_with_tokens();
-        types_depend_on_tokens();
+        check_result_depends_only_on_tokens();
         let bindings = move_binding_faults(alloc, &tokens, bindings, &places)?;
         let types = move_type_faults(alloc, &tokens, types, &places)?;
         let parts = ModuleParts::from_parts(tokens, tree, bindings, types);
@@ -483,10 +491,14 @@ impl ScannedText {
 
 /// Scans the changed text `text`, and reuses the tokens of the old text (`old`) outside the change.
 /// If the changed text has lexical faults, the error has these faults and the old tokens.
-fn rescan_text(alloc: Global, old: Tokens, text: &str) -> Result<RescanInPlace, RescanRefusal>
+fn rescan_text(
+    alloc: Global,
+    old: Tokens,
+    text: &str,
+) -> Result<RescanWithComparison, RescanRefusal>
     ensures ok { IfOk result (λ r. IsScanOf text.now r.rescan.tokens) }
-    ensures same { IfOk result (λ r. HasSameKinds r.same old.tokens r.rescan.tokens.tokens) }
-    ensures written { IfOk result (λ r. HasSameWords r.same old r.rescan.tokens) }
+    ensures same { IfOk result (λ r. PrefixAndSuffixHaveSameKinds r.same old.tokens r.rescan.tokens.tokens) }
+    ensures written { IfOk result (λ r. PrefixAndSuffixHaveSameWords r.same old r.rescan.tokens) }
     ensures same_kinds { IfOk result
         (λ r. r.same_kinds ≡ true → kinds r.rescan.tokens.tokens ≡ kinds old.tokens) }
     ensures same_names { IfOk result

@@ -12,7 +12,7 @@ use ob0_scan::Tokens;
 use ob0_scan::laws::scan_is_unique;
 use std::alloc::{AllocError, Global};
 
-/// Returns the only error of a text that the parser refuses: the refusal, at the token that was
+/// Returns the only diagnosis of a text that the parser refuses: the refusal, at the token that was
 /// refused. Returns an error if the refusal is lack of memory or an allocation fails.
 pub(crate) fn diagnose_refusal(
     alloc: Global,
@@ -30,8 +30,8 @@ pub(crate) fn diagnose_refusal(
     Ok(reported)
 }
 
-/// Returns the faults of names and types of a text that has a tree. The list is empty if the module
-/// is well-typed.
+/// Returns the diagnoses of a text that has a tree: one for each reported fault of names and types.
+/// The list is empty exactly if the module is well-typed.
 pub(crate) fn diagnose_module(
     alloc: Global,
     parts: &ModuleParts,

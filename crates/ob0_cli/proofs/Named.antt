@@ -20,8 +20,8 @@ use Rattle.clap.specs.declared.parser.matches.ArgMatches.TheViews.{out-ArgMatche
 use Rattle.clap.specs.declared.parser.matches.SubCommand.{SubCommand}
 use Rattle.std.specs.Box.{box_value}
 use Rattle.clap.proofs.OnLiterals.{clap_on_literals}
-use Rattle.ob0_cli.specs.Given.{FoundSubcommand, HasBoundedValue, IsCompleteCommand, HasCoordinateValue, HasTextValue, HasNeededValues, max_option_value}
-use Rattle.ob0_cli.specs.Lines.{calls_rule, number_rule, ob0_app, turns_rule, word_rule}
+use Rattle.ob0_cli.specs.Given.{FoundSubcommand, HasBoundedValue, IsCompleteSubcommand, HasCoordinateValue, HasTextValue, HasNeededValues, max_option_value}
+use Rattle.ob0_cli.specs.Lines.{calls_rule, required_number_rule, ob0_app, turns_rule, required_word_rule}
 use Rattle.ob0_cli.proofs.Rows.{Each, Fits, HasPassed, default_passed, found_of, passed_by, required_passed}
 use Rattle.ob0_cli.proofs.Stops.{IsNoHelp, walk_stops}
 use Rattle.ob0_cli.proofs.Walked.{neither}
@@ -97,7 +97,7 @@ check_needs : Needs at_check
 unfolding clap_on_literals nth
 check_needs words e =
     let rows = rows_after at_check.rules [] words in
-    inr (inl (refl, has_text at_check.rules rows (codes "file") (required_passed at_check words refl e check_fits (placed 1 (word_rule (codes "file"))) refl refl)))
+    inr (inl (refl, has_text at_check.rules rows (codes "file") (required_passed at_check words refl e check_fits (placed 1 (required_word_rule (codes "file"))) refl refl)))
 
 run_fits : Each (Fits at_run.rules) at_run.rules
 unfolding clap_on_literals nth
@@ -118,7 +118,7 @@ run_needs words e =
     let rows = rows_after at_run.rules [] words in
     inr (inr (inl (
       refl,
-      has_text at_run.rules rows (codes "file") (required_passed at_run words refl e run_fits (placed 1 (word_rule (codes "file"))) refl refl),
+      has_text at_run.rules rows (codes "file") (required_passed at_run words refl e run_fits (placed 1 (required_word_rule (codes "file"))) refl refl),
       has_bounded at_run.rules rows (filled calls_rule) refl refl (default_passed at_run words e run_fits (filled calls_rule) (codes "64") [] refl refl),
       has_bounded at_run.rules rows (filled turns_rule) refl refl (default_passed at_run words e run_fits (filled turns_rule) (codes "100000") [] refl refl),
     )))
@@ -143,14 +143,14 @@ rename_needs : Needs at_rename
 unfolding clap_on_literals nth
 rename_needs words e =
     let rows = rows_after at_rename.rules [] words in
-    let line = placed 2 (number_rule (codes "line")) in
-    let column = placed 3 (number_rule (codes "column")) in
+    let line = placed 2 (required_number_rule (codes "line")) in
+    let column = placed 3 (required_number_rule (codes "column")) in
     inr (inr (inr (
       refl,
-      has_text at_rename.rules rows (codes "file") (required_passed at_rename words refl e rename_fits (placed 1 (word_rule (codes "file"))) refl refl),
+      has_text at_rename.rules rows (codes "file") (required_passed at_rename words refl e rename_fits (placed 1 (required_word_rule (codes "file"))) refl refl),
       has_place at_rename.rules rows line refl refl (required_passed at_rename words refl e rename_fits line refl refl),
       has_place at_rename.rules rows column refl refl (required_passed at_rename words refl e rename_fits column refl refl),
-      has_text at_rename.rules rows (codes "name") (required_passed at_rename words refl e rename_fits (placed 4 (word_rule (codes "name"))) refl refl),
+      has_text at_rename.rules rows (codes "name") (required_passed at_rename words refl e rename_fits (placed 4 (required_word_rule (codes "name"))) refl refl),
     )))
 
 -- The subcommand that clap adds is selected only by the word `help`.
@@ -178,20 +178,20 @@ enabled = refl
 -- If the walk ends at a subcommand other than `help` and that subcommand has no fault, it has all
 -- the arguments that it needs.
 entered_needs : (stop : Option (Text × List Text)) → IsNoHelp stop → entered_fault (built ob0_app) stop ≡ [] → is_some (entered (built ob0_app) stop) ≡ true
-    → IsCompleteCommand (entered (built ob0_app) stop)
+    → IsCompleteSubcommand (entered (built ob0_app) stop)
 entered_needs None other e there = cc
 entered_needs (Some p) other e there = go (find (λ s. answers_to p.0 (label_of s)) subs) refl e there
   where
     go : (o : Option Shape) → find (λ s. answers_to p.0 (label_of s)) subs ≡ o
         → option_map_or (λ s. level_fault s [] nothing_held p.1 false []) o [] ≡ [] → is_some (option_map (λ s. rows_at s p.1) o) ≡ true
-        → IsCompleteCommand (option_map (λ s. rows_at s p.1) o)
+        → IsCompleteSubcommand (option_map (λ s. rows_at s p.1) o)
     go None is e there = cc
     go (Some s) is e there =
         let found = found_of NeedsNamed subs all_need (λ s. answers_to p.0 (label_of s)) s is in
         (s.name, rows_after s.rules [] p.1, refl, found.0 p.0 found.1 other p.1 e)
 
 -- If words that have no fault select a subcommand, it has all the arguments that it needs.
-words_need : (words : List Text) → fault_of ob0_app words ≡ [] → is_some (subcommand_of ob0_app words) ≡ true → IsCompleteCommand (subcommand_of ob0_app words)
+words_need : (words : List Text) → fault_of ob0_app words ≡ [] → is_some (subcommand_of ob0_app words) ≡ true → IsCompleteSubcommand (subcommand_of ob0_app words)
 words_need words e there =
     let top = (built ob0_app).top in
     let names = names_of (built ob0_app) in
@@ -216,7 +216,7 @@ mapped_some f (Some a) e = refl
 -- If the words have no fault, clap's matches have the subcommand that the words select, with all
 -- the arguments that it needs.
 pub parsed : (c : Command) (words : List Text) (m : ArgMatches) → app_of c ≡ ob0_app → fault_of ob0_app words ≡ [] → IsParsedFrom c m → HasMatchesOf (app_of c) words m
-    → (subcommand_rows_of m ≡ subcommand_of ob0_app words) × IsCompleteCommand (subcommand_rows_of m)
+    → (subcommand_rows_of m ≡ subcommand_of ob0_app words) × IsCompleteSubcommand (subcommand_rows_of m)
 parsed c words m is none from matches =
     let plain = no_globals _ _ _ _ (ap (λ (a : App). a.top.is_plain) is) in
     let required = ap (λ (a : App). a.top.subcommand_required) is in
@@ -224,7 +224,7 @@ parsed c words m is none from matches =
     let has : has_subcommand m ≡ true = checked.subcommand (from.from.needs_subcommand ∙ required) in
     let same : subcommand_rows_of m ≡ subcommand_of ob0_app words = (matches (ap is_simple is ∙ simple)).1 ∙ ap (λ (a : App). subcommand_of a words) is in
     let there : is_some (subcommand_of ob0_app words) ≡ true = subst (λ o. is_some o ≡ true) same (mapped_some _ _ has) in
-    (same, subst IsCompleteCommand (sym same) (words_need words none there))
+    (same, subst IsCompleteSubcommand (sym same) (words_need words none there))
 
 -- ---- from the matches to the line
 
@@ -246,7 +246,7 @@ named_rows m name rows n r = go (out-ArgMatches m).subcommand n r
 
 -- The getter of the subcommand returns its name and rows, and the subcommand has all the arguments
 -- that it needs.
-pub entered_is : (m given : ArgMatches) (name : Text) → IsCompleteCommand (subcommand_rows_of m) → Some name ≡ subcommand_name_of m
+pub entered_is : (m given : ArgMatches) (name : Text) → IsCompleteSubcommand (subcommand_rows_of m) → Some name ≡ subcommand_name_of m
     → Some (rows_of (found_in given)) ≡ option_map (λ p. p.1) (subcommand_rows_of m)
     → (subcommand_rows_of m ≡ Some (name, rows_of (found_in given))) × HasNeededValues name (rows_of (found_in given))
 entered_is m given name (called, found, is, needs) n r =

@@ -68,10 +68,10 @@ pub record SpellsCommand (words : List Text) (line : CommandLine) : Type 0 where
 -- States that the words may be refused with this fault. A clap error has a kind that clap's
 -- definition allows for the words' first fault, and never the kind `OutOfMemory`. For `help` and
 -- for an unknown subcommand, two kinds are allowed. `Memory` is allowed for any words.
-abbrev pub RefusesWords : List Text → CommandFault → Type 0
-RefusesWords words (Refused error) =
+abbrev pub MayRefuseWords : List Text → CommandFault → Type 0
+MayRefuseWords words (Refused error) =
     IsAmong (kind_of error) (fault_of ob0_app words) × ¬ (kind_of error ≡ OutOfMemory)
-RefusesWords words Memory = Unit {0}
+MayRefuseWords words Memory = Unit {0}
 
 -- ---- the values that clap finds for the arguments of a subcommand, and their kinds
 
@@ -113,6 +113,6 @@ HasNeededValues name rows = (name ≡ codes "serve") ⊎ ((name ≡ codes "check
 
 -- States that a subcommand was found, and that it has a value of the right kind for each argument
 -- that it needs.
-abbrev pub IsCompleteCommand : FoundSubcommand → Type 0
-IsCompleteCommand found =
+abbrev pub IsCompleteSubcommand : FoundSubcommand → Type 0
+IsCompleteSubcommand found =
     (name : Text) × (rows : List Row) × (found ≡ Some (name, rows)) × HasNeededValues name rows

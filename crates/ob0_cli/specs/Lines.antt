@@ -7,12 +7,12 @@ use Rattle.clap.specs.declared.builder.value_parser.ValueParser.TheVariants.{Sig
 
 -- Returns clap's rule for the required argument `id`, whose value is any word of the command line.
 -- The help shows the value under one name, such as FILE.
-abbrev pub word_rule : Text → Rule
-word_rule id = record (new_rule id) { action = Some Set; value_names = 1; required = true }
+abbrev pub required_word_rule : Text → Rule
+required_word_rule id = record (new_rule id) { action = Some Set; value_names = 1; required = true }
 
 -- Returns clap's rule for a required argument whose value is an unsigned number of 64 bits.
-abbrev pub number_rule : Text → Rule
-number_rule id = record (word_rule id) { parser = Some (Unsigned 0 18446744073709551615) }
+abbrev pub required_number_rule : Text → Rule
+required_number_rule id = record (required_word_rule id) { parser = Some (Unsigned 0 18446744073709551615) }
 
 -- The greatest value of the option `--calls`. The option limits how many calls may be open at a
 -- time in a run.
@@ -50,8 +50,8 @@ stdio_rule =
 
 -- clap's rule for the option `--clientProcessId`, the client's process (LSP 3.17, implementation
 -- considerations). Any word is accepted and ignored.
-abbrev pub client_rule : Rule
-client_rule =
+abbrev pub client_process_rule : Rule
+client_process_rule =
     record (new_rule (codes "client")) { long = Some (codes "clientProcessId"); value_names = 1 }
 
 -- The subcommand `serve` without its options. On a command line, each option may occur several
@@ -63,26 +63,26 @@ serve_without_options =
 
 -- The subcommand `serve`, which accepts no words except its two options.
 abbrev pub serve : App
-serve = with_rule (with_rule serve_without_options stdio_rule) client_rule
+serve = with_rule (with_rule serve_without_options stdio_rule) client_process_rule
 
 -- The subcommand `ob0 check FILE`.
 abbrev pub check : App
-check = with_rule (new_app (codes "check")) (word_rule (codes "file"))
+check = with_rule (new_app (codes "check")) (required_word_rule (codes "file"))
 
 -- The subcommand `ob0 run FILE [--calls N] [--turns N]`.
 abbrev pub run : App
 run =
-    with_rule (with_rule (with_rule (new_app (codes "run")) (word_rule (codes "file"))) calls_rule)
+    with_rule (with_rule (with_rule (new_app (codes "run")) (required_word_rule (codes "file"))) calls_rule)
     turns_rule
 
 -- The subcommand `ob0 rename FILE LINE COLUMN NAME`.
 abbrev pub rename : App
 rename =
     with_rule (with_rule (with_rule (with_rule (new_app (codes "rename"))
-    (word_rule (codes "file")))
-    (number_rule (codes "line")))
-    (number_rule (codes "column")))
-    (word_rule (codes "name"))
+    (required_word_rule (codes "file")))
+    (required_number_rule (codes "line")))
+    (required_number_rule (codes "column")))
+    (required_word_rule (codes "name"))
 
 -- The program `ob0` without its subcommands. It has a version, and requires one subcommand.
 abbrev pub ob0_without_subcommands : App

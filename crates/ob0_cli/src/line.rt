@@ -18,9 +18,9 @@
 
 ghost use Rattle.std.specs.Prelude.{◌≡◌, ◌≢◌, ◌≤◌, Some, false, true, IfOk, IfErr, MatchOption, map};
 ghost use Rattle.clap.specs.Words.{App, Rule, app_of, first_of, found_of, new_app, rows_of, rule_of, subcommand_rows_of, with_rule, with_subcommand};
-ghost use Rattle.ob0_cli.specs.Given.{SpellsCommand, IsCompleteCommand, HasBoundedValue, HasCoordinateValue, HasTextValue, HasFoundValues, HasNumberValue, YieldsCommandLine, HasFilePath, HasNeededValues, RefusesWords, max_option_value};
+ghost use Rattle.ob0_cli.specs.Given.{SpellsCommand, IsCompleteSubcommand, HasBoundedValue, HasCoordinateValue, HasTextValue, HasFoundValues, HasNumberValue, YieldsCommandLine, HasFilePath, HasNeededValues, MayRefuseWords, max_option_value};
 ghost use Rattle.ob0_cli.specs.declared.line.CommandLine.TheVariants.{Serve};
-ghost use Rattle.ob0_cli.specs.Lines.{client_rule, ob0_without_subcommands, ob0_app, calls_rule, check as check_app, number_rule, rename as rename_app, run as run_app, serve as serve_app, serve_without_options as serve_app_without_options, stdio_rule, turns_rule, word_rule};
+ghost use Rattle.ob0_cli.specs.Lines.{client_process_rule, ob0_without_subcommands, ob0_app, calls_rule, check as check_app, required_number_rule, rename as rename_app, run as run_app, serve as serve_app, serve_without_options as serve_app_without_options, stdio_rule, turns_rule, required_word_rule};
 
 use clap::error::ErrorKind;
 use clap::{Arg, ArgAction, ArgMatches, Command, Error, value_parser};
@@ -30,7 +30,7 @@ use std::alloc::{AllocError, Global};
 const VERSION: &str = "0.1.0";
 
 /// The end of the program's help: the exit statuses of all commands.
-const STATUS_NOTES: &str = "\
+const OB0_AFTER_HELP: &str = "\
 Exit status:
   0  all went well
   1  the module is wrong, its run ends with a fault or the edit is refused;
@@ -43,7 +43,7 @@ Exit status:
 
 `ob0 help COMMAND` says what a command reads and prints.";
 
-const SERVE_NOTES: &str = "\
+const SERVE_AFTER_HELP: &str = "\
 An editor starts this. Columns are counted in UTF-16 units, or in bytes of UTF-8
 where the client offers that. A fault is printed to standard error as
 `fault: NAME`.
@@ -56,7 +56,7 @@ Exit status:
   4  a message can't be read or written
   5  out of memory";
 
-const CHECK_NOTES: &str = "\
+const CHECK_AFTER_HELP: &str = "\
 A line `LINE:COLUMN: CODE: MESSAGE` is printed for each of at most 100 faults,
 and nothing for a correct module. Lines and columns count from 0, columns in
 UTF-16 units; the lines and columns that an editor shows count from 1.
@@ -72,7 +72,7 @@ Exit status:
   4  the file can't be read or isn't UTF-8, or the output can't be written
   5  out of memory";
 
-const RUN_NOTES: &str = "\
+const RUN_AFTER_HELP: &str = "\
 The numbers are read first, to the end of standard input, and then the module
 runs, also one that reads none. They are whole numbers from -2147483648 to
 2147483647 between spaces or line ends. In a terminal Ctrl-D at the start of a
@@ -99,7 +99,7 @@ Exit status:
      the file can't be read or isn't UTF-8, or the output can't be written
   5  out of memory";
 
-const RENAME_NOTES: &str = "\
+const RENAME_AFTER_HELP: &str = "\
 LINE and COLUMN are a place in the name or at its end. They count from 0, COLUMN
 in UTF-16 units; the lines and columns that an editor shows count from 1.
 The new text is printed, and the file stays as it is (so don't print into that
@@ -179,7 +179,7 @@ pub enum CommandFault {
 /// request no command. The first word is the program's name.
 pub fn command<'a>(alloc: Global, words: &'a [&'a str]) -> Result<CommandLine<'a>, CommandFault>
     ensures gives { IfOk result (SpellsCommand (map (λ w. w.now) words.entry.now)) }
-    ensures refuses { IfErr result (RefusesWords (map (λ w. w.now) words.entry.now)) }
+    ensures refuses { IfErr result (MayRefuseWords (map (λ w. w.now) words.entry.now)) }
 {
     match ob0_definition(alloc) {
         Ok(ob0_definition) => parse_command_line(ob0_definition, words),
@@ -194,7 +194,7 @@ fn parse_command_line<'a>(
 ) -> Result<CommandLine<'a>, CommandFault>
     requires { app_of ob0_definition ≡ ob0_app }
     ensures gives { IfOk result (SpellsCommand (map (λ w. w.now) words.entry.now)) }
-    ensures refuses { IfErr result (RefusesWords (map (λ w. w.now) words.entry.now)) }
+    ensures refuses { IfErr result (MayRefuseWords (map (λ w. w.now) words.entry.now)) }
 {
     match ob0_definition.try_get_matches_from(words) {
         Ok(matches) => Ok(command_line_of(&matches)),
@@ -208,7 +208,7 @@ fn parse_command_line<'a>(
 
 /// Returns the `CommandLine` for the subcommand that clap found, with the values of its arguments.
 fn command_line_of<'a>(matches: &ArgMatches<'a>) -> CommandLine<'a>
-    requires { IsCompleteCommand (subcommand_rows_of matches.now) }
+    requires { IsCompleteSubcommand (subcommand_rows_of matches.now) }
     ensures { YieldsCommandLine (subcommand_rows_of matches.now) result }
 {
     match matches.subcommand() {
@@ -247,6 +247,7 @@ fn command_line_for_subcommand<'a>(name: &str, given: &ArgMatches<'a>) -> Comman
     }
 }
 
+/// Returns the text that clap found for the argument `id`.
 fn text_value_of<'a>(given: &ArgMatches<'a>, id: &str) -> &'a str
     requires { HasTextValue id.now (rows_of (found_of given.now)) }
     ensures { first_of id.now (rows_of (found_of given.now)) ≡ Some result.now }
@@ -257,6 +258,8 @@ fn text_value_of<'a>(given: &ArgMatches<'a>, id: &str) -> &'a str
     }
 }
 
+/// Returns the number that clap found for the option `id`, `--calls` or `--turns`. The number is at
+/// most the greatest value of that option.
 fn bounded_value_of(given: &ArgMatches<'_>, id: &str) -> u32
     requires { HasBoundedValue id.now (rows_of (found_of given.now)) }
     ensures number { HasNumberValue id.now (rows_of (found_of given.now)) result }
@@ -268,6 +271,7 @@ fn bounded_value_of(given: &ArgMatches<'_>, id: &str) -> u32
     }
 }
 
+/// Returns the number that clap found for the argument `id`, a line or a column.
 fn coordinate_value_of(given: &ArgMatches<'_>, id: &str) -> u64
     requires { HasCoordinateValue id.now (rows_of (found_of given.now)) }
     ensures { HasNumberValue id.now (rows_of (found_of given.now)) result }
@@ -326,9 +330,14 @@ fn add_argument<'a>(
 fn program_without_subcommands<'a>(alloc: Global) -> Command<'a>
     ensures { app_of result ≡ ob0_without_subcommands }
 {
-    command_with_help(alloc, "ob0", "A language server for Oberon-0", STATUS_NOTES)
-        .version(VERSION)
-        .subcommand_required(true)
+    command_with_help(
+        alloc,
+        "ob0",
+        "A language server for Oberon-0",
+        OB0_AFTER_HELP,
+    )
+    .version(VERSION)
+    .subcommand_required(true)
 }
 
 /// Makes a command without arguments. The help begins with the text `about` and ends with the text
@@ -350,7 +359,7 @@ fn serve_definition<'a>(alloc: Global) -> Result<Command<'a>, AllocError>
     ensures { IfOk result (λ c. app_of c ≡ serve_app) }
 {
     let with_stdio = add_argument(Ok(serve_without_options(alloc)), stdio_argument(alloc));
-    add_argument(with_stdio, client_argument(alloc))
+    add_argument(with_stdio, client_process_argument(alloc))
 }
 
 /// Makes the subcommand `serve` without its options. On a command line, each option may occur
@@ -362,7 +371,7 @@ fn serve_without_options<'a>(alloc: Global) -> Command<'a>
         alloc,
         "serve",
         "Serve one conversation with an editor over standard input and output",
-        SERVE_NOTES,
+        SERVE_AFTER_HELP,
     )
     .args_override_self(true)
 }
@@ -377,8 +386,8 @@ fn stdio_argument<'a>(alloc: Global) -> Arg<'a>
         .help("Changes nothing: serve always uses standard input and output")
 }
 
-fn client_argument<'a>(alloc: Global) -> Arg<'a>
-    ensures rule { rule_of result ≡ client_rule }
+fn client_process_argument<'a>(alloc: Global) -> Arg<'a>
+    ensures rule { rule_of result ≡ client_process_rule }
     ensures own { result.global ≡ false }
 {
     Arg::new(alloc, "client")
@@ -395,7 +404,7 @@ fn check_definition<'a>(alloc: Global) -> Result<Command<'a>, AllocError>
         alloc,
         "check",
         "Print what is wrong with a module",
-        CHECK_NOTES,
+        CHECK_AFTER_HELP,
     )
     .arg(file)
 }
@@ -408,7 +417,7 @@ fn run_definition<'a>(alloc: Global) -> Result<Command<'a>, AllocError>
         alloc,
         "run",
         "Run a module on the numbers of standard input",
-        RUN_NOTES,
+        RUN_AFTER_HELP,
     );
     let with_file = add_argument(Ok(alone), file);
     let with_calls = add_argument(with_file, calls_argument(alloc));
@@ -423,7 +432,7 @@ fn rename_definition<'a>(alloc: Global) -> Result<Command<'a>, AllocError>
         alloc,
         "rename",
         "Print a module with another name for one of its names",
-        RENAME_NOTES,
+        RENAME_AFTER_HELP,
     );
     let with_file = add_argument(Ok(alone), file);
     let line = number_argument(
@@ -449,7 +458,7 @@ fn rename_definition<'a>(alloc: Global) -> Result<Command<'a>, AllocError>
 /// Makes a required argument whose value is a word. `shown` is the name of the value in the help,
 /// and `help` explains the argument.
 fn word_argument<'a>(alloc: Global, id: &'a str, shown: &'a str, help: &'a str) -> Arg<'a>
-    ensures rule { rule_of result ≡ word_rule id.entry.now }
+    ensures rule { rule_of result ≡ required_word_rule id.entry.now }
     ensures own { result.global ≡ false }
 {
     Arg::new(alloc, id)
@@ -462,7 +471,7 @@ fn word_argument<'a>(alloc: Global, id: &'a str, shown: &'a str, help: &'a str) 
 /// Makes a required argument whose value is an unsigned number of 64 bits. `shown` is the name of
 /// the value in the help, and `help` explains the argument.
 fn number_argument<'a>(alloc: Global, id: &'a str, shown: &'a str, help: &'a str) -> Arg<'a>
-    ensures rule { rule_of result ≡ number_rule id.entry.now }
+    ensures rule { rule_of result ≡ required_number_rule id.entry.now }
     ensures own { result.global ≡ false }
 {
     word_argument(alloc, id, shown, help).value_parser(value_parser!(u64))

@@ -8,23 +8,23 @@ use Rattle.ob0_text.specs.declared.position_types.Position.{Position}
 use Rattle.ob0_text.specs.declared.position_types.Unit.{Unit}
 use Rattle.ob0_text.specs.declared.position_types.Unit.TheVariants.{Utf16}
 use Rattle.ob0_text.specs.declared.refusals.EditRefusal.{EditRefusal}
-use Rattle.ob0_scan.specs.TextWithTokens.{IsScanOf, TextWithTokens, max_text}
+use Rattle.ob0_scan.specs.TextWithTokens.{IsScanOf, TextWithTokens, max_text_length}
 use Rattle.ob0_analysis.specs.Texts.{utf8}
-use Rattle.ob0_edits.specs.Renamings.{FindsRenameResult}
-use Rattle.ob0_commands.specs.Renamed.{PrintsRefusal, PrintsEditedText, PrintsRenamed, RefusesName}
+use Rattle.ob0_edits.specs.Renamings.{IsOptionalRenameResult}
+use Rattle.ob0_commands.specs.Renamed.{PrintsRefusal, PrintsEditedText, PrintsRenamedText, RefusesName}
 use Rattle.ob0_commands.specs.Statuses.{IsTextFile}
 
 -- A scanned text isn't too long.
 text_file : (text : List ℕ) (s : TextWithTokens) → IsUtf8 text → IsScanOf (utf8 (chars text)) s → IsTextFile text
-text_file text s u scan = (subst (λ (t : List ℕ). length t ≤ max_text) (scan.of ∙ encodes-chars text u) scan.scan.short, u)
+text_file text s u scan = (subst (λ (t : List ℕ). length t ≤ max_text_length) (scan.of ∙ encodes-chars text u) scan.scan.short, u)
 
 -- The result for a store in UTF-16 units that holds the text is a result for the text.
 pub found_in_text : (unit : Unit) (content text : List ℕ) (place : Position) (new : List ℕ) (found : Option (Result (Vec Edit Global) EditRefusal)) (outcome : Result (Vec Edit Global) EditRefusal)
-    → unit ≡ Utf16 → content ≡ chars text → found ≡ Some outcome → FindsRenameResult unit content place new found → FindsRenameResult Utf16 (chars text) place new (Some outcome)
+    → unit ≡ Utf16 → content ≡ chars text → found ≡ Some outcome → IsOptionalRenameResult unit content place new found → IsOptionalRenameResult Utf16 (chars text) place new (Some outcome)
 found_in_text unit content text place new found outcome counts holds is h =
-    let here : FindsRenameResult unit content place new (Some outcome) = subst (λ (a : Option (Result (Vec Edit Global) EditRefusal)). FindsRenameResult unit content place new a) is h in
-    let in_unit : FindsRenameResult Utf16 content place new (Some outcome) = subst (λ (u : Unit). FindsRenameResult u content place new (Some outcome)) counts here in
-    subst (λ (t : List ℕ). FindsRenameResult Utf16 t place new (Some outcome)) holds in_unit
+    let here : IsOptionalRenameResult unit content place new (Some outcome) = subst (λ (a : Option (Result (Vec Edit Global) EditRefusal)). IsOptionalRenameResult unit content place new a) is h in
+    let in_unit : IsOptionalRenameResult Utf16 content place new (Some outcome) = subst (λ (u : Unit). IsOptionalRenameResult u content place new (Some outcome)) counts here in
+    subst (λ (t : List ℕ). IsOptionalRenameResult Utf16 t place new (Some outcome)) holds in_unit
 
 pub edited_in_text : (unit : Unit) (content text : List ℕ) (outcome : Result (Vec Edit Global) EditRefusal) (before after : Option (List ℕ))
     → unit ≡ Utf16 → content ≡ chars text → PrintsEditedText unit content outcome before after → PrintsEditedText Utf16 (chars text) outcome before after
@@ -33,11 +33,11 @@ edited_in_text unit content text outcome before after counts holds h =
     subst (λ (t : List ℕ). PrintsEditedText Utf16 t outcome before after) holds in_unit
 
 pub prints_renamed : (text : List ℕ) (place : Position) (new : List ℕ) (outcome : Result (Vec Edit Global) EditRefusal) (before after : Option (List ℕ))
-    → IsUtf8 text → FindsRenameResult Utf16 (chars text) place new (Some outcome) → PrintsEditedText Utf16 (chars text) outcome before after → PrintsRenamed text place new before after
+    → IsUtf8 text → IsOptionalRenameResult Utf16 (chars text) place new (Some outcome) → PrintsEditedText Utf16 (chars text) outcome before after → PrintsRenamedText text place new before after
 prints_renamed text place new (Ok edits) before after u h p = record { has_text = text_file text h.names.module_read.source u h.read.scan; edits = edits.items; rename = h; prints = p }
 prints_renamed text place new (Err refusal) before after u h p = absurd p
 
 pub refuses_name : (text : List ℕ) (place : Position) (new : List ℕ) (outcome : Result (Vec Edit Global) EditRefusal) (before after : Option (List ℕ))
-    → IsUtf8 text → FindsRenameResult Utf16 (chars text) place new (Some outcome) → (IsPrintedOnStderr : Option (List ℕ) → Type 0) → PrintsRefusal outcome IsPrintedOnStderr → after ≡ before → RefusesName text place new before after IsPrintedOnStderr
+    → IsUtf8 text → IsOptionalRenameResult Utf16 (chars text) place new (Some outcome) → (IsPrintedOnStderr : Option (List ℕ) → Type 0) → PrintsRefusal outcome IsPrintedOnStderr → after ≡ before → RefusesName text place new before after IsPrintedOnStderr
 refuses_name text place new (Ok edits) before after u h IsPrintedOnStderr p e = absurd p
 refuses_name text place new (Err refusal) before after u h IsPrintedOnStderr p e = record { has_text = text_file text h.names.module_read.source u h.read.scan; refusal = refusal; refused = h; nothing = e; said = p }

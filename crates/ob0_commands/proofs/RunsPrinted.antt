@@ -11,9 +11,9 @@ use Rattle.ob0_run_machine.specs.declared.running.Outcome.{Outcome}
 use Rattle.ob0_run.specs.Outcomes.{meaning_of_end, output_items, run_of}
 use Rattle.ob0_commands.specs.declared.faults.FileFault.{FileFault}
 use Rattle.ob0_commands.specs.declared.faults.FileFault.TheVariants as fault
-use Rattle.ob0_commands.specs.Numbers.{IsUnusableInput, IsInputOf}
+use Rattle.ob0_commands.specs.Numbers.{IsUnusableInput, IsValidInputOf}
 use Rattle.ob0_commands.specs.Printed.{PrintsDiagnostics, run_end_line, output_text}
-use Rattle.ob0_commands.specs.Statuses.{IsNonUtf8File, IsFaultOrMemory, MayStopRun, run_end_status}
+use Rattle.ob0_commands.specs.Statuses.{IsShortNonUtf8File, IsGivenFaultOrMemory, MayStopRun, run_end_status}
 use Rattle.ob0_commands.specs.TextRuns.{IsLoweredTo, PrintsCompleteRun, PrintsErrorsOrStoppedRun, PrintsRun, TextRunsAs}
 
 -- If the status is 0, the run reached the end of the module's body.
@@ -37,7 +37,7 @@ ended_otherwise end.CallBound n is one = λ e. cc
 ended_otherwise end.TurnBound n is one = λ e. cc
 
 pub prints_run : (file text : List ℕ) (given : Option (List ℕ)) (c t : ℕ) (before mid after : Option (List ℕ)) (numbers input : List ℤ) (o : Outcome) (items : List Item)
-    → text ≡ file → mid ≡ before → input ≡ numbers → IfSome given (IsInputOf numbers) → TextRunsAs text input c t (run_of o) → items ≡ o.output.items → Appends mid after (output_text (output_items items))
+    → text ≡ file → mid ≡ before → input ≡ numbers → IfSome given (IsValidInputOf numbers) → TextRunsAs text input c t (run_of o) → items ≡ o.output.items → Appends mid after (output_text (output_items items))
     → PrintsRun file given c t before after (run_of o)
 prints_run file text given c t before mid after numbers input o items same kept is written runs all printed = record {
   input = numbers;
@@ -61,8 +61,8 @@ prints_wrong file text given c t before mid after same kept wrong IsPrintedOnStd
     inl (subst (λ (b : Option (List ℕ)). PrintsDiagnostics file b after) kept (subst (λ (f : List ℕ). PrintsDiagnostics f mid after) same wrong), silent)
 
 -- If reading the numbers fails, `run` may stop with that fault.
-pub stops_reading : (file text : List ℕ) (program : Program) (given : Option (List ℕ)) (failed : Bool) (Otherwise : Type 0) (f : FileFault) → text ≡ file → IsLoweredTo text program → ¬ (IsNonUtf8File file)
-    → IsFaultOrMemory fault.Input (IsUnusableInput given failed) Otherwise f → MayStopRun file given failed f
+pub stops_reading : (file text : List ℕ) (program : Program) (given : Option (List ℕ)) (failed : Bool) (Otherwise : Type 0) (f : FileFault) → text ≡ file → IsLoweredTo text program → ¬ (IsShortNonUtf8File file)
+    → IsGivenFaultOrMemory fault.Input (IsUnusableInput given failed) Otherwise f → MayStopRun file given failed f
 stops_reading file text program given failed Otherwise f same lowered readable (inl none) =
     let module_there : IsWellTypedModule text = record { tree = lowered.tree; text_of = lowered.text_of; well_typed = lowered.well_typed } in
     inl (none.0, (subst IsWellTypedModule same module_there, none.1))

@@ -8,15 +8,15 @@ use Rattle.ob0_cli.specs.declared.line.CommandLine.{CommandLine}
 use Rattle.ob0_cli.specs.declared.line.CommandLine.TheVariants.{Serve, Check, Run, Rename}
 use Rattle.ob0_commands.specs.Endings.{EndsByFault, EndsWithoutFault}
 use Rattle.ob0_commands.specs.Inputs.{ConsumesAtMost}
-use Rattle.ob0_commands.specs.Numbers.{max_input}
+use Rattle.ob0_commands.specs.Numbers.{max_input_length}
 use Rattle.ob0_commands.specs.Printed.{PrintsDiagnostics}
 use Rattle.ob0_commands.specs.Renamed.{RenameEndsWithoutFault}
-use Rattle.ob0_commands.specs.Statuses.{IsNonUtf8File, KeepsInputFailureUnlessInputFault, MayStopCommandOnFile, MayStopRun}
+use Rattle.ob0_commands.specs.Statuses.{IsShortNonUtf8File, KeepsInputFailureUnlessInputFault, MayStopCommandOnFile, MayStopRun}
 use Rattle.ob0_commands.specs.TextRuns.{RunEndsWithoutFault}
 
--- States that `check` ends with this status. With status 0, the file has no diagnostics, and nothing is printed. With
--- status 1, the file's errors are printed and flushed. With any other status, a fault ended the command
--- (`EndsByFault`).
+-- States that `check` ends with this status. With status 0, the file has no diagnostics, and
+-- nothing is printed. With status 1, the file's errors are printed and flushed. With any other
+-- status, a fault ended the command (`EndsByFault`).
 abbrev pub ChecksFile : {O : Type 0}
     → (contents : O → Option (List ℕ))
     → (is_flushed has_failed : O → Bool)
@@ -28,7 +28,7 @@ abbrev pub ChecksFile : {O : Type 0}
 ChecksFile contents is_flushed has_failed before after IsPrintedOnStderr file status =
     EndsWithoutFault (Reports file [] × (after ≡ before))
     (PrintsDiagnostics file (contents before) (contents after) × (is_flushed after ≡ true))
-    (¬ IsNonUtf8File file × (has_failed after ≡ has_failed before) × IsPrintedOnStderr None)
+    (¬ IsShortNonUtf8File file × (has_failed after ≡ has_failed before) × IsPrintedOnStderr None)
     status
     ⊎ EndsByFault has_failed before after file (MayStopCommandOnFile file) IsPrintedOnStderr status
 
@@ -50,7 +50,7 @@ abbrev pub RunsFile : {O I : Type 0}
     → Type 0
 RunsFile contents is_flushed has_failed before after IsPrintedOnStderr file remaining input_failed input input_after c t status =
     RunEndsWithoutFault contents is_flushed before after IsPrintedOnStderr file (remaining input) c t
-    (¬ IsNonUtf8File file × (has_failed after ≡ has_failed before)
+    (¬ IsShortNonUtf8File file × (has_failed after ≡ has_failed before)
     × (input_failed input_after ≡ input_failed input))
     status
     ⊎ EndsByFault has_failed before after file
@@ -73,15 +73,16 @@ abbrev pub RenamesInFile : {O : Type 0}
     → Type 0
 RenamesInFile contents is_flushed has_failed before after IsPrintedOnStderr file position new status =
     RenameEndsWithoutFault contents is_flushed before after IsPrintedOnStderr file position new
-    (¬ IsNonUtf8File file × (has_failed after ≡ has_failed before))
+    (¬ IsShortNonUtf8File file × (has_failed after ≡ has_failed before))
     status
     ⊎ EndsByFault has_failed before after file (MayStopCommandOnFile file) IsPrintedOnStderr status
 
--- States that the command of this command line ends with this status and has the effect that `ChecksFile`, `RunsFile`
--- or `RenamesInFile` describes. `input` and `input_after` are the input before and after the call. Only `run` reads
--- from the input: at most one byte over the limit `max_input`, and nothing if the file isn't a well-typed module. Never
--- holds for `serve`, which isn't a command on a file.
-abbrev pub PerformsOnFile : {O I : Type 0}
+-- States that the command of this command line ends with this status and has the effect that
+-- `ChecksFile`, `RunsFile` or `RenamesInFile` describes. `input` and `input_after` are the input
+-- before and after the call. Only `run` reads from the input: at most one byte over the limit
+-- `max_input_length`, and nothing if the file isn't a well-typed module. Never holds for `serve`,
+-- which isn't a command on a file.
+abbrev pub PerformsCommandOnFile : {O I : Type 0}
     → (contents : O → Option (List ℕ))
     → (is_flushed has_failed : O → Bool)
     → (before after : O)
@@ -93,14 +94,14 @@ abbrev pub PerformsOnFile : {O I : Type 0}
     → CommandLine
     → ℕ
     → Type 0
-PerformsOnFile contents is_flushed has_failed before after IsPrintedOnStderr file remaining input_failed input input_after Serve status =
+PerformsCommandOnFile contents is_flushed has_failed before after IsPrintedOnStderr file remaining input_failed input input_after Serve status =
     ⊥
-PerformsOnFile contents is_flushed has_failed before after IsPrintedOnStderr file remaining input_failed input input_after (Check path) status =
+PerformsCommandOnFile contents is_flushed has_failed before after IsPrintedOnStderr file remaining input_failed input input_after (Check path) status =
     ChecksFile contents is_flushed has_failed before after IsPrintedOnStderr file status × (input_after ≡ input)
-PerformsOnFile contents is_flushed has_failed before after IsPrintedOnStderr file remaining input_failed input input_after (Run path c t) status =
+PerformsCommandOnFile contents is_flushed has_failed before after IsPrintedOnStderr file remaining input_failed input input_after (Run path c t) status =
     RunsFile contents is_flushed has_failed before after IsPrintedOnStderr file remaining input_failed input input_after c t status
-    × ConsumesAtMost (suc max_input) (remaining input) (remaining input_after)
+    × ConsumesAtMost (suc max_input_length) (remaining input) (remaining input_after)
     × (¬ IsWellTypedModule file → input_after ≡ input)
-PerformsOnFile contents is_flushed has_failed before after IsPrintedOnStderr file remaining input_failed input input_after (Rename path position new) status =
+PerformsCommandOnFile contents is_flushed has_failed before after IsPrintedOnStderr file remaining input_failed input input_after (Rename path position new) status =
     RenamesInFile contents is_flushed has_failed before after IsPrintedOnStderr file position new.now status
     × (input_after ≡ input)

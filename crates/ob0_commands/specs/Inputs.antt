@@ -1,4 +1,5 @@
--- Defines the parts of a `TrackedReader`, and a bound on the bytes that are read from a reader.
+-- Defines what a `TrackedReader` holds: the wrapped reader, and whether a read has failed. Also
+-- defines a bound on the bytes that are read from a reader.
 -- Rule: none; used in the contracts of functions that read from an `Input`.
 use Rattle.std.specs.Prelude.{◌≤◌, ℕ, List, Option, Bool, length}
 use Rattle.std.specs.Io.KnownBytes.{Consumes}
@@ -12,9 +13,9 @@ wrapped_reader input = input.device
 abbrev pub input_failed : {R : Type 0} → TrackedReader R → Bool
 input_failed input = input.has_failed
 
--- States that at most `n` bytes of a reader were read. `before` and `after` are the reader's
--- remaining bytes before and after. If these bytes aren't known (None), nothing is stated about
--- them.
+-- States that at most `n` bytes were read from a reader. `before` and `after` are the reader's
+-- remaining bytes before and after the read. If these bytes aren't known (None), nothing is stated
+-- about them.
 pub record ConsumesAtMost (n : ℕ) (before after : Option (List ℕ)) : Type 0 where
   pub bytes : List ℕ
   pub taken : Consumes before after bytes

@@ -7,7 +7,7 @@ use Rattle.std.specs.Str.{chars}
 use Rattle.ob0_language_runs.specs.Runs.{PrintedItem, line_out, number_out}
 use Rattle.ob0_run_machine.specs.declared.running.End.{End}
 use Rattle.ob0_run_machine.specs.declared.running.End.TheVariants as end
-use Rattle.ob0_scan.specs.TextWithTokens.{max_text}
+use Rattle.ob0_scan.specs.TextWithTokens.{max_text_length}
 use Rattle.ob0_scan.specs.declared.fault.FaultCode.TheVariants.{TooLong}
 use Rattle.ob0_analysis.specs.Diagnosed.{ReportedDiagnosis, IsWellTypedModule, ReportsFaults, reported_diagnosis_of_fault}
 use Rattle.ob0_text.specs.Texts.{position_of}
@@ -68,7 +68,7 @@ too_long_line = diagnosis_line_at (record { line = 0; character = 0 }) too_long_
 -- stated about them.
 abbrev pub PrintsDiagnostics : List ℕ → Option (List ℕ) → Option (List ℕ) → Type 0
 PrintsDiagnostics file before after =
-    ((max_text < length file) × Appends before after too_long_line)
+    ((max_text_length < length file) × Appends before after too_long_line)
     ⊎ ((reported : List ReportedDiagnosis)
     × (¬ IsWellTypedModule file)
     × ReportsFaults file reported

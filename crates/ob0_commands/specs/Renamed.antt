@@ -4,14 +4,14 @@ use Rattle.std.specs.Prelude.{◌≡◌, ◌⊎◌, ℕ, List, Option, Some, Non
 use Rattle.std.specs.declared.alloc.Global.{Global}
 use Rattle.std.specs.Io.KnownBytes.{Appends}
 use Rattle.std.specs.Str.{IsUtf8, chars}
-use Rattle.ob0_text.specs.Patches.{patched}
+use Rattle.ob0_text.specs.Patches.{patched_text}
 use Rattle.ob0_text.specs.Units.{width_of}
 use Rattle.ob0_text.specs.declared.edits.Edit.{Edit}
 use Rattle.ob0_text.specs.declared.position_types.Position.{Position}
 use Rattle.ob0_text.specs.declared.position_types.Unit.{Unit}
 use Rattle.ob0_text.specs.declared.position_types.Unit.TheVariants.{Utf16}
 use Rattle.ob0_text.specs.declared.refusals.EditRefusal.{EditRefusal}
-use Rattle.ob0_edits.specs.Renamings.{IsRenameRefusedIn, RenamesIn}
+use Rattle.ob0_edits.specs.Renamings.{IsRenameRefusedInText, RenamesInText}
 use Rattle.ob0_commands.specs.Endings.{EndsWithoutFault}
 use Rattle.ob0_commands.specs.Outputs.{IsFlushedOrUnchanged}
 use Rattle.ob0_commands.specs.Printed.{PrintsDiagnostics}
@@ -25,7 +25,7 @@ pub record PrintsPatchedText (unit : Unit) (content : List ℕ) (edits : List Ed
     (before after : Option (List ℕ)) : Type 0 where
   pub text : List ℕ
   pub utf8 : IsUtf8 text
-  pub made : patched (width_of unit) content edits ≡ Some (chars text)
+  pub made : patched_text (width_of unit) content edits ≡ Some (chars text)
   pub printed : Appends before after text
 
 -- States that the third argument is `Ok` with edits that can be applied to the text `content`, and
@@ -49,22 +49,23 @@ PrintsRefusal (Ok edits) IsPrintedOnStderr = ⊥
 PrintsRefusal (Err refusal) IsPrintedOnStderr = IsPrintedOnStderr (Some (refusal_line refusal))
 
 -- States that the file has a text (`IsTextFile`), and that this text is printed with the
--- declaration at the position renamed to `new`. `edits` are the edits that rename the declaration.
--- Positions count UTF-16 units.
-pub record PrintsRenamed (file : List ℕ) (position : Position) (new : List ℕ)
+-- declaration or field at the position renamed to `new`. `edits` are the edits of this renaming.
+-- Positions are counted in UTF-16 units.
+pub record PrintsRenamedText (file : List ℕ) (position : Position) (new : List ℕ)
     (before after : Option (List ℕ)) : Type 0 where
   pub has_text : IsTextFile file
   pub edits : List Edit
-  pub rename : RenamesIn Utf16 (chars file) position new edits
+  pub rename : RenamesInText Utf16 (chars file) position new edits
   pub prints : PrintsPatchedText Utf16 (chars file) edits before after
 
--- States that the file has a text (`IsTextFile`), but that renaming the declaration at the position
--- to `new` is refused. The refusal is printed on standard error, and the output is unchanged.
+-- States that the file has a text (`IsTextFile`), but that renaming the declaration or field at the
+-- position to `new` is refused. The refusal is printed on standard error, and the output is
+-- unchanged.
 pub record RefusesName (file : List ℕ) (position : Position) (new : List ℕ)
     (before after : Option (List ℕ)) (IsPrintedOnStderr : Option (List ℕ) → Type 0) : Type 0 where
   pub has_text : IsTextFile file
   pub refusal : EditRefusal
-  pub refused : IsRenameRefusedIn Utf16 (chars file) position new refusal
+  pub refused : IsRenameRefusedInText Utf16 (chars file) position new refusal
   pub nothing : after ≡ before
   pub said : IsPrintedOnStderr (Some (refusal_line refusal))
 
@@ -98,7 +99,7 @@ abbrev pub RenameEndsWithoutFault : {O : Type 0}
     → Type 0
 RenameEndsWithoutFault contents is_flushed before after IsPrintedOnStderr file position new =
     EndsWithoutFault
-    (PrintsRenamed file position new (contents before) (contents after)
+    (PrintsRenamedText file position new (contents before) (contents after)
     × (is_flushed after ≡ true)
     × IsPrintedOnStderr None)
     (PrintsErrorsOrRefusal file position new (contents before) (contents after) IsPrintedOnStderr

@@ -2,7 +2,7 @@
 -- Rule: docs/PROTOCOL.md, The program 8.
 use Rattle.std.specs.Prelude.{◌≡◌, ◌≢◌, ◌≤◌, ◌⊎◌, ℕ, List, Option, Bool, true, length}
 use Rattle.std.specs.Str.{IsUtf8}
-use Rattle.ob0_scan.specs.TextWithTokens.{max_text}
+use Rattle.ob0_scan.specs.TextWithTokens.{max_text_length}
 use Rattle.ob0_analysis.specs.Diagnosed.{IsWellTypedModule}
 use Rattle.ob0_run_machine.specs.declared.running.End.{End}
 use Rattle.ob0_run_machine.specs.declared.running.End.TheVariants as end
@@ -25,21 +25,21 @@ IsWriteOrMemory f = (f ≡ fault.Write) ⊎ (f ≡ fault.Memory)
 
 -- States that the file has a text: the file isn't too long, and its bytes are UTF-8.
 abbrev pub IsTextFile : List ℕ → Type 0
-IsTextFile file = (length file ≤ max_text) × IsUtf8 file
+IsTextFile file = (length file ≤ max_text_length) × IsUtf8 file
 
 -- States that the file isn't too long, but that its bytes aren't UTF-8.
-abbrev pub IsNonUtf8File : List ℕ → Type 0
-IsNonUtf8File file = (length file ≤ max_text) × ¬ (IsUtf8 file)
+abbrev pub IsShortNonUtf8File : List ℕ → Type 0
+IsShortNonUtf8File file = (length file ≤ max_text_length) × ¬ (IsUtf8 file)
 
--- States that this fault may stop a command on this file. The fault is `Utf8` if the file isn't UTF-8
--- (`IsNonUtf8File`). Otherwise it is `Write` or `Memory`.
+-- States that this fault may stop a command on this file. The fault is `Utf8` if the file isn't
+-- UTF-8 (`IsShortNonUtf8File`). Otherwise it is `Write` or `Memory`.
 abbrev pub MayStopCommandOnFile : List ℕ → FileFault → Type 0
 MayStopCommandOnFile file f =
-    ((f ≡ fault.Utf8) × IsNonUtf8File file) ⊎ (IsWriteOrMemory f × ¬ (IsNonUtf8File file))
+    ((f ≡ fault.Utf8) × IsShortNonUtf8File file) ⊎ (IsWriteOrMemory f × ¬ (IsShortNonUtf8File file))
 
 -- States that the fault `Memory` occurs only if the file isn't too long.
 abbrev pub IsMemoryFaultOnlyForShortFile : List ℕ → FileFault → Type 0
-IsMemoryFaultOnlyForShortFile file f = f ≡ fault.Memory → length file ≤ max_text
+IsMemoryFaultOnlyForShortFile file f = f ≡ fault.Memory → length file ≤ max_text_length
 
 -- States that the output is unchanged, unless the fault is `Write`. `before` and `after` are the
 -- output before and after the call.
@@ -48,8 +48,8 @@ PrintsNothingUnlessWriteFault before after f = f ≢ fault.Write → after ≡ b
 
 -- States that the fault is `name` and `reason` holds, or that the fault is `Memory` and `otherwise`
 -- holds.
-abbrev pub IsFaultOrMemory : (name : FileFault) → (reason otherwise : Type 0) → FileFault → Type 0
-IsFaultOrMemory name reason otherwise f = ((f ≡ name) × reason) ⊎ ((f ≡ fault.Memory) × otherwise)
+abbrev pub IsGivenFaultOrMemory : (name : FileFault) → (reason otherwise : Type 0) → FileFault → Type 0
+IsGivenFaultOrMemory name reason otherwise f = ((f ≡ name) × reason) ⊎ ((f ≡ fault.Memory) × otherwise)
 
 -- Returns the exit status for this end of a run: 0 for `Done`, and 1 for a fault or an exceeded
 -- bound.
@@ -65,8 +65,8 @@ run_end_status end.TurnBound = 1
 -- States how a command's fault determines whether the output has failed. `before` and `after` say
 -- whether the output has failed, before and after the call. If the fault is `Write`, `after` is
 -- true. For any other fault, `after` equals `before`.
-abbrev pub OutputFailureMatches : (before after : Bool) → FileFault → Type 0
-OutputFailureMatches before after f =
+abbrev pub OutputFailureMatchesFault : (before after : Bool) → FileFault → Type 0
+OutputFailureMatchesFault before after f =
     (f ≡ fault.Write → after ≡ true) × (f ≢ fault.Write → after ≡ before)
 
 -- ---- the faults that stop `run`
@@ -82,8 +82,9 @@ ModuleLacksUsableInput file given input_failed = IsWellTypedModule file × IsUnu
 abbrev pub KeepsInputFailureUnlessInputFault : (before after : Bool) → FileFault → Type 0
 KeepsInputFailureUnlessInputFault before after f = f ≢ fault.Input → after ≡ before
 
--- States that this fault may stop `run` on this file and this input. The fault is `Input`, and the module has no valid
--- input. Or it is a fault that may stop any command on the file (`MayStopCommandOnFile`).
+-- States that this fault may stop `run` on this file and this input. The fault is `Input`, and the
+-- module has no valid input. Or it is a fault that may stop any command on the file
+-- (`MayStopCommandOnFile`).
 abbrev pub MayStopRun : List ℕ → Option (List ℕ) → (input_failed : Bool) → FileFault → Type 0
 MayStopRun file given input_failed f =
     ((f ≡ fault.Input) × ModuleLacksUsableInput file given input_failed) ⊎ MayStopCommandOnFile file f

@@ -6,29 +6,29 @@ use Rattle.ob0_tree.specs.Tree.{Tree, module_text}
 use Rattle.ob0_language_names.specs.Names.{Name}
 use Rattle.ob0_language_types.specs.WellTyped.{WellTyped}
 use Rattle.ob0_language_runs.specs.Runs.{Run, run}
-use Rattle.ob0_analysis.specs.Diagnosed.{IsTextOf}
+use Rattle.ob0_analysis.specs.Diagnosed.{IsTextOfTree}
 use Rattle.ob0_run.specs.Outcomes.{meaning_of_end}
 use Rattle.ob0_run.specs.Programs as lowered
 use Rattle.ob0_run_lowering.specs.declared.programs.Program.{Program}
 use Rattle.ob0_run_machine.specs.declared.running.End.{End}
 use Rattle.ob0_run_machine.specs.declared.running.End.TheVariants as end
 use Rattle.ob0_commands.specs.Endings.{EndsWithoutFault}
-use Rattle.ob0_commands.specs.Numbers.{IsInputOf}
+use Rattle.ob0_commands.specs.Numbers.{IsValidInputOf}
 use Rattle.ob0_commands.specs.Printed.{PrintsDiagnostics, run_end_line, output_text}
 
 -- States that the text is a well-typed module and that `r` is its run on this input. At most `c`
 -- calls are open at a time, and each execution of a loop has at most `t` iterations.
 pub record TextRunsAs (text : List ℕ) (input : List ℤ) (c t : ℕ) (r : Run) : Type 0 where
   pub tree : Tree Name module_text
-  pub text_of : IsTextOf tree text
+  pub text_of : IsTextOfTree tree text
   pub well_typed : WellTyped tree
   pub is : r ≡ run tree input c t
 
 -- States that the text is a well-typed module and that this program runs like the module
--- (`RunsAs`). Lowering the module gives such a program.
+-- (`RunsAs`).
 pub record IsLoweredTo (text : List ℕ) (program : Program) : Type 0 where
   pub tree : Tree Name module_text
-  pub text_of : IsTextOf tree text
+  pub text_of : IsTextOfTree tree text
   pub well_typed : WellTyped tree
   pub runs : lowered.RunsAs tree program
 
@@ -38,7 +38,7 @@ pub record IsLoweredTo (text : List ℕ) (program : Program) : Type 0 where
 pub record PrintsRun (file : List ℕ) (given : Option (List ℕ)) (c t : ℕ)
     (before after : Option (List ℕ)) (r : Run) : Type 0 where
   pub input : List ℤ
-  pub written : IfSome given (IsInputOf input)
+  pub written : IfSome given (IsValidInputOf input)
   pub runs : TextRunsAs file input c t r
   pub printed : Appends before after (output_text r.output)
 

@@ -9,13 +9,13 @@ ghost use Rattle.std.specs.Mem.{manually_drop_value};
 ghost use Rattle.ob0_commands.specs.CommandEffects.{ChecksFile};
 ghost use Rattle.ob0_commands.specs.Printed.{PrintsDiagnostics, all_diagnosis_lines, diagnosis_line_at, diagnosis_lines_at, too_long_line};
 ghost use Rattle.ob0_commands.specs.StderrLines.{PrintsLine};
-ghost use Rattle.ob0_commands.specs.Statuses.{IsMemoryFaultOnlyForShortFile, IsNonUtf8File, OutputFailureMatches, PrintsNothingUnlessWriteFault, IsWriteOrMemory, MayStopCommandOnFile};
+ghost use Rattle.ob0_commands.specs.Statuses.{IsMemoryFaultOnlyForShortFile, IsShortNonUtf8File, OutputFailureMatchesFault, PrintsNothingUnlessWriteFault, IsWriteOrMemory, MayStopCommandOnFile};
 ghost use Rattle.ob0_commands.specs.declared.faults.FileFault.TheVariants as faults;
-ghost use Rattle.ob0_scan.specs.TextWithTokens.{max_text};
+ghost use Rattle.ob0_scan.specs.TextWithTokens.{max_text_length};
 ghost use Rattle.ob0_analysis.specs.Diagnosed.{Reports, reported_diagnosis_of};
 
 use crate::faults::{FileFault, print_fault};
-use crate::reading::MAX_BYTES_READ;
+use crate::reading::MAX_FILE_BYTES_READ;
 use crate::tracked_output::{Output, print};
 use ob0_analysis::{Analysis, Diagnosis};
 use ob0_text::{Lines, Position, TextStore};
@@ -32,7 +32,7 @@ pub fn check_text<O: Output, E: Output>(alloc: Global, file: &[u8], out: &mut O,
     ensures { ChecksFile O.contents O.is_flushed O.has_failed out.old out.new
         (PrintsLine E.contents E.is_flushed E.has_failed err.old err.new) file.now result }
 {
-    match check_file(alloc, file, out) {
+    match valid_text_or_print_diagnoses(alloc, file, out) {
         Ok(Some(_text)) => 0,
         Ok(None) => 1,
         Err(fault) => print_fault(fault, err),
@@ -42,7 +42,7 @@ pub fn check_text<O: Output, E: Output>(alloc: Global, file: &[u8], out: &mut O,
 /// Returns the text of a file that has no diagnostics. Otherwise prints the diagnostics, flushes
 /// and returns None. A file that has more bytes than a text may have gets only one diagnostic: it
 /// is too long. If the bytes of any other file aren't UTF-8, the fault is `Utf8`.
-pub fn check_file<'f, O: Output>(
+pub fn valid_text_or_print_diagnoses<'f, O: Output>(
     alloc: Global,
     file: &'f [u8],
     out: &mut O,
@@ -51,11 +51,11 @@ pub fn check_file<'f, O: Output>(
         (PrintsDiagnostics file.entry.now (O.contents out.old) (O.contents out.new))
         (λ text. (text.now ≡ file.entry.now) × Reports file.entry.now [] × (out.new ≡ out.old))) }
     ensures flushed { IfOk result (λ found. IfNone found (O.is_flushed out.new ≡ true)) }
-    ensures readable { OnOk result (¬ IsNonUtf8File file.entry.now) }
+    ensures readable { OnOk result (¬ IsShortNonUtf8File file.entry.now) }
     ensures unfailed { OnOk result (O.has_failed out.new ≡ O.has_failed out.old) }
     ensures fault { IfErr result (MayStopCommandOnFile file.entry.now) }
     ensures failed { IfErr result
-        (OutputFailureMatches (O.has_failed out.old) (O.has_failed out.new)) }
+        (OutputFailureMatchesFault (O.has_failed out.old) (O.has_failed out.new)) }
     ensures memory { IfErr result (IsMemoryFaultOnlyForShortFile file.entry.now) }
     ensures kept { IfErr result (PrintsNothingUnlessWriteFault out.old out.new) }
 {
@@ -74,13 +74,13 @@ pub fn check_file<'f, O: Output>(
 fn diagnose(alloc: Global, text: &str) -> Result<Vec<Diagnosis>, AllocError>
     ensures { IfOk result (λ list. Reports text.now (map reported_diagnosis_of list.items)) }
 {
-    let analysis = analyse(alloc, text)?;
+    let analysis = analyse_without_drop(alloc, text)?;
     analysis.diagnoses(alloc)
 }
 
 /// Returns the analysis of a text. The analysis is never dropped. The process ends soon and frees
 /// all memory at once, which is faster than freeing the analysis part by part.
-pub fn analyse(alloc: Global, text: &str) -> Result<ManuallyDrop<Analysis>, AllocError>
+pub fn analyse_without_drop(alloc: Global, text: &str) -> Result<ManuallyDrop<Analysis>, AllocError>
     ensures { IfOk result (λ analysis. manually_drop_value analysis ≡ text.now) }
 {
     let analysis = Analysis::analyse_text(alloc, text)?;
@@ -93,20 +93,20 @@ pub fn decode_or_print_too_long<'f, O: Output>(
     file: &'f [u8],
     out: &mut O,
 ) -> Result<Option<&'f str>, FileFault>
-    ensures found { IfOk result (λ found. MatchOption found ((max_text < length file.entry.now)
+    ensures found { IfOk result (λ found. MatchOption found ((max_text_length < length file.entry.now)
         × Appends (O.contents out.old) (O.contents out.new) too_long_line)
         (λ text. (text.now ≡ file.entry.now) × (out.new ≡ out.old))) }
     ensures flushed { IfOk result (λ found. IfNone found (O.is_flushed out.new ≡ true)) }
-    ensures readable { OnOk result (¬ IsNonUtf8File file.entry.now) }
+    ensures readable { OnOk result (¬ IsShortNonUtf8File file.entry.now) }
     ensures unfailed { OnOk result (O.has_failed out.new ≡ O.has_failed out.old) }
     ensures fault { IfErr result (MayStopCommandOnFile file.entry.now) }
     ensures failed { IfErr result
-        (OutputFailureMatches (O.has_failed out.old) (O.has_failed out.new)) }
-    ensures short { IfOk result (λ found. IfSome found (λ _. length file.entry.now ≤ max_text)) }
+        (OutputFailureMatchesFault (O.has_failed out.old) (O.has_failed out.new)) }
+    ensures short { IfOk result (λ found. IfSome found (λ _. length file.entry.now ≤ max_text_length)) }
     ensures memory { IfErr result (λ fault. fault ≢ faults.Memory) }
     ensures kept { IfErr result (PrintsNothingUnlessWriteFault out.old out.new) }
 {
-    if file.len() >= MAX_BYTES_READ {
+    if file.len() >= MAX_FILE_BYTES_READ {
         print(out, "0:0: TooLong: text too long\n")?;
         return Ok(None);
     }
@@ -130,7 +130,7 @@ pub fn print_diagnoses<O: Output>(
     ensures unfailed { OnOk result (O.has_failed out.new ≡ O.has_failed out.old) }
     ensures fault { IfErr result IsWriteOrMemory }
     ensures failed { IfErr result
-        (OutputFailureMatches (O.has_failed out.old) (O.has_failed out.new)) }
+        (OutputFailureMatchesFault (O.has_failed out.old) (O.has_failed out.new)) }
     ensures kept { IfErr result (PrintsNothingUnlessWriteFault out.old out.new) }
 {
     print(out, diagnosis_lines(alloc, text, reported)?.as_str())

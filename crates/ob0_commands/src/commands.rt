@@ -2,7 +2,7 @@
 
 ghost use Rattle.std.specs.Prelude.{◌≢◌};
 ghost use Rattle.ob0_cli.specs.declared.line.CommandLine.TheVariants.{Serve};
-ghost use Rattle.ob0_commands.specs.CommandEffects.{PerformsOnFile};
+ghost use Rattle.ob0_commands.specs.CommandEffects.{PerformsCommandOnFile};
 ghost use Rattle.ob0_commands.specs.StderrLines.{PrintsLine};
 
 use crate::check_command::check_text;
@@ -25,7 +25,7 @@ pub fn perform<R: Input, O: Output, E: Output>(
     err: &mut E,
 ) -> u8
     requires { line ≢ Serve }
-    ensures { PerformsOnFile O.contents O.is_flushed O.has_failed out.old out.new
+    ensures { PerformsCommandOnFile O.contents O.is_flushed O.has_failed out.old out.new
         (PrintsLine E.contents E.is_flushed E.has_failed err.old err.new) file.now
         R.remaining R.has_failed input.old input.new line.entry result }
 {

@@ -13,5 +13,5 @@ mod tracked_output;
 
 pub use commands::perform;
 pub use faults::{FileFault, print_fault};
-pub use reading::{Input, MAX_BYTES_READ, TrackedReader, read_file};
+pub use reading::{Input, MAX_FILE_BYTES_READ, TrackedReader, read_file};
 pub use tracked_output::{Output, TrackedWriter};

@@ -13,8 +13,8 @@ ghost use Rattle.std.specs.Prelude.{◌≡◌, ◌≤◌, ℤ, IfOk, OnOk, IfErr
 ghost use Rattle.std.specs.List.{position_or_len};
 ghost use Rattle.ob0_scan.specs.Classes.{is_space};
 ghost use Rattle.ob0_commands.specs.Inputs.{ConsumesAtMost};
-ghost use Rattle.ob0_commands.specs.Numbers.{IsUnusableInput, IsInputOf, IsListOfNumbers, SpellsNumber, SpellsNumbers, max_input};
-ghost use Rattle.ob0_commands.specs.Statuses.{IsFaultOrMemory};
+ghost use Rattle.ob0_commands.specs.Numbers.{IsUnusableInput, IsValidInputOf, IsListOfNumbers, SpellsNumber, SpellsNumbers, max_input_length};
+ghost use Rattle.ob0_commands.specs.Statuses.{IsGivenFaultOrMemory};
 ghost use Rattle.ob0_commands.specs.declared.faults.FileFault.TheVariants as faults;
 
 use crate::faults::FileFault;
@@ -23,15 +23,15 @@ use ob0_scan::is_space;
 use std::alloc::{AllocError, Global};
 
 /// Reads the numbers of the input. The input consists of words, separated by white space. Each word
-/// is a signed whole number of 32 bits in decimal digits, optionally after a `-`. The fault is
-/// `Input` if a read fails, the input is too long, or a word isn't such a number.
+/// has to be a 32-bit number in decimal digits, optionally after a `-`. The fault is `Input` if a
+/// read fails, the input is too long, or a word isn't such a number.
 pub fn read_numbers<R: Input>(alloc: Global, input: &mut R) -> Result<Vec<i32>, FileFault>
     ensures numbers { IfOk result
-        (λ numbers. IfSome (R.remaining input.old) (IsInputOf numbers.items)) }
-    ensures limit { ConsumesAtMost (suc max_input) (R.remaining input.old) (R.remaining input.new) }
+        (λ numbers. IfSome (R.remaining input.old) (IsValidInputOf numbers.items)) }
+    ensures limit { ConsumesAtMost (suc max_input_length) (R.remaining input.old) (R.remaining input.new) }
     ensures unfailed { OnOk result (R.has_failed input.new ≡ R.has_failed input.old) }
     ensures fault { IfErr result
-        (IsFaultOrMemory faults.Input (IsUnusableInput (R.remaining input.old) (R.has_failed input.new))
+        (IsGivenFaultOrMemory faults.Input (IsUnusableInput (R.remaining input.old) (R.has_failed input.new))
         (R.has_failed input.new ≡ R.has_failed input.old)) }
 {
     let text = read_input(alloc, input)?;
@@ -72,8 +72,8 @@ fn word_len(bytes: &[u8]) -> usize
     bytes.iter().take_while(|byte| !is_space(**byte)).count()
 }
 
-/// Returns the number of 32 bits that a word spells by digits, perhaps after `-`. Returns None if
-/// the word spells no such number.
+/// Returns the 32-bit number that a word spells: decimal digits, optionally after a `-`. Returns
+/// None if the word spells no such number.
 fn parse_number(word: &[u8]) -> Option<i32>
     ensures { MatchOption result (¬ ((n : ℤ) × SpellsNumber word.now n))
         (λ number. SpellsNumber word.now number) }

@@ -1,30 +1,30 @@
 //! Reads all bytes of a file, and all bytes of the input of a run.
 //!
 //! The commands read from an `Input`: a reader that remembers whether a read has failed. So the
-//! contracts can state (by `IsFaultOrMemory`) why the fault is `File` or `Input`.
-//! `TrackedReader` makes an `Input` of any reader. If the remaining bytes of a reader aren't known
+//! contracts can state (by `IsGivenFaultOrMemory`) why the fault is `File` or `Input`.
+//! `TrackedReader` makes any reader an `Input`. If the remaining bytes of a reader aren't known
 //! (`Read::remaining`), the contracts don't say which bytes are read.
 
 ghost use Rattle.std.specs.Prelude.{◌≡◌, ◌≤◌, ◌<◌, ◌||◌, ◌⊎◌, Bool, true, false, is_err, IfOk, OnOk, IfErr, IfSome, length, suc};
 ghost use Rattle.std.specs.Io.{ReadsAtMost};
 ghost use Rattle.std.specs.Io.KnownBytes.{Consumes, IsAtEnd, ReadConsumes};
-ghost use Rattle.ob0_scan.specs.TextWithTokens.{max_text};
+ghost use Rattle.ob0_scan.specs.TextWithTokens.{max_text_length};
 ghost use Rattle.ob0_commands.specs.Inputs.{ConsumesAtMost, wrapped_reader, input_failed};
-ghost use Rattle.ob0_commands.specs.Numbers.{max_input};
-ghost use Rattle.ob0_commands.specs.Statuses.{IsFaultOrMemory};
+ghost use Rattle.ob0_commands.specs.Numbers.{max_input_length};
+ghost use Rattle.ob0_commands.specs.Statuses.{IsGivenFaultOrMemory};
 ghost use Rattle.ob0_commands.specs.declared.faults.FileFault.TheVariants as faults;
 
 use crate::faults::FileFault;
 use crate::tracked_output::PIECE_SIZE;
-use ob0_scan::MAX_TEXT;
+use ob0_scan::MAX_TEXT_LENGTH;
 use std::alloc::Global;
 use std::io::{self, Read};
 
 /// The greatest number of bytes that are read from a file: one more than a text may have.
-pub const MAX_BYTES_READ: usize = MAX_TEXT + 1;
+pub const MAX_FILE_BYTES_READ: usize = MAX_TEXT_LENGTH + 1;
 
 /// The greatest length of the input of a run, in bytes.
-const MAX_INPUT: usize = 16_777_216;
+const MAX_INPUT_LENGTH: usize = 16_777_216;
 
 /// A reader that remembers whether one of its reads has failed.
 pub trait Input: Read {
@@ -89,34 +89,34 @@ impl<R: Read> Input for TrackedReader<R> {
 /// Returns all bytes of a file, or the first 1,048,577 if the file has more. If a read fails, the
 /// fault is `File`.
 pub fn read_file<R: Input>(alloc: Global, file: &mut R) -> Result<Vec<u8>, FileFault>
-    ensures bound { IfOk result (λ bytes. length bytes.items ≤ suc max_text) }
+    ensures bound { IfOk result (λ bytes. length bytes.items ≤ suc max_text_length) }
     ensures taken { IfOk result
         (λ bytes. Consumes (R.remaining file.old) (R.remaining file.new) bytes.items) }
     ensures end { IfOk result
-        (λ bytes. length bytes.items ≤ max_text → IsAtEnd (R.remaining file.new)) }
-    ensures limit { ConsumesAtMost (suc max_text) (R.remaining file.old) (R.remaining file.new) }
+        (λ bytes. length bytes.items ≤ max_text_length → IsAtEnd (R.remaining file.new)) }
+    ensures limit { ConsumesAtMost (suc max_text_length) (R.remaining file.old) (R.remaining file.new) }
     ensures unfailed { OnOk result (R.has_failed file.new ≡ R.has_failed file.old) }
-    ensures fault { IfErr result (IsFaultOrMemory faults.File (R.has_failed file.new ≡ true)
+    ensures fault { IfErr result (IsGivenFaultOrMemory faults.File (R.has_failed file.new ≡ true)
         (R.has_failed file.new ≡ R.has_failed file.old)) }
 {
-    read_up_to(alloc, file, MAX_BYTES_READ, FileFault::File)
+    read_up_to(alloc, file, MAX_FILE_BYTES_READ, FileFault::File)
 }
 
 /// Returns all bytes of the input. If a read fails, the fault is `Input`. If the input has more
 /// than 16,777,216 bytes, the fault is also `Input`. In that case one byte over the limit is read.
 pub fn read_input<R: Input>(alloc: Global, input: &mut R) -> Result<Vec<u8>, FileFault>
-    ensures bound { IfOk result (λ bytes. length bytes.items ≤ max_input) }
+    ensures bound { IfOk result (λ bytes. length bytes.items ≤ max_input_length) }
     ensures taken { IfOk result
         (λ bytes. Consumes (R.remaining input.old) (R.remaining input.new) bytes.items) }
     ensures end { IfOk result (λ bytes. IsAtEnd (R.remaining input.new)) }
-    ensures limit { ConsumesAtMost (suc max_input) (R.remaining input.old) (R.remaining input.new) }
+    ensures limit { ConsumesAtMost (suc max_input_length) (R.remaining input.old) (R.remaining input.new) }
     ensures unfailed { OnOk result (R.has_failed input.new ≡ R.has_failed input.old) }
-    ensures fault { IfErr result (IsFaultOrMemory faults.Input ((R.has_failed input.new ≡ true)
-        ⊎ IfSome (R.remaining input.old) (λ text. max_input < length text))
+    ensures fault { IfErr result (IsGivenFaultOrMemory faults.Input ((R.has_failed input.new ≡ true)
+        ⊎ IfSome (R.remaining input.old) (λ text. max_input_length < length text))
         (R.has_failed input.new ≡ R.has_failed input.old)) }
 {
-    let bytes = read_up_to(alloc, input, MAX_INPUT + 1, FileFault::Input)?;
-    if bytes.len() > MAX_INPUT {
+    let bytes = read_up_to(alloc, input, MAX_INPUT_LENGTH + 1, FileFault::Input)?;
+    if bytes.len() > MAX_INPUT_LENGTH {
         return Err(FileFault::Input);
     }
     Ok(bytes)
@@ -137,7 +137,7 @@ fn read_up_to<R: Input>(
         (λ bytes. length bytes.items < most → IsAtEnd (R.remaining reader.new)) }
     ensures limit { ConsumesAtMost most (R.remaining reader.old) (R.remaining reader.new) }
     ensures unfailed { OnOk result (R.has_failed reader.new ≡ R.has_failed reader.old) }
-    ensures stops { IfErr result (IsFaultOrMemory fault (R.has_failed reader.new ≡ true)
+    ensures stops { IfErr result (IsGivenFaultOrMemory fault (R.has_failed reader.new ≡ true)
         (R.has_failed reader.new ≡ R.has_failed reader.old)) }
 {
     let mut bytes = Vec::new(alloc);

@@ -1,31 +1,31 @@
-//! Renames a declaration in a file's text, and prints the result.
+//! Renames a declaration or field in a file's text, and prints the result.
 //!
 //! `rename_text` analyses the text once. `rename_edits` of `ob0_edits` computes the edits from that
 //! analysis. If the text isn't a well-typed module, the diagnostics of the same analysis are
-//! printed, as in `check_file`. `rename_utf8_text` does the work once the bytes are known to be
-//! UTF-8. It is a separate function because its proof needs a `&str`: the contract of
-//! `rename_edits` is about the characters of a text, and the contract of `diagnoses` is about the
-//! bytes. A `&str` relates the two.
+//! printed, as in `valid_text_or_print_diagnoses`. `rename_utf8_text` does the work once the bytes
+//! are known to be UTF-8. It is a separate function because its proof needs a `&str`: the contract
+//! of `rename_edits` is about the characters of a text, and the contract of `diagnoses` is about
+//! the bytes. A `&str` relates the two.
 
 ghost use Rattle.std.specs.Prelude.{◌≡◌, true, IfOk, IfErr, OnErr};
 ghost use Rattle.ob0_commands.specs.Endings.{EndsWithoutFault};
 ghost use Rattle.ob0_commands.specs.CommandEffects.{RenamesInFile};
 ghost use Rattle.ob0_commands.specs.Renamed.{PrintsRefusal, PrintsEditedText, RenameEndsWithoutFault};
 ghost use Rattle.ob0_commands.specs.StderrLines.{PrintsLine};
-ghost use Rattle.ob0_commands.specs.Statuses.{IsMemoryFaultOnlyForShortFile, IsNonUtf8File, OutputFailureMatches, PrintsNothingUnlessWriteFault, IsWriteOrMemory, MayStopCommandOnFile};
+ghost use Rattle.ob0_commands.specs.Statuses.{IsMemoryFaultOnlyForShortFile, IsShortNonUtf8File, OutputFailureMatchesFault, PrintsNothingUnlessWriteFault, IsWriteOrMemory, MayStopCommandOnFile};
 
-use crate::check_command::{analyse, decode_or_print_too_long, print_diagnoses};
+use crate::check_command::{analyse_without_drop, decode_or_print_too_long, print_diagnoses};
 use crate::faults::{FileFault, print_fault};
 use crate::tracked_output::{Output, print};
 use ob0_edits::rename_edits;
 use ob0_text::{Edit, EditRefusal, Lines, Position, TextStore, patch};
 use std::alloc::Global;
 
-/// Prints a file's text to `out`, with the declaration at a position renamed to `new`, and returns
-/// the program's exit status. The position counts lines and UTF-16 units from 0. If the name is
-/// refused, `refused: TEXT` is printed to `err`. If the file isn't a well-typed module, its
-/// diagnostics are printed as by `check_text`. The status is 0 if the text is printed, and 1 for a
-/// refusal or diagnostics. For 4 and 5, see `check_text`.
+/// Prints a file's text to `out`, with the declaration or field at a position renamed to `new`, and
+/// returns the program's exit status. The position's line and UTF-16 units are counted from 0. If
+/// the name is refused, `refused: TEXT` is printed to `err`. If the file isn't a well-typed module,
+/// its diagnostics are printed as `check_text` prints them. The status is 0 if the text is printed,
+/// and 1 for a refusal or diagnostics. For 4 and 5, see `check_text`.
 pub fn rename_text<O: Output, E: Output>(
     alloc: Global,
     file: &[u8],
@@ -56,10 +56,10 @@ fn rename_in_file<O: Output, E: Output>(
 ) -> Result<u8, FileFault>
     ensures ends { IfOk result (RenameEndsWithoutFault O.contents O.is_flushed out.old out.new
         (PrintsLine E.contents E.is_flushed E.has_failed err.old err.new) file.now position new.now
-        (¬ IsNonUtf8File file.now × (O.has_failed out.new ≡ O.has_failed out.old))) }
+        (¬ IsShortNonUtf8File file.now × (O.has_failed out.new ≡ O.has_failed out.old))) }
     ensures fault { IfErr result (MayStopCommandOnFile file.now) }
     ensures failed { IfErr result
-        (OutputFailureMatches (O.has_failed out.old) (O.has_failed out.new)) }
+        (OutputFailureMatchesFault (O.has_failed out.old) (O.has_failed out.new)) }
     ensures memory { IfErr result (IsMemoryFaultOnlyForShortFile file.now) }
     ensures kept { IfErr result (PrintsNothingUnlessWriteFault out.old out.new) }
     ensures unsaid { OnErr result (err.new ≡ err.old) }
@@ -70,9 +70,9 @@ fn rename_in_file<O: Output, E: Output>(
     rename_utf8_text(alloc, text, position, new, out, err)
 }
 
-/// Prints a text with the declaration at a position renamed, or the refusal of the name. If the
-/// text isn't a well-typed module, prints its diagnostics instead. Returns the program's exit
-/// status: 0 for the renamed text, otherwise 1.
+/// Prints a text with the declaration or field at a position renamed, or the refusal of the name.
+/// If the text isn't a well-typed module, prints its diagnostics instead. Returns the program's
+/// exit status: 0 for the renamed text, otherwise 1.
 fn rename_utf8_text<O: Output, E: Output>(
     alloc: Global,
     text: &str,
@@ -86,12 +86,12 @@ fn rename_utf8_text<O: Output, E: Output>(
         (O.has_failed out.new ≡ O.has_failed out.old)) }
     ensures fault { IfErr result IsWriteOrMemory }
     ensures failed { IfErr result
-        (OutputFailureMatches (O.has_failed out.old) (O.has_failed out.new)) }
+        (OutputFailureMatchesFault (O.has_failed out.old) (O.has_failed out.new)) }
     ensures kept { IfErr result (PrintsNothingUnlessWriteFault out.old out.new) }
     ensures unsaid { OnErr result (err.new ≡ err.old) }
 {
     let store = Lines::from_str(alloc, text)?;
-    let analysis = analyse(alloc, text)?;
+    let analysis = analyse_without_drop(alloc, text)?;
     match rename_edits(alloc, &store, &analysis, position, new)? {
         Some(outcome) => print_rename_outcome(alloc, &store, outcome, out, err),
         None => {
@@ -120,7 +120,7 @@ pub fn print_rename_outcome<T: TextStore, O: Output, E: Output>(
         (O.has_failed out.new ≡ O.has_failed out.old)) }
     ensures fault { IfErr result IsWriteOrMemory }
     ensures failed { IfErr result
-        (OutputFailureMatches (O.has_failed out.old) (O.has_failed out.new)) }
+        (OutputFailureMatchesFault (O.has_failed out.old) (O.has_failed out.new)) }
     ensures kept { IfErr result (PrintsNothingUnlessWriteFault out.old out.new) }
     ensures unsaid { OnErr result (err.new ≡ err.old) }
 {

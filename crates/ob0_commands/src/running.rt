@@ -5,11 +5,11 @@
 //! input is read, and the program is executed. `IsLoweredTo` states that the program runs like the
 //! text's module. The contract of `execute` describes the run of the program (`RunsAs`).
 //!
-//! The output is written in pieces of at most `PIECE_SIZE` bytes (`print_items`), so the whole text
-//! of the output is never stored. `IsWrittenExcept` separates the written text from the piece that
-//! isn't written yet. A piece is an `ArrayString`: it is on the stack and doesn't grow. It is
-//! written if the next item might not fit. So nothing is allocated after the first byte is printed.
-//! (A `String` could allocate between pieces, because its contract allows that.)
+//! The output is written in pieces of at most `PIECE_SIZE` bytes (`print_output_items`), so the
+//! whole text of the output is never stored. `IsWrittenExcept` separates the written text from the
+//! piece that isn't written yet. A piece is an `ArrayString`: it is on the stack and doesn't grow.
+//! It is written if the next item might not fit. So nothing is allocated after the first byte is
+//! printed. (A `String` could allocate between pieces, because its contract allows that.)
 
 ghost use Rattle.std.specs.Prelude.{◌≡◌, ◌+◌, ◌≤◌, ◌++◌, true, IfOk, IfErr, IfNone, MatchOption, OnOk, OnErr, option_map, suc};
 ghost use Rattle.std.specs.Io.KnownBytes.{Appends};
@@ -19,11 +19,11 @@ ghost use Rattle.ob0_analysis.specs.Diagnosed.{IsWellTypedModule};
 ghost use Rattle.ob0_run.specs.Outcomes.{item_of, output_items, run_of};
 ghost use Rattle.ob0_run.specs.Programs as lowered;
 ghost use Rattle.ob0_commands.specs.Inputs.{ConsumesAtMost};
-ghost use Rattle.ob0_commands.specs.Numbers.{max_input};
+ghost use Rattle.ob0_commands.specs.Numbers.{max_input_length};
 ghost use Rattle.ob0_commands.specs.CommandEffects.{RunsFile};
 ghost use Rattle.ob0_commands.specs.Printed.{IsWrittenExcept, PrintsDiagnostics, run_end_line, output_text, output_item_text};
 ghost use Rattle.ob0_commands.specs.StderrLines.{PrintsLine};
-ghost use Rattle.ob0_commands.specs.Statuses.{IsMemoryFaultOnlyForShortFile, IsNonUtf8File, KeepsInputFailureUnlessInputFault, OutputFailureMatches, PrintsNothingUnlessWriteFault, IsWriteOrMemory, MayStopRun, run_end_status};
+ghost use Rattle.ob0_commands.specs.Statuses.{IsMemoryFaultOnlyForShortFile, IsShortNonUtf8File, KeepsInputFailureUnlessInputFault, OutputFailureMatchesFault, PrintsNothingUnlessWriteFault, IsWriteOrMemory, MayStopRun, run_end_status};
 ghost use Rattle.ob0_commands.specs.declared.faults.FileFault.TheVariants as faults;
 ghost use Rattle.ob0_commands.specs.TextRuns.{IsLoweredTo, RunEndsWithoutFault, TextRunsAs};
 
@@ -55,10 +55,10 @@ impl Question for LoweringQuestion {
 /// Runs a file's module on the numbers of `input`, and returns the program's exit status. At most
 /// `calls` calls are open at a time, and each execution of a loop has at most `turns` iterations.
 /// The output is printed to `out`. An end other than `Done` is printed to `err` as `fault: NAME`.
-/// If the file isn't a well-typed module, its diagnostics are printed as by `check_text`, and the
-/// input isn't read. The status is 0 for `Done`, and 1 for another end or diagnostics. If the input
-/// can't be read, is too long or isn't a list of numbers, the status is 4. For the other uses of 4
-/// and for 5, see `check_text`.
+/// If the file isn't a well-typed module, its diagnostics are printed as `check_text` prints them,
+/// and the input isn't read. The status is 0 for `Done`, and 1 for another end or diagnostics. If
+/// the input can't be read, is too long or isn't a list of numbers, the status is 4. For the other
+/// uses of 4 and for 5, see `check_text`.
 pub fn run_text<R: Input, O: Output, E: Output>(
     alloc: Global,
     file: &[u8],
@@ -71,7 +71,7 @@ pub fn run_text<R: Input, O: Output, E: Output>(
     ensures ends { RunsFile O.contents O.is_flushed O.has_failed out.old out.new
         (PrintsLine E.contents E.is_flushed E.has_failed err.old err.new) file.now
         R.remaining R.has_failed input.old input.new calls turns result }
-    ensures limit { ConsumesAtMost (suc max_input) (R.remaining input.old) (R.remaining input.new) }
+    ensures limit { ConsumesAtMost (suc max_input_length) (R.remaining input.old) (R.remaining input.new) }
     ensures unread { ¬ IsWellTypedModule file.now → input.new ≡ input.old }
 {
     match run_file(alloc, file, input, calls, turns, out, err) {
@@ -94,14 +94,14 @@ fn run_file<R: Input, O: Output, E: Output>(
     ensures ends { IfOk result (RunEndsWithoutFault O.contents O.is_flushed out.old out.new
         (PrintsLine E.contents E.is_flushed E.has_failed err.old err.new) file.now
         (R.remaining input.old) calls turns
-        (¬ IsNonUtf8File file.now × (O.has_failed out.new ≡ O.has_failed out.old)
+        (¬ IsShortNonUtf8File file.now × (O.has_failed out.new ≡ O.has_failed out.old)
         × (R.has_failed input.new ≡ R.has_failed input.old))) }
-    ensures limit { ConsumesAtMost (suc max_input) (R.remaining input.old) (R.remaining input.new) }
+    ensures limit { ConsumesAtMost (suc max_input_length) (R.remaining input.old) (R.remaining input.new) }
     ensures read { IfErr result (KeepsInputFailureUnlessInputFault (R.has_failed input.old) (R.has_failed input.new)) }
     ensures fault { IfErr result
         (MayStopRun file.now (R.remaining input.old) (R.has_failed input.new)) }
     ensures failed { IfErr result
-        (OutputFailureMatches (O.has_failed out.old) (O.has_failed out.new)) }
+        (OutputFailureMatchesFault (O.has_failed out.old) (O.has_failed out.new)) }
     ensures memory { IfErr result (IsMemoryFaultOnlyForShortFile file.now) }
     ensures kept { IfErr result (PrintsNothingUnlessWriteFault out.old out.new) }
     ensures unread { ¬ IsWellTypedModule file.now → input.new ≡ input.old }
@@ -114,7 +114,7 @@ fn run_file<R: Input, O: Output, E: Output>(
         return Ok(1);
     };
     let numbers = read_numbers(alloc, input)?;
-    let outcome = execute_module(alloc, text, &program, numbers.as_slice(), calls, turns)?;
+    let outcome = execute_lowered_program(alloc, text, &program, numbers.as_slice(), calls, turns)?;
     print_run_outcome(outcome.output.as_slice(), outcome.end, out, err)
 }
 
@@ -133,7 +133,7 @@ fn lower_or_print_diagnoses<O: Output>(
     ensures unfailed { OnOk result (O.has_failed out.new ≡ O.has_failed out.old) }
     ensures fault { IfErr result IsWriteOrMemory }
     ensures failed { IfErr result
-        (OutputFailureMatches (O.has_failed out.old) (O.has_failed out.new)) }
+        (OutputFailureMatchesFault (O.has_failed out.old) (O.has_failed out.new)) }
     ensures kept { IfErr result (PrintsNothingUnlessWriteFault out.old out.new) }
 {
     let analysis = Analysis::analyse_text(alloc, text)?;
@@ -148,9 +148,9 @@ fn lower_or_print_diagnoses<O: Output>(
 }
 
 /// Runs `program` on `input`. At most `calls` calls are open at a time, and each execution of a
-/// loop has at most `turns` iterations. `text` is the text from which the program was lowered. Only
-/// the contract uses it.
-fn execute_module(
+/// loop has at most `turns` iterations. Only the contract uses `text`, the text of the module that
+/// was lowered to the program.
+fn execute_lowered_program(
     alloc: Global,
     text: &str,
     program: &Program,
@@ -201,7 +201,7 @@ pub fn print_run_outcome<O: Output, E: Output>(
     ensures silent { IfOk result (λ status. status ≡ 0 → err.new ≡ err.old) }
     ensures unsaid { OnErr result (err.new ≡ err.old) }
 {
-    print_items(output, out)?;
+    print_output_items(output, out)?;
     match run_end_line_of(end) {
         Some(line) => {
             let _ = print(err, line);
@@ -213,11 +213,11 @@ pub fn print_run_outcome<O: Output, E: Output>(
 
 /// The greatest length in bytes of an output item's text. The longest text is a space, a sign and
 /// ten digits.
-const MAX_ITEM_LENGTH: usize = 12;
+const MAX_ITEM_TEXT_LENGTH: usize = 12;
 
 /// Prints the items of a run's output, and flushes. Their text is collected in pieces on the stack,
 /// so the whole text is never stored and nothing is allocated.
-fn print_items<O: Output>(output: &[Item], out: &mut O) -> Result<(), FileFault>
+fn print_output_items<O: Output>(output: &[Item], out: &mut O) -> Result<(), FileFault>
     ensures printed { OnOk result
         (Appends (O.contents out.old) (O.contents out.new) (output_text (output_items output.now))) }
     ensures flushed { OnOk result (O.is_flushed out.new ≡ true) }
@@ -228,14 +228,14 @@ fn print_items<O: Output>(output: &[Item], out: &mut O) -> Result<(), FileFault>
     let mut text = ArrayString::<PIECE_SIZE>::new();
     let mut digits = Buffer::new();
     for item in output {
-        append_item(&mut text, &mut digits, *item, out)?;
+        append_item_writing_if_full(&mut text, &mut digits, *item, out)?;
     }
     print(out, text.as_str())
 }
 
 /// Appends an output item to `text`, the collected text that isn't written yet. If the item might
 /// not fit, `text` is first written and cleared.
-fn append_item<O: Output>(
+fn append_item_writing_if_full<O: Output>(
     text: &mut ArrayString<PIECE_SIZE>,
     digits: &mut Buffer,
     item: Item,
@@ -247,7 +247,7 @@ fn append_item<O: Output>(
     ensures fault { IfErr result (λ fault. fault ≡ faults.Write) }
     ensures failed { OnErr result (O.has_failed out.new ≡ true) }
 {
-    if text.remaining_capacity() < MAX_ITEM_LENGTH {
+    if text.remaining_capacity() < MAX_ITEM_TEXT_LENGTH {
         write(out, text.as_str())?;
         text.clear();
     }

@@ -2,9 +2,9 @@
 //!
 //! The commands print to an `Output`: a writer that remembers whether it has been flushed since the
 //! last write, and whether it has failed. std's contracts of `Write` mention neither fact, but the
-//! contract of `print` needs both. `TrackedWriter` makes an `Output` of any writer, including
-//! standard error. The bytes that a writer has written are its `contents`, or None if they aren't
-//! known. If they aren't known, the contracts say nothing about them.
+//! contract of `print` needs both. `TrackedWriter` makes any writer an `Output`, including the one
+//! for standard error. The bytes that a writer has written are its `contents`, or None if they
+//! aren't known. If they aren't known, the contracts say nothing about them.
 //!
 //! Each command flushes its output after it has printed. If `rename` refuses a name, nothing is
 //! printed to the output, so the output may still be unflushed (`IsFlushedOrUnchanged`). `check`

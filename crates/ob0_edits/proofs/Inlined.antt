@@ -13,9 +13,9 @@ use Rattle.ob0_text.specs.declared.refusals.EditRefusal.{EditRefusal}
 use Rattle.ob0_tree.specs.ParsedModule.{ParsedModule, named_tree_of}
 use Rattle.ob0_tree.specs.Tree.{Tree, module_text}
 use Rattle.ob0_language_types.specs.WellTyped.{WellTyped}
-use Rattle.ob0_edits.specs.Inlinings.{AnswersInlining, FindsInlineResults, IsInlineResult, InlinesIn, AreEditsUnlessRefused, OffersInlining}
+use Rattle.ob0_edits.specs.Inlinings.{AnswersInlining, AreOptionalInlineResults, IsInlineResult, InlinesInText, AreEditsUnlessRefused, OffersOrRefusesInlining}
 use Rattle.ob0_analysis.specs.Analysed.{AnswersIfWellTyped, IsResolvedWellTypedModule, IsParsedWellTypedModule}
-use Rattle.ob0_analysis.specs.Diagnosed.{IsTextOf, IsWellTypedModule}
+use Rattle.ob0_analysis.specs.Diagnosed.{IsTextOfTree, IsWellTypedModule}
 use Rattle.ob0_analysis.specs.Texts.{utf8}
 use Rattle.ob0_edits.specs.declared.inlinings.Inlining.{Inlining}
 use Rattle.ob0_edits.specs.declared.inlinings.Inlining.TheVariants.{OneUse, Everywhere}
@@ -36,11 +36,11 @@ read_as text names h = record { scan = h.scan; parsed = h.well_typed.resolved.pa
 
 -- Edits that leave the text of a module with the same runs inline the constant.
 kept : (how : Inlining) (unit : Unit) (text : List ℕ) (offset : ℕ) (edits : Vec Edit Global) (names : Resolution) (t : Tree Name module_text) → IsResolvedWellTypedModule (utf8 text) names
-    → EditsGiveModule unit text edits.items t → WellTyped t → HaveSameRuns t (named_tree_of names.module_read) → IsInlineResult how unit text names.module_read offset (Some edits) → InlinesIn how unit text offset edits
+    → EditsGiveModule unit text edits.items t → WellTyped t → HaveSameRuns t (named_tree_of names.module_read) → IsInlineResult how unit text names.module_read offset (Some edits) → InlinesInText how unit text offset edits
 kept how unit text offset edits names t h leaves well same inlines =
     let after : List ℕ = chars leaves.after.text in
-    let text_of : IsTextOf t (utf8 after) =
-    subst (λ (w : List ℕ). IsTextOf t w) (utf8_of leaves.after.text after leaves.scan.utf8 refl) (record { scanned = leaves.after; scan = record { of = refl; scan = leaves.scan }; module_of = leaves.module_of })
+    let text_of : IsTextOfTree t (utf8 after) =
+    subst (λ (w : List ℕ). IsTextOfTree t w) (utf8_of leaves.after.text after leaves.scan.utf8 refl) (record { scanned = leaves.after; scan = record { of = refl; scan = leaves.scan }; module_of = leaves.module_of })
     in
     record {
       module_read = names.module_read;
@@ -52,7 +52,7 @@ kept how unit text offset edits names t h leaves well same inlines =
     }
 
 inlines_in : (how : Inlining) (unit : Unit) (text : List ℕ) (offset : ℕ) (edits : Vec Edit Global) (names : Resolution) → IsResolvedWellTypedModule (utf8 text) names
-    → IsInlineResult how unit text names.module_read offset (Some edits) → InlinesIn how unit text offset edits
+    → IsInlineResult how unit text names.module_read offset (Some edits) → InlinesInText how unit text offset edits
 inlines_in OneUse unit text offset edits names h (inl (u, at, answer)) =
     kept OneUse unit text offset edits names (tree_inlined_here names.module_read u) h answer.1.leaves answer.1.well_typed answer.1.same_runs (inl (u, at, answer))
 inlines_in OneUse unit text offset edits names h (inr (is, none)) = cc
@@ -61,13 +61,13 @@ inlines_in Everywhere unit text offset edits names h (inl (c, at, answer)) =
 inlines_in Everywhere unit text offset edits names h (inr (is, none)) = cc
 
 offers : (how : Inlining) (unit : Unit) (text : List ℕ) (offset : ℕ) (edits : Option (Vec Edit Global)) (names : Resolution) → IsResolvedWellTypedModule (utf8 text) names
-    → IsInlineResult how unit text names.module_read offset edits → OffersInlining how unit text offset edits
+    → IsInlineResult how unit text names.module_read offset edits → OffersOrRefusesInlining how unit text offset edits
 offers how unit text offset (Some edits) names h inlines = inlines_in how unit text offset edits names h inlines
 offers how unit text offset None names h refused = record { module_read = names.module_read; read = read_as (utf8 text) names h; refused = refused }
 
 pub inlinings_found : (unit : Unit) (bytes text : List ℕ) (offset : ℕ) (found : Option Inlinings) → IsUtf8 bytes → chars bytes ≡ text
     → AnswersIfWellTyped bytes (λ names answer. IsInlineResult OneUse unit text names.module_read offset answer.here × IsInlineResult Everywhere unit text names.module_read offset answer.everywhere) found
-    → FindsInlineResults unit text offset found
+    → AreOptionalInlineResults unit text offset found
 inlinings_found unit bytes text offset (Some found) u is h =
     let names : Resolution = h.0 in
     let module_in : IsResolvedWellTypedModule (utf8 text) names = subst (λ (t : List ℕ). IsResolvedWellTypedModule t names) (utf8_of bytes text u is) h.1 in

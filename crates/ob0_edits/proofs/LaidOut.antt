@@ -3,9 +3,9 @@ use Rattle.std.proofs.Common.{◌≡◌, ◌≤◌, ◌<◌, ◌⊎◌, ◌∙�
 use Rattle.std.specs.Str.{chars, IsUtf8}
 use Rattle.std.proofs.lemmas.Str.{encodes-chars}
 use Rattle.ob0_scan.specs.Lexed.{Lexeme, LexesInto}
-use Rattle.ob0_scan.specs.TextWithTokens.{TextWithTokens, IsScan, max_text, tokens_from, comments_from}
+use Rattle.ob0_scan.specs.TextWithTokens.{TextWithTokens, IsScan, max_text_length, tokens_from, comments_from}
 use Rattle.ob0_scope_table.specs.Resolution.{Resolution}
-use Rattle.ob0_text.specs.Patches.{patched}
+use Rattle.ob0_text.specs.Patches.{patched_text}
 use Rattle.ob0_text.specs.Units.{width_of}
 use Rattle.ob0_text.specs.declared.edits.Edit.{Edit}
 use Rattle.ob0_text.specs.declared.edits.Indent.{Indent}
@@ -13,25 +13,25 @@ use Rattle.ob0_text.specs.declared.position_types.Unit.{Unit}
 use Rattle.ob0_tree.specs.Module.{ModuleOf}
 use Rattle.ob0_tree.specs.ParsedModule.{ParsedModule, named_tree_of}
 use Rattle.ob0_tree.specs.Tree.{Tree, module_text}
-use Rattle.ob0_layout.specs.Layout.{formatted_lexemes, layout}
-use Rattle.ob0_layout.specs.Gaps.{edit_content, edit_of, changed_gaps, all_gaps}
+use Rattle.ob0_layout.specs.Layout.{formatted_lexemes, formatted_text}
+use Rattle.ob0_layout.specs.Gaps.{edit_content, edit_of_cut, changed_gaps, all_gaps}
 use Rattle.ob0_layout.specs.LineRoles.{line_roles}
 use Rattle.ob0_text.specs.declared.refusals.EditRefusal.{EditRefusal}
 use Rattle.ob0_text.specs.declared.refusals.EditRefusal.TheVariants.{TooLong, Memory}
 use Rattle.ob0_analysis.specs.Analysed.{AnswersIfWellTyped, IsResolvedWellTypedModule}
-use Rattle.ob0_analysis.specs.Diagnosed.{IsTextOf, IsWellTypedModule}
+use Rattle.ob0_analysis.specs.Diagnosed.{IsTextOfTree, IsWellTypedModule}
 use Rattle.ob0_analysis.specs.Texts.{utf8}
-use Rattle.ob0_edits.specs.Layouts.{FindsFormatResult, IsFormatResult, FormattedTextIsTooLong, FormatsIn, formatting_changes, formatted_text_of}
+use Rattle.ob0_edits.specs.Layouts.{IsOptionalFormatResult, IsFormatResult, FormattedTextIsTooLong, FormatsText, edits_of_changed_gaps, formatted_text_of}
 use Rattle.ob0_analysis.proofs.Scanning.{is_module, utf8_of}
 
 abbrev pub ModuleStays : Type 0
 ModuleStays =
     (indent : Indent) (s : TextWithTokens) (scan : IsScan s) (tree : Tree (List ℕ) module_text) → ModuleOf s tree
-    → (t : TextWithTokens) → IsScan t → t.text ≡ layout indent tree scan.lexemes → ModuleOf t tree
+    → (t : TextWithTokens) → IsScan t → t.text ≡ formatted_text indent tree scan.lexemes → ModuleOf t tree
 
 -- If the formatted text isn't too long, it is a text of the same module.
 stays_module : (indent : Indent) (text : List ℕ) (m : IsWellTypedModule text) → IsUtf8 (formatted_text_of indent m) → LexesInto (formatted_text_of indent m) (formatted_lexemes indent m.tree m.text_of.scan.scan.lexemes)
-    → length (formatted_text_of indent m) ≤ max_text → ModuleStays → IsTextOf m.tree (utf8 (chars (formatted_text_of indent m)))
+    → length (formatted_text_of indent m) ≤ max_text_length → ModuleStays → IsTextOfTree m.tree (utf8 (chars (formatted_text_of indent m)))
 stays_module indent text m u lexed short law =
     let laid : List ℕ = formatted_text_of indent m in
     let lexemes : List Lexeme = formatted_lexemes indent m.tree m.text_of.scan.scan.lexemes in
@@ -39,12 +39,12 @@ stays_module indent text m u lexed short law =
     let scan : IsScan t = record { utf8 = u; short = short; lexemes = lexemes; lexed = lexed; tokens = refl; comments = refl } in
     record { scanned = t; scan = record { of = sym (encodes-chars laid u); scan = scan }; module_of = law indent m.text_of.scanned m.text_of.scan.scan m.tree m.text_of.module_of t scan refl }
 
-pub lays_out : (unit : Unit) (indent : Indent) (text : List ℕ) (edits : List Edit) (m : IsWellTypedModule (utf8 text)) → map edit_content edits ≡ formatting_changes unit indent text m
-    → patched (width_of unit) text edits ≡ Some (chars (formatted_text_of indent m)) → length (formatted_text_of indent m) ≤ max_text
+pub lays_out : (unit : Unit) (indent : Indent) (text : List ℕ) (edits : List Edit) (m : IsWellTypedModule (utf8 text)) → map edit_content edits ≡ edits_of_changed_gaps unit indent text m
+    → patched_text (width_of unit) text edits ≡ Some (chars (formatted_text_of indent m)) → length (formatted_text_of indent m) ≤ max_text_length
     → IsUtf8 (formatted_text_of indent m) → LexesInto (formatted_text_of indent m) (formatted_lexemes indent m.tree m.text_of.scan.scan.lexemes) → ModuleStays
-    → FormatsIn unit indent text edits
+    → FormatsText unit indent text edits
 lays_out unit indent text edits m changes made short u lexed law =
-    let stays : IsTextOf m.tree (utf8 (chars (formatted_text_of indent m))) = stays_module indent (utf8 text) m u lexed short law in
+    let stays : IsTextOfTree m.tree (utf8 (chars (formatted_text_of indent m))) = stays_module indent (utf8 text) m u lexed short law in
     record {
       before = m;
       changes = changes;
@@ -58,15 +58,15 @@ lays_out unit indent text edits m changes made short u lexed law =
 -- holds if the contract of `format` holds of these edits, for a module that was read
 abbrev pub Made : Unit → Indent → List ℕ → List Edit → ParsedModule → Type 0
 Made unit indent text edits m =
-    ((scan : IsScan m.source) → map edit_content edits ≡ map (edit_of (width_of unit) text) (changed_gaps m.source.text (all_gaps indent m.source.text (line_roles 0 (named_tree_of m)) scan.lexemes)))
-    × ((scan : IsScan m.source) → length (layout indent (named_tree_of m) scan.lexemes) ≤ max_text)
-    × ((scan : IsScan m.source) → text ≡ chars m.source.text → patched (width_of unit) text edits ≡ Some (chars (layout indent (named_tree_of m) scan.lexemes)))
+    ((scan : IsScan m.source) → map edit_content edits ≡ map (edit_of_cut (width_of unit) text) (changed_gaps m.source.text (all_gaps indent m.source.text (line_roles 0 (named_tree_of m)) scan.lexemes)))
+    × ((scan : IsScan m.source) → length (formatted_text indent (named_tree_of m) scan.lexemes) ≤ max_text_length)
+    × ((scan : IsScan m.source) → text ≡ chars m.source.text → patched_text (width_of unit) text edits ≡ Some (chars (formatted_text indent (named_tree_of m) scan.lexemes)))
 
 pub formats : (unit : Unit) (indent : Indent) (text : List ℕ) (edits : List Edit) (names : Resolution) (m : ParsedModule) → m ≡ names.module_read
     → IsResolvedWellTypedModule (utf8 text) names → text ≡ chars names.module_read.source.text → Made unit indent text edits m
-    → ((indent : Indent) (s : TextWithTokens) (scan : IsScan s) (tree : Tree (List ℕ) module_text) → IsUtf8 (layout indent tree scan.lexemes))
-    → ((indent : Indent) (s : TextWithTokens) (scan : IsScan s) (tree : Tree (List ℕ) module_text) → ModuleOf s tree → LexesInto (layout indent tree scan.lexemes) (formatted_lexemes indent tree scan.lexemes))
-    → ModuleStays → FormatsIn unit indent text edits
+    → ((indent : Indent) (s : TextWithTokens) (scan : IsScan s) (tree : Tree (List ℕ) module_text) → IsUtf8 (formatted_text indent tree scan.lexemes))
+    → ((indent : Indent) (s : TextWithTokens) (scan : IsScan s) (tree : Tree (List ℕ) module_text) → ModuleOf s tree → LexesInto (formatted_text indent tree scan.lexemes) (formatted_lexemes indent tree scan.lexemes))
+    → ModuleStays → FormatsText unit indent text edits
 formats unit indent text edits names m is h same made u lexed law =
     let w = is_module (utf8 text) names h in
     let is_made = subst (Made unit indent text edits) is made in
@@ -76,23 +76,23 @@ formats unit indent text edits names m is h same made u lexed law =
 
 -- If no allocation failed, the only refusal is that the formatted text is too long.
 pub too_long : (indent : Indent) (text : List ℕ) (names : Resolution) (m : ParsedModule) (refusal : EditRefusal) → m ≡ names.module_read → IsResolvedWellTypedModule (utf8 text) names
-    → ((scan : IsScan m.source) → refusal ≡ TooLong → max_text < length (layout indent (named_tree_of m) scan.lexemes))
+    → ((scan : IsScan m.source) → refusal ≡ TooLong → max_text_length < length (formatted_text indent (named_tree_of m) scan.lexemes))
     → (refusal ≡ TooLong) ⊎ (refusal ≡ Memory) → (refusal ≡ Memory → ⊥) → (refusal ≡ TooLong) × FormattedTextIsTooLong indent text
 too_long indent text names m refusal is h long (inr wants) other = absurd (other wants)
 too_long indent text names m refusal is h long (inl longer) other =
-    let P : ParsedModule → Type 0 = λ p. (scan : IsScan p.source) → refusal ≡ TooLong → max_text < length (layout indent (named_tree_of p) scan.lexemes) in
+    let P : ParsedModule → Type 0 = λ p. (scan : IsScan p.source) → refusal ≡ TooLong → max_text_length < length (formatted_text indent (named_tree_of p) scan.lexemes) in
     (longer, record { before = is_module (utf8 text) names h; long = subst P is long h.scan.scan longer })
 
 -- If no allocation failed, the result is edits or the refusal, by the contract of `format`.
 pub formats_or_not : (unit : Unit) (indent : Indent) (text : List ℕ) (names : Resolution) (m : ParsedModule) (r : Result (Vec Edit Global) EditRefusal) → m ≡ names.module_read
     → IsResolvedWellTypedModule (utf8 text) names → text ≡ chars names.module_read.source.text
-    → ((scan : IsScan m.source) → IfOk r (λ edits. map edit_content edits.items ≡ map (edit_of (width_of unit) text) (changed_gaps m.source.text (all_gaps indent m.source.text (line_roles 0 (named_tree_of m)) scan.lexemes))))
-    → ((scan : IsScan m.source) → IfOk r (λ edits. length (layout indent (named_tree_of m) scan.lexemes) ≤ max_text))
-    → ((scan : IsScan m.source) → text ≡ chars m.source.text → IfOk r (λ edits. patched (width_of unit) text edits.items ≡ Some (chars (layout indent (named_tree_of m) scan.lexemes))))
-    → ((scan : IsScan m.source) → IsErrOf r TooLong → max_text < length (layout indent (named_tree_of m) scan.lexemes))
+    → ((scan : IsScan m.source) → IfOk r (λ edits. map edit_content edits.items ≡ map (edit_of_cut (width_of unit) text) (changed_gaps m.source.text (all_gaps indent m.source.text (line_roles 0 (named_tree_of m)) scan.lexemes))))
+    → ((scan : IsScan m.source) → IfOk r (λ edits. length (formatted_text indent (named_tree_of m) scan.lexemes) ≤ max_text_length))
+    → ((scan : IsScan m.source) → text ≡ chars m.source.text → IfOk r (λ edits. patched_text (width_of unit) text edits.items ≡ Some (chars (formatted_text indent (named_tree_of m) scan.lexemes))))
+    → ((scan : IsScan m.source) → IsErrOf r TooLong → max_text_length < length (formatted_text indent (named_tree_of m) scan.lexemes))
     → IfErr r (λ refusal. (refusal ≡ TooLong) ⊎ (refusal ≡ Memory)) → IfErr r (λ refusal. refusal ≡ Memory → ⊥)
-    → ((indent : Indent) (s : TextWithTokens) (scan : IsScan s) (tree : Tree (List ℕ) module_text) → IsUtf8 (layout indent tree scan.lexemes))
-    → ((indent : Indent) (s : TextWithTokens) (scan : IsScan s) (tree : Tree (List ℕ) module_text) → ModuleOf s tree → LexesInto (layout indent tree scan.lexemes) (formatted_lexemes indent tree scan.lexemes))
+    → ((indent : Indent) (s : TextWithTokens) (scan : IsScan s) (tree : Tree (List ℕ) module_text) → IsUtf8 (formatted_text indent tree scan.lexemes))
+    → ((indent : Indent) (s : TextWithTokens) (scan : IsScan s) (tree : Tree (List ℕ) module_text) → ModuleOf s tree → LexesInto (formatted_text indent tree scan.lexemes) (formatted_lexemes indent tree scan.lexemes))
     → ModuleStays → IsFormatResult unit indent text r
 formats_or_not unit indent text names m (Ok edits) is h same changes short made long refusals other u lexed law =
     formats unit indent text edits.items names m is h same (changes, short, made) u lexed law
@@ -102,7 +102,7 @@ formats_or_not unit indent text names m (Err refusal) is h same changes short ma
 -- The result of asking for the formatting is the result of formatting the text.
 pub layout_found : (unit : Unit) (indent : Indent) (bytes text : List ℕ) (found : Option (Result (Vec Edit Global) EditRefusal)) → IsUtf8 bytes → chars bytes ≡ text
     → AnswersIfWellTyped bytes (λ names outcome. IsResolvedWellTypedModule (utf8 text) names → text ≡ chars names.module_read.source.text → IsFormatResult unit indent text outcome) found
-    → FindsFormatResult unit indent text found
+    → IsOptionalFormatResult unit indent text found
 layout_found unit indent bytes text (Some outcome) u is h =
     h.2 (subst (λ (t : List ℕ). IsResolvedWellTypedModule t h.0) (utf8_of bytes text u is) h.1) (sym is ∙ ap chars (sym h.1.scan.of))
 layout_found unit indent bytes text None u is h = subst (λ (t : List ℕ). IsWellTypedModule t → ⊥) (utf8_of bytes text u is) h

@@ -15,9 +15,9 @@ use Rattle.ob0_text.specs.declared.refusals.EditRefusal.TheVariants.{Memory}
 use Rattle.ob0_tree.specs.ParsedModule.{named_tree_of}
 use Rattle.ob0_tree.specs.Tree.{Tree, module_text}
 use Rattle.ob0_analysis.specs.Analysed.{AnswersIfWellTyped, IsResolvedWellTypedModule}
-use Rattle.ob0_analysis.specs.Diagnosed.{IsTextOf, IsWellTypedModule}
+use Rattle.ob0_analysis.specs.Diagnosed.{IsTextOfTree, IsWellTypedModule}
 use Rattle.ob0_analysis.specs.Texts.{utf8}
-use Rattle.ob0_edits.specs.Renamings.{FindsRenameResult, RenamesIn, IsRenameResult}
+use Rattle.ob0_edits.specs.Renamings.{IsOptionalRenameResult, RenamesInText, IsRenameResult}
 use Rattle.ob0_analysis.proofs.Scanning.{is_module, utf8_of}
 
 -- A refusal that isn't a failed allocation is a reason not to rename.
@@ -33,11 +33,11 @@ settled r answer (Err refusal) h is other = not_memory r refusal (subst (λ (a :
 -- If edits leave a text of a well-typed tree with the same runs, they rename in the text.
 renames_in : (unit : Unit) (text : List ℕ) (place : Position) (new : List ℕ) (edits : List Edit) (names : Resolution) → IsResolvedWellTypedModule (utf8 text) names
     → AreRenameEdits (renaming_of unit text names place new) edits → (tokens : List ℕ) (tree : Tree Name module_text) → WritesNewName (renaming_of unit text names place new) tokens tree edits
-    → RenamesIn unit text place new edits
+    → RenamesInText unit text place new edits
 renames_in unit text place new edits names h are tokens tree made =
     let after : List ℕ = chars made.after.text in
-    let text_of : IsTextOf tree (utf8 after) =
-    subst (λ (t : List ℕ). IsTextOf tree t) (utf8_of made.after.text after made.scan.utf8 refl) (record { scanned = made.after; scan = record { of = refl; scan = made.scan }; module_of = made.of_module })
+    let text_of : IsTextOfTree tree (utf8 after) =
+    subst (λ (t : List ℕ). IsTextOfTree tree t) (utf8_of made.after.text after made.scan.utf8 refl) (record { scanned = made.after; scan = record { of = refl; scan = made.scan }; module_of = made.of_module })
     in
     record {
       names = names;
@@ -49,14 +49,14 @@ renames_in unit text place new edits names h are tokens tree made =
     }
 
 spellings_after_rename : (unit : Unit) (text : List ℕ) (place : Position) (new : List ℕ) (edits : List Edit) (names : Resolution) → IsResolvedWellTypedModule (utf8 text) names
-    → AreRenameEdits (renaming_of unit text names place new) edits → RenamesIn unit text place new edits
+    → AreRenameEdits (renaming_of unit text names place new) edits → RenamesInText unit text place new edits
 spellings_after_rename unit text place new edits names h (inl (d, means, renames)) =
     renames_in unit text place new edits names h (inl (d, means, renames)) (tokens_to_rename names.module_read d new) (renamed (named_tree_of names.module_read) d new) renames.writes
 spellings_after_rename unit text place new edits names h (inr (k, (f, means, renames))) =
     renames_in unit text place new edits names h (inr (k, (f, means, renames))) (field_tokens_to_rename names k f new) (with_renamed_field (named_tree_of names.module_read) k f new) renames.writes
 
 pub new_name_found : (unit : Unit) (bytes text : List ℕ) (place : Position) (new : List ℕ) (found : Option (Result (Vec Edit Global) EditRefusal)) → IsUtf8 bytes → chars bytes ≡ text
-    → AnswersIfWellTyped bytes (λ names outcome. IsRenameResult (renaming_of unit text names place new) outcome) found → FindsRenameResult unit text place new found
+    → AnswersIfWellTyped bytes (λ names outcome. IsRenameResult (renaming_of unit text names place new) outcome) found → IsOptionalRenameResult unit text place new found
 new_name_found unit bytes text place new (Some (Ok edits)) u is h =
     spellings_after_rename unit text place new edits.items h.0 (subst (λ (t : List ℕ). IsResolvedWellTypedModule t h.0) (utf8_of bytes text u is) h.1) h.2
 new_name_found unit bytes text place new (Some (Err refusal)) u is h =

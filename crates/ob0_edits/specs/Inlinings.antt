@@ -2,7 +2,7 @@
 -- Rule: docs/PROTOCOL.md, Requests on documents 7, 9, 10.
 use Rattle.std.specs.Prelude.{◌≡◌, ℕ, List, Option, Some, None, Result, Ok, Err, Vec}
 use Rattle.std.specs.declared.alloc.Global.{Global}
-use Rattle.ob0_text.specs.Patches.{patched}
+use Rattle.ob0_text.specs.Patches.{patched_text}
 use Rattle.ob0_text.specs.Units.{width_of}
 use Rattle.ob0_text.specs.declared.edits.Edit.{Edit}
 use Rattle.ob0_text.specs.declared.position_types.Unit.{Unit}
@@ -40,20 +40,20 @@ IsInlineResult how unit text m offset None =
     × ¬ (refusal ≡ Memory)
     × AnswersInlining how unit text m offset (Err refusal)
 
--- States that these edits inline the constant at a byte offset of a well-typed module. Applied all
--- at once, the edits give a text whose module has the same runs.
-pub record InlinesIn (how : Inlining) (unit : Unit) (text : List ℕ) (offset : ℕ)
+-- States that these edits inline the constant at a byte offset of a well-typed module. Applied
+-- together, the edits give a text whose module has the same runs.
+pub record InlinesInText (how : Inlining) (unit : Unit) (text : List ℕ) (offset : ℕ)
     (edits : Vec Edit Global) : Type 0 where
   pub module_read : ParsedModule
   pub read : IsParsedWellTypedModule (utf8 text) module_read
   pub inlines : IsInlineResult how unit text module_read offset (Some edits)
   pub after : List ℕ
-  pub made : patched (width_of unit) text edits.items ≡ Some after
+  pub made : patched_text (width_of unit) text edits.items ≡ Some after
   pub runs : RunsAsBefore (utf8 text) (utf8 after)
 
 -- States that the text is a well-typed module, and that inlining the constant at this byte offset
 -- is refused, but not because an allocation failed.
-pub record IsInliningRefusedIn (how : Inlining) (unit : Unit) (text : List ℕ) (offset : ℕ) : Type 0 where
+pub record IsInliningRefusedInText (how : Inlining) (unit : Unit) (text : List ℕ) (offset : ℕ) : Type 0 where
   pub module_read : ParsedModule
   pub read : IsParsedWellTypedModule (utf8 text) module_read
   pub refused : IsInlineResult how unit text module_read offset None
@@ -69,13 +69,13 @@ AreEditsUnlessRefused answer None = (refusal : EditRefusal) × ¬ (refusal ≡ M
 -- States that these edits inline the constant at a byte offset of the text. None means that the
 -- text is a well-typed module, and that this inlining is refused, but not because an allocation
 -- failed.
-abbrev pub OffersInlining : Inlining → Unit → List ℕ → ℕ → Option (Vec Edit Global) → Type 0
-OffersInlining how unit text offset (Some edits) = InlinesIn how unit text offset edits
-OffersInlining how unit text offset None = IsInliningRefusedIn how unit text offset
+abbrev pub OffersOrRefusesInlining : Inlining → Unit → List ℕ → ℕ → Option (Vec Edit Global) → Type 0
+OffersOrRefusesInlining how unit text offset (Some edits) = InlinesInText how unit text offset edits
+OffersOrRefusesInlining how unit text offset None = IsInliningRefusedInText how unit text offset
 
 -- States that these are the results of both kinds of inlining at a byte offset of a text. None
 -- means that the text isn't a well-typed module.
-abbrev pub FindsInlineResults : Unit → List ℕ → ℕ → Option found_inlinings.Inlinings → Type 0
-FindsInlineResults unit text offset (Some found) =
-    OffersInlining OneUse unit text offset found.here × OffersInlining Everywhere unit text offset found.everywhere
-FindsInlineResults unit text offset None = ¬ IsWellTypedModule (utf8 text)
+abbrev pub AreOptionalInlineResults : Unit → List ℕ → ℕ → Option found_inlinings.Inlinings → Type 0
+AreOptionalInlineResults unit text offset (Some found) =
+    OffersOrRefusesInlining OneUse unit text offset found.here × OffersOrRefusesInlining Everywhere unit text offset found.everywhere
+AreOptionalInlineResults unit text offset None = ¬ IsWellTypedModule (utf8 text)

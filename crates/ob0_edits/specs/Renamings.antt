@@ -2,7 +2,7 @@
 -- Rule: docs/PROTOCOL.md, Requests on documents 2, 6.
 use Rattle.std.specs.Prelude.{◌≡◌, ℕ, List, Option, Some, None, Result, Ok, Err, Vec}
 use Rattle.std.specs.declared.alloc.Global.{Global}
-use Rattle.ob0_text.specs.Patches.{patched}
+use Rattle.ob0_text.specs.Patches.{patched_text}
 use Rattle.ob0_text.specs.Units.{width_of}
 use Rattle.ob0_text.specs.declared.edits.Edit.{Edit}
 use Rattle.ob0_text.specs.declared.position_types.Position.{Position}
@@ -23,19 +23,19 @@ IsRenameResult r (Ok edits) = AreRenameEdits r edits.items
 IsRenameResult r (Err refusal) = IsRenameRefusal r refusal
 
 -- States that these edits rename the declaration or field at a position of a well-typed module to
--- `new`. Applied all at once, the edits give a text of the renamed module, which has the same runs.
-pub record RenamesIn (unit : Unit) (text : List ℕ) (place : Position) (new : List ℕ)
+-- `new`. Applied together, the edits give a text of the renamed module, which has the same runs.
+pub record RenamesInText (unit : Unit) (text : List ℕ) (place : Position) (new : List ℕ)
     (edits : List Edit) : Type 0 where
   pub names : Resolution
   pub read : IsResolvedWellTypedModule (utf8 text) names
   pub are_edits : AreRenameEdits (renaming_of unit text names place new) edits
   pub after : List ℕ
-  pub made : patched (width_of unit) text edits ≡ Some after
+  pub made : patched_text (width_of unit) text edits ≡ Some after
   pub runs : RunsAsBefore (utf8 text) (utf8 after)
 
 -- States that the text is a well-typed module, and that renaming the declaration or field at the
 -- position `place` to `new` is refused for the reason `refusal`.
-pub record IsRenameRefusedIn (unit : Unit) (text : List ℕ) (place : Position) (new : List ℕ)
+pub record IsRenameRefusedInText (unit : Unit) (text : List ℕ) (place : Position) (new : List ℕ)
     (refusal : EditRefusal) : Type 0 where
   pub names : Resolution
   pub read : IsResolvedWellTypedModule (utf8 text) names
@@ -43,12 +43,12 @@ pub record IsRenameRefusedIn (unit : Unit) (text : List ℕ) (place : Position) 
 
 -- States that this is the result of renaming the declaration or field at a position of a text:
 -- edits, or the refusal. None means that the text isn't a well-typed module.
-abbrev pub FindsRenameResult : Unit
+abbrev pub IsOptionalRenameResult : Unit
     → List ℕ
     → Position
     → List ℕ
     → Option (Result (Vec Edit Global) EditRefusal)
     → Type 0
-FindsRenameResult unit text place new (Some (Ok edits)) = RenamesIn unit text place new edits.items
-FindsRenameResult unit text place new (Some (Err refusal)) = IsRenameRefusedIn unit text place new refusal
-FindsRenameResult unit text place new None = ¬ IsWellTypedModule (utf8 text)
+IsOptionalRenameResult unit text place new (Some (Ok edits)) = RenamesInText unit text place new edits.items
+IsOptionalRenameResult unit text place new (Some (Err refusal)) = IsRenameRefusedInText unit text place new refusal
+IsOptionalRenameResult unit text place new None = ¬ IsWellTypedModule (utf8 text)

@@ -10,10 +10,10 @@ ghost use Rattle.std.specs.Prelude.{◌≡◌, IfOk};
 ghost use Rattle.std.specs.Str.{chars};
 ghost use Rattle.ob0_text.specs.Texts.{offset_of};
 ghost use Rattle.ob0_text.specs.Units.{width_of};
-ghost use Rattle.ob0_edits.specs.Inlinings.{FindsInlineResults, IsInlineResult, AreEditsUnlessRefused};
+ghost use Rattle.ob0_edits.specs.Inlinings.{AreOptionalInlineResults, IsInlineResult, AreEditsUnlessRefused};
 ghost use Rattle.ob0_edits.specs.declared.inlinings.Inlining.TheVariants as how;
 
-use crate::refusals::memory_as_error;
+use crate::refusals::memory_refusal_as_error;
 use ob0_analysis::{Analysis, Question, WellTyped, ask};
 use ob0_inline::{inline_all, inline_here};
 use ob0_text::{Edit, EditRefusal, Position, TextStore};
@@ -69,7 +69,7 @@ fn edits_unless_refused(
 ) -> Result<Option<Vec<Edit>>, AllocError>
     ensures { IfOk result (λ edits. AreEditsUnlessRefused answer edits) }
 {
-    let kept = memory_as_error(answer)?;
+    let kept = memory_refusal_as_error(answer)?;
     match kept {
         Ok(edits) => Ok(Some(edits)),
         Err(_refusal) => Ok(None),
@@ -86,7 +86,7 @@ pub fn inline_edits<T: TextStore>(
     place: Position,
 ) -> Result<Option<Inlinings>, AllocError>
     requires { T.content store.now ≡ chars analysis.now }
-    ensures { IfOk result (λ found. FindsInlineResults (T.unit_of store.now) (T.content store.now)
+    ensures { IfOk result (λ found. AreOptionalInlineResults (T.unit_of store.now) (T.content store.now)
         (offset_of (width_of (T.unit_of store.now)) (T.content store.now) place) found) }
 {
     ask(alloc, analysis, &InliningsQuestion { store, place })

@@ -4,13 +4,13 @@ ghost use Rattle.std.specs.Prelude.{◌≡◌, IfOk};
 ghost use Rattle.std.specs.Str.{chars};
 ghost use Rattle.ob0_analysis.specs.Analysed.{IsResolvedWellTypedModule};
 ghost use Rattle.ob0_analysis.specs.Texts.{utf8};
-ghost use Rattle.ob0_edits.specs.Layouts.{FindsFormatResult, IsFormatResult};
+ghost use Rattle.ob0_edits.specs.Layouts.{IsOptionalFormatResult, IsFormatResult};
 
-use crate::refusals::memory_as_error;
+use crate::refusals::memory_refusal_as_error;
 use ob0_analysis::{Analysis, Question, WellTyped, ask};
 use ob0_layout::format;
 use ob0_layout::laws::{
-    formatting_keeps_lexemes, formatting_keeps_module, gaps_give_formatted_text,
+    formatting_keeps_module, formatting_keeps_tokens_and_comments, gaps_give_formatted_text,
 };
 use ob0_text::{Edit, EditRefusal, Indent, TextStore};
 use std::alloc::{AllocError, Global};
@@ -34,11 +34,11 @@ impl<'a, T: TextStore> Question for FormatQuestion<'a, T> {
         alloc: Global,
         module: &WellTyped<'_>,
     ) -> Result<Result<Vec<Edit>, EditRefusal>, AllocError> {
-        formatting_keeps_lexemes();
+        formatting_keeps_tokens_and_comments();
         formatting_keeps_module();
         gaps_give_formatted_text();
         let module = module.resolved().module();
-        memory_as_error(format(alloc, self.store, module, self.indent))
+        memory_refusal_as_error(format(alloc, self.store, module, self.indent))
     }
 }
 
@@ -53,7 +53,7 @@ pub fn format_edits<T: TextStore>(
 ) -> Result<Option<Result<Vec<Edit>, EditRefusal>>, AllocError>
     requires { T.content store.now ≡ chars analysis.now }
     ensures { IfOk result
-        (λ found. FindsFormatResult (T.unit_of store.now) indent (T.content store.now) found) }
+        (λ found. IsOptionalFormatResult (T.unit_of store.now) indent (T.content store.now) found) }
 {
     ask(alloc, analysis, &FormatQuestion { store, indent })
 }

@@ -6,7 +6,7 @@ use ob0_text::{Edit, EditRefusal};
 use std::alloc::AllocError;
 
 /// Returns edits or a refusal unchanged, except that the refusal `Memory` is returned as an error.
-pub(crate) fn memory_as_error(
+pub(crate) fn memory_refusal_as_error(
     outcome: Result<Vec<Edit>, EditRefusal>,
 ) -> Result<Result<Vec<Edit>, EditRefusal>, AllocError>
     ensures { IfOk result

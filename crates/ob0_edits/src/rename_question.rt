@@ -3,18 +3,18 @@
 //! Declarations and fields are two cases of `AreRenameEdits` and `IsRenameRefusal` of `ob0_rename`.
 //! Both cases of `AreRenameEdits` state which tokens the edits replace by the new name
 //! (`WritesNewName`). So one lemma, `renames_in` of `proofs/Renamings`, covers declarations and
-//! fields. `RenamesIn` and `IsRenameRefusedIn` are about the module with its names bound
+//! fields. `RenamesInText` and `IsRenameRefusedInText` are about the module with its names bound
 //! (`IsResolvedWellTypedModule`), because fields are found through the bindings of names. The
 //! function `ask` answers a question about a well-typed text. Its contract is about the bytes of
-//! the text, while `RenamesIn` is about the characters. The lemma `new_name_found` derives
-//! `RenamesIn` from this contract.
+//! the text, while `RenamesInText` is about the characters. The lemma `new_name_found` derives
+//! `RenamesInText` from this contract.
 
 ghost use Rattle.std.specs.Prelude.{◌≡◌, IfOk};
 ghost use Rattle.std.specs.Str.{chars};
 ghost use Rattle.ob0_rename.specs.Renaming.{renaming_of};
-ghost use Rattle.ob0_edits.specs.Renamings.{FindsRenameResult, IsRenameResult};
+ghost use Rattle.ob0_edits.specs.Renamings.{IsOptionalRenameResult, IsRenameResult};
 
-use crate::refusals::memory_as_error;
+use crate::refusals::memory_refusal_as_error;
 use ob0_analysis::{Analysis, Question, WellTyped, ask};
 use ob0_rename::rename;
 use ob0_text::{Edit, EditRefusal, Position, TextStore};
@@ -42,7 +42,7 @@ impl<'a, T: TextStore> Question for RenameQuestion<'a, T> {
         alloc: Global,
         module: &WellTyped<'_>,
     ) -> Result<Result<Vec<Edit>, EditRefusal>, AllocError> {
-        memory_as_error(rename(alloc, self.store, module, self.place, self.new))
+        memory_refusal_as_error(rename(alloc, self.store, module, self.place, self.new))
     }
 }
 
@@ -58,7 +58,7 @@ pub fn rename_edits<T: TextStore>(
 ) -> Result<Option<Result<Vec<Edit>, EditRefusal>>, AllocError>
     requires { T.content store.now ≡ chars analysis.now }
     ensures { IfOk result
-        (λ found. FindsRenameResult (T.unit_of store.now) (T.content store.now) place new.now found) }
+        (λ found. IsOptionalRenameResult (T.unit_of store.now) (T.content store.now) place new.now found) }
 {
     let question = RenameQuestion { store, place, new };
     ask(alloc, analysis, &question)

@@ -7,8 +7,8 @@ use Rattle.ob0_scan.specs.declared.lexeme.ReservedWord.{ReservedWord}
 use Rattle.ob0_scan.specs.declared.lexeme.ReservedWord.TheVariants as reserved
 use Rattle.ob0_scan.specs.declared.lexeme.Token.{Token}
 use Rattle.ob0_scan.specs.Classes.{IsIdentifier, reserved_text}
-use Rattle.ob0_scan.specs.TextWithTokens.{TextWithTokens, IsScan, IsRangeOf, max_text}
-use Rattle.ob0_scan.proofs.Borders.{cut_depends_on_next_bytes}
+use Rattle.ob0_scan.specs.TextWithTokens.{TextWithTokens, IsScan, IsRangeOf, max_text_length}
+use Rattle.ob0_scan.proofs.Borders.{cut_into_lexemes_depends_on_next_bytes}
 use Rattle.ob0_scan.proofs.Spans.{scan_token_ranges}
 use Rattle.ob0_text.specs.Patches.{Cut, text_with_cuts}
 use Rattle.ob0_edits_tokens.specs.Replaced.{span_at, AreIdentifierIndexes, replacement_cut}
@@ -36,7 +36,7 @@ same_chain tokens a b at (p ∷ ps) h = (h.0, h.1, same_chain tokens a b (span_a
 
 pub chain_at : (s : TextWithTokens) (scan : IsScan s) (new places : List ℕ) → AreIdentifierIndexes s.tokens 0 places → Chain 0 (map (replacement_cut s.tokens new) places)
 chain_at s scan new places names =
-    let apart = (cut_depends_on_next_bytes s.text scan.lexemes).0 scan.lexed in
+    let apart = (cut_into_lexemes_depends_on_next_bytes s.text scan.lexemes).0 scan.lexed in
     let done = swapped s.text s.tokens (codes "x") _ (a_name (codes "x") some_name) 0 0 scan.lexemes places [] scan.tokens refl (sym apart.0) apart.1 names in
     same_chain s.tokens (codes "x") new 0 places done.chain
 
@@ -56,7 +56,7 @@ pub record Counted (s : TextWithTokens) (new places : List ℕ) (total count end
   pub sum : count + length (text_with_cuts s.text end (map (replacement_cut s.tokens new) (drop i places))) ≡ total
   pub chain : Chain end (map (replacement_cut s.tokens new) (drop i places))
   pub inside : end ≤ length s.text
-  pub short : count ≤ max_text
+  pub short : count ≤ max_text_length
   pub least : ℕ
   pub names : AreIdentifierIndexes s.tokens least (drop i places)
 
@@ -103,7 +103,7 @@ module _ (s : TextWithTokens) (new places : List ℕ) (total count end i : ℕ) 
         ap (λ n. count + n) (sym (piece_length s.text end (replacement_cut s.tokens new (get_or places i 0)) (map (replacement_cut s.tokens new) (drop (i + 1) places)) begins_following range.start.0))
         ∙ ap (λ ps. count + length (text_with_cuts s.text end (map (replacement_cut s.tokens new) ps))) (sym here) ∙ c.sum
 
-    pub counted_next : (more : ℕ) → more ≡ count + ((span_at s.tokens (get_or places i 0)).start - end + length new) → more ≤ max_text
+    pub counted_next : (more : ℕ) → more ≡ count + ((span_at s.tokens (get_or places i 0)).start - end + length new) → more ≤ max_text_length
         → Counted s new places total more (span_at s.tokens (get_or places i 0)).end (i + 1)
     counted_next more e short = record {
       scan = c.scan;
@@ -125,7 +125,7 @@ module _ (s : TextWithTokens) (new places : List ℕ) (total count end i : ℕ) 
 -- The removal of a declaration and the cuts after it follow one another.
 pub chain_without : (s : TextWithTokens) (scan : IsScan s) (new places : List ℕ) (first last : ℕ) → MayBeConstantDeclaration s.tokens first last → AreIdentifierIndexes s.tokens (suc last) places → Chain 0 (removal_cut s.tokens first last ∷ map (replacement_cut s.tokens new) places)
 chain_without s scan new places first last decl names =
-    let apart = (cut_depends_on_next_bytes s.text scan.lexemes).0 scan.lexed in
+    let apart = (cut_into_lexemes_depends_on_next_bytes s.text scan.lexemes).0 scan.lexed in
     let done = cleared s.text s.tokens (codes "x") _ (a_name (codes "x") some_name) first last decl places names 0 0 scan.lexemes []
     (record { tokens_are = scan.tokens; count = refl; rest = sym apart.0; apart = apart.1 }) (omega arith) in
     (done.chain.0, done.chain.1, same_chain s.tokens (codes "x") new (span_at s.tokens last).end places done.chain.2)

@@ -3,8 +3,8 @@ use Rattle.std.proofs.Common.{◌≡◌, ℕ, suc, ◌≤◌, List, [], ◌∷�
 use Rattle.std.specs.Prelude.{Some}
 use Rattle.std.specs.Str.{IsCharBoundary, IsUtf8, chars}
 use Rattle.ob0_scan.specs.Lexed.{Lexeme, LexesInto}
-use Rattle.ob0_scan.specs.TextWithTokens.{Word, TextWithTokens, IsScan, IsRangeOf, tokens_from, comments_from, max_text}
-use Rattle.ob0_scan.proofs.Borders.{cut_depends_on_next_bytes}
+use Rattle.ob0_scan.specs.TextWithTokens.{Word, TextWithTokens, IsScan, IsRangeOf, tokens_from, comments_from, max_text_length}
+use Rattle.ob0_scan.proofs.Borders.{cut_into_lexemes_depends_on_next_bytes}
 use Rattle.ob0_scan.proofs.Spans.{scan_words, scan_token_ranges}
 use Rattle.ob0_text.specs.declared.edits.Edit.{Edit}
 use Rattle.ob0_text.specs.declared.position_types.Range.{Range}
@@ -12,7 +12,7 @@ use Rattle.ob0_text.specs.declared.position_types.Unit as counting
 use Rattle.ob0_text.specs.Units.{width_of}
 use Rattle.ob0_text.specs.Patches.{Cut, cut_at, cuts_of, patched_by_cuts}
 use Rattle.ob0_edits_tokens.specs.Changed.{words_of, changed_words, changes_at}
-use Rattle.ob0_edits_tokens.specs.Replaced.{AreIdentifierIndexes, span_at, replacement_cut, text_after_replacement, MayReplaceName, range_and_text, replacement_at_token, LeavesWords}
+use Rattle.ob0_edits_tokens.specs.Replaced.{AreIdentifierIndexes, span_at, replacement_cut, text_after_replacement, MayReplaceIdentifier, range_and_text, replacement_at_token, EditsGiveWords}
 use Rattle.ob0_edits_tokens.specs.Ranges.{range_of}
 use Rattle.ob0_edits_tokens.proofs.Swaps.{Chain, AllClear, HasClearEnds, Swapped, swapped}
 use Rattle.ob0_edits_tokens.proofs.TextCuts.{AreSame, IsBorder, chained, same_cut, patched_by_same}
@@ -28,10 +28,10 @@ first_border text c place clear = record { place = place; clear = λ ending. cle
 pub last_border : (text : List ℕ) (c : Cut) → IsCharBoundary text c.to → HasClearEnds text c → IsBorder text c.to
 last_border text c place clear = record { place = place; clear = λ ending. clear.last ending.cr }
 
-module _ (unit : counting.Unit) (s : TextWithTokens) (scan : IsScan s) (new : List ℕ) (ws : List Word) (replaces : MayReplaceName new ws) (good : IsUtf8 new) (places : List ℕ) (names : AreIdentifierIndexes s.tokens 0 places) where
+module _ (unit : counting.Unit) (s : TextWithTokens) (scan : IsScan s) (new : List ℕ) (ws : List Word) (replaces : MayReplaceIdentifier new ws) (good : IsUtf8 new) (places : List ℕ) (names : AreIdentifierIndexes s.tokens 0 places) where
   result : Swapped s.text s.tokens new ws replaces 0 0 scan.lexemes places
   result =
-      let apart = (cut_depends_on_next_bytes s.text scan.lexemes).0 scan.lexed in
+      let apart = (cut_into_lexemes_depends_on_next_bytes s.text scan.lexemes).0 scan.lexed in
       swapped s.text s.tokens new ws replaces 0 0 scan.lexemes places [] scan.tokens refl (sym apart.0) apart.1 names
 
   -- returns the cut at a place, in characters
@@ -57,10 +57,10 @@ module _ (unit : counting.Unit) (s : TextWithTokens) (scan : IsScan s) (new : Li
       ap₂ (λ c cs. c ∷ cs) (ap (λ (p : Range × List ℕ). cut_at (width_of unit) (chars s.text) p.0 (chars p.1)) head) (cuts_of_parts xs qs (ap (drop 1) e))
   cuts_of_parts _ _ e = absurd (cc)
 
-  pub leaves_words : (edits : List Edit) → map range_and_text edits ≡ map (replacement_at_token unit (chars s.text) s.tokens new) places → length (text_after_replacement s places new) ≤ max_text
-      → LeavesWords unit (chars s.text) edits (changed_words (changes_at places ws) 0 (words_of s))
+  pub leaves_words : (edits : List Edit) → map range_and_text edits ≡ map (replacement_at_token unit (chars s.text) s.tokens new) places → length (text_after_replacement s places new) ≤ max_text_length
+      → EditsGiveWords unit (chars s.text) edits (changed_words (changes_at places ws) 0 (words_of s))
   leaves_words edits e short =
-      let lexed : LexesInto (text_after_replacement s places new) result.lexemes = (cut_depends_on_next_bytes (text_after_replacement s places new) result.lexemes).1 (result.whole, result.apart) in
+      let lexed : LexesInto (text_after_replacement s places new) result.lexemes = (cut_into_lexemes_depends_on_next_bytes (text_after_replacement s places new) result.lexemes).1 (result.whole, result.apart) in
       let after : TextWithTokens = scan_of (text_after_replacement s places new) result.lexemes in
       let is_scan : IsScan after = record { utf8 = made.0; short = short; lexemes = result.lexemes; lexed = lexed; tokens = refl; comments = refl } in
       record {

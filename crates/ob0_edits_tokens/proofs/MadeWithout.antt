@@ -5,8 +5,8 @@ use Rattle.std.specs.Prelude.{Some}
 use Rattle.std.specs.Str.{IsUtf8, chars}
 use Rattle.ob0_scan.specs.declared.lexeme.Token.{Token}
 use Rattle.ob0_scan.specs.Lexed.{LexesInto}
-use Rattle.ob0_scan.specs.TextWithTokens.{Word, TextWithTokens, IsScan, IsRangeOf, max_text}
-use Rattle.ob0_scan.proofs.Borders.{cut_depends_on_next_bytes}
+use Rattle.ob0_scan.specs.TextWithTokens.{Word, TextWithTokens, IsScan, IsRangeOf, max_text_length}
+use Rattle.ob0_scan.proofs.Borders.{cut_into_lexemes_depends_on_next_bytes}
 use Rattle.ob0_scan.proofs.Spans.{scan_words, scan_token_ranges}
 use Rattle.ob0_text.specs.declared.edits.Edit.{Edit}
 use Rattle.ob0_text.specs.declared.position_types.Range.{Range}
@@ -14,7 +14,7 @@ use Rattle.ob0_text.specs.declared.position_types.Unit as counting
 use Rattle.ob0_text.specs.Units.{width_of}
 use Rattle.ob0_text.specs.Patches.{Cut, cut_at, cuts_of, patched_by_cuts}
 use Rattle.ob0_edits_tokens.specs.Changed.{words_of, changed_words, changes_at}
-use Rattle.ob0_edits_tokens.specs.Replaced.{AreIdentifierIndexes, span_at, replacement_cut, MayReplaceName, range_and_text, replacement_at_token, LeavesWords}
+use Rattle.ob0_edits_tokens.specs.Replaced.{AreIdentifierIndexes, span_at, replacement_cut, MayReplaceIdentifier, range_and_text, replacement_at_token, EditsGiveWords}
 use Rattle.ob0_edits_tokens.specs.Ranges.{range_of}
 use Rattle.ob0_edits_tokens.specs.Removed.{changes_with_removal, MayBeConstantDeclaration, span_of_tokens, removal_cut, text_after_removal}
 use Rattle.ob0_edits_tokens.proofs.TextCuts.{AreSame, chained, same_cut, patched_by_same}
@@ -25,13 +25,13 @@ pub lower : (tokens : List Token) (least low : ℕ) (places : List ℕ) → low 
 lower tokens least low [] h names = tt
 lower tokens least low (p ∷ ps) h names = (omega (arith, h, names.0), names.1, names.2, names.3)
 
-module _ (unit : counting.Unit) (s : TextWithTokens) (scan : IsScan s) (new : List ℕ) (ws : List Word) (replaces : MayReplaceName new ws) (good : IsUtf8 new) (first last : ℕ) (decl : MayBeConstantDeclaration s.tokens first last) (places : List ℕ) (names : AreIdentifierIndexes s.tokens (suc last) places) where
+module _ (unit : counting.Unit) (s : TextWithTokens) (scan : IsScan s) (new : List ℕ) (ws : List Word) (replaces : MayReplaceIdentifier new ws) (good : IsUtf8 new) (first last : ℕ) (decl : MayBeConstantDeclaration s.tokens first last) (places : List ℕ) (names : AreIdentifierIndexes s.tokens (suc last) places) where
   all_names : AreIdentifierIndexes s.tokens 0 places
   all_names = lower s.tokens (suc last) 0 places (omega arith) names
 
   result : Cleared s.text s.tokens new ws replaces first last decl places names 0 0 scan.lexemes
   result =
-      let apart = (cut_depends_on_next_bytes s.text scan.lexemes).0 scan.lexed in
+      let apart = (cut_into_lexemes_depends_on_next_bytes s.text scan.lexemes).0 scan.lexed in
       cleared s.text s.tokens new ws replaces first last decl places names 0 0 scan.lexemes []
       (record { tokens_are = scan.tokens; count = refl; rest = sym apart.0; apart = apart.1 }) (omega arith)
 
@@ -62,9 +62,9 @@ module _ (unit : counting.Unit) (s : TextWithTokens) (scan : IsScan s) (new : Li
       (cuts_of_parts unit s scan new ws replaces good places all_names xs places (ap (drop 1) e))
 
   pub leaves_words_without : (edits : List Edit) → map range_and_text edits ≡ (range_of (width_of unit) (chars s.text) (span_of_tokens s.tokens first last), []) ∷ map (replacement_at_token unit (chars s.text) s.tokens new) places
-      → length (text_after_removal s first last places new) ≤ max_text → LeavesWords unit (chars s.text) edits (changed_words (changes_with_removal first last (changes_at places ws)) 0 (words_of s))
+      → length (text_after_removal s first last places new) ≤ max_text_length → EditsGiveWords unit (chars s.text) edits (changed_words (changes_with_removal first last (changes_at places ws)) 0 (words_of s))
   leaves_words_without edits e short =
-      let lexed : LexesInto (text_after_removal s first last places new) result.lexemes = (cut_depends_on_next_bytes (text_after_removal s first last places new) result.lexemes).1 (result.whole, result.apart) in
+      let lexed : LexesInto (text_after_removal s first last places new) result.lexemes = (cut_into_lexemes_depends_on_next_bytes (text_after_removal s first last places new) result.lexemes).1 (result.whole, result.apart) in
       let after : TextWithTokens = scan_of (text_after_removal s first last places new) result.lexemes in
       let is_scan : IsScan after = record { utf8 = made.0; short = short; lexemes = result.lexemes; lexed = lexed; tokens = refl; comments = refl } in
       record {

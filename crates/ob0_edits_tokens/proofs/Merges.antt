@@ -7,7 +7,7 @@ use Rattle.ob0_scan.specs.declared.lexeme.LexemeKind.TheVariants as lexeme
 use Rattle.ob0_scan.specs.Classes.{IsLexemeOfKind, is_space, IsNonEmptySequenceOf}
 use Rattle.ob0_scan.specs.Lexed.{Lexeme, text_of_lexemes}
 use Rattle.ob0_scan.specs.Ends.{continues_lexeme, EachEndsBeforeNext}
-use Rattle.ob0_scan.specs.TextWithTokens.{word_of, words_of_lexemes}
+use Rattle.ob0_scan.specs.TextWithTokens.{words_of_lexeme, words_of_lexemes}
 use Rattle.ob0_scan.proofs.Families.{Blank, family_of, family-blank, head_family}
 use Rattle.ob0_scan.proofs.Cuts.{nonempty}
 use Rattle.ob0_edits_tokens.proofs.Swaps.{first_of}
@@ -32,7 +32,7 @@ begins_with_space (m ∷ ms) apart h =
 pub record Merged (l : Lexeme) (ns : List Lexeme) : Type 0 where
   pub lexemes : List Lexeme
   pub apart : EachEndsBeforeNext lexemes
-  pub read : words_of_lexemes lexemes ≡ word_of l l.kind ++ words_of_lexemes ns
+  pub read : words_of_lexemes lexemes ≡ words_of_lexeme l l.kind ++ words_of_lexemes ns
   pub whole : text_of_lexemes lexemes ≡ l.text ++ text_of_lexemes ns
 
 -- holds if a lexeme ends before others, or if it and the first of them are white space
@@ -54,7 +54,7 @@ merge_spaces l (m ∷ ms) belongs apart space begins =
         },
         apart.1,
       );
-      read = sym (ap₂ (λ x y. word_of l x ++ (word_of m y ++ words_of_lexemes ms)) space begins);
+      read = sym (ap₂ (λ x y. words_of_lexeme l x ++ (words_of_lexeme m y ++ words_of_lexemes ms)) space begins);
       whole = append_assoc l.text m.text (text_of_lexemes ms);
     }
 

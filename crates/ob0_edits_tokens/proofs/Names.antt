@@ -12,7 +12,7 @@ use Rattle.ob0_scan.specs.declared.lexeme.LexemeKind.TheVariants as lexeme
 use Rattle.ob0_scan.specs.Classes.{IsIdentifier, is_space}
 use Rattle.ob0_scan.specs.Ends.{continues_symbol, continues_lexeme}
 use Rattle.ob0_scan.proofs.Cuts.{nonempty}
-use Rattle.ob0_edits_tokens.specs.Replaced.{MayReplaceName}
+use Rattle.ob0_edits_tokens.specs.Replaced.{MayReplaceIdentifier}
 
 -- A byte that is neither `=` nor `*` continues no symbol.
 not_joined : (s : Symbol) (b : ℕ) → (b == 61) ≡ false → (b == 42) ≡ false → continues_symbol s b ≡ false
@@ -45,7 +45,7 @@ before_paren (lexeme.Token (token.Symbol s)) = not_joined s 40 refl refl
 before_paren _ = refl
 
 -- An identifier may replace any identifier.
-pub a_name : (new : List ℕ) → IsIdentifier new → MayReplaceName new (record { kind = token.Identifier; text = new } ∷ [])
+pub a_name : (new : List ℕ) → IsIdentifier new → MayReplaceIdentifier new (record { kind = token.Identifier; text = new } ∷ [])
 a_name new name = record {
   lexemes = record { kind = lexeme.Token token.Identifier; text = new } ∷ [];
   whole = append-nil new;

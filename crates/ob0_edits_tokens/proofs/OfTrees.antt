@@ -10,7 +10,7 @@ use Rattle.ob0_scan.specs.declared.lexeme.TokenKind.TheVariants as token
 use Rattle.ob0_scan.specs.declared.lexeme.Token.{Token}
 use Rattle.ob0_scan.specs.TextWithTokens.{Word, TextWithTokens, word_of_token}
 use Rattle.ob0_tree.specs.Lexeme.{Terminal, Name, Number, WordOrSymbol, EndOfText, terminal_of_kind, mapped_terminal}
-use Rattle.ob0_tree.specs.Places.{index_terminal, kind_value_or_zero}
+use Rattle.ob0_tree.specs.Places.{indexed_terminal, integer_value_or_zero}
 use Rattle.ob0_edits_tokens.specs.Words.{terminal_of_word}
 use Rattle.ob0_tree.specs.Tree.{spell}
 use Rattle.ob0_tree.proofs.Mapped.{spell_mapped}
@@ -18,21 +18,21 @@ use Rattle.ob0_edits_tokens.specs.Changed.{WordChanges, words_of, changed_words,
 use Rattle.ob0_edits_tokens.specs.Replaced as place
 use Rattle.ob0_edits_tokens.specs.Replaced.{AreIdentifierIndexes}
 use Rattle.ob0_edits_tokens.specs.Written.{name_word}
-use Rattle.ob0_edits_tokens.specs.OfTrees.{indexed_tokens, word_at, word_text_at, number_at, renamed_word_text, RenamingKeepsSpelling}
+use Rattle.ob0_edits_tokens.specs.OfTrees.{indexed_terminals_of_words, word_at, word_text_at, number_at, renamed_word_text, RenamingKeepsSpelling}
 
 -- A property of each word with its index also holds of words between others.
-module _ (all : List Word) (ch : WordChanges) (f : Terminal ℕ → List (Terminal (List ℕ))) (each : (j : ℕ) → f (index_terminal j (word_at all j).kind) ≡ map terminal_of_word (replacement_or_word (word_at all j) (ch j))) where
-  pub of_each : (k : ℕ) (done ws rest : List Word) → all ≡ done ++ (ws ++ rest) → length done ≡ k → flat_map f (indexed_tokens k ws) ≡ map terminal_of_word (changed_words ch k ws)
+module _ (all : List Word) (ch : WordChanges) (f : Terminal ℕ → List (Terminal (List ℕ))) (each : (j : ℕ) → f (indexed_terminal j (word_at all j).kind) ≡ map terminal_of_word (replacement_or_word (word_at all j) (ch j))) where
+  pub of_each : (k : ℕ) (done ws rest : List Word) → all ≡ done ++ (ws ++ rest) → length done ≡ k → flat_map f (indexed_terminals_of_words k ws) ≡ map terminal_of_word (changed_words ch k ws)
   of_each k done [] rest e count = refl
   of_each k done (w ∷ ws) rest e count =
       let here : word_at all k ≡ w = (λ i. word_at (e i) (sym count i)) ∙ get_or-append_seam done w (ws ++ rest) _ in
-      let this : f (index_terminal k w.kind) ≡ map terminal_of_word (replacement_or_word w (ch k)) =
-      ap (λ (v : Word). f (index_terminal k v.kind)) (sym here) ∙ each k ∙ ap (λ v. map terminal_of_word (replacement_or_word v (ch k))) here in
+      let this : f (indexed_terminal k w.kind) ≡ map terminal_of_word (replacement_or_word w (ch k)) =
+      ap (λ (v : Word). f (indexed_terminal k v.kind)) (sym here) ∙ each k ∙ ap (λ v. map terminal_of_word (replacement_or_word v (ch k))) here in
       let more : length (done ++ (w ∷ [])) ≡ suc k = length-append done (w ∷ []) ∙ omega (arith, count) in
       ap₂ (λ xs ys. xs ++ ys) this (of_each (suc k) (done ++ (w ∷ [])) ws rest (e ∙ sym (append_assoc done (w ∷ []) (ws ++ rest))) more)
       ∙ sym (map-append terminal_of_word (replacement_or_word w (ch k)) (changed_words ch (suc k) ws))
 
-  pub of_all : flat_map f (indexed_tokens 0 all) ≡ map terminal_of_word (changed_words ch 0 all)
+  pub of_all : flat_map f (indexed_terminals_of_words 0 all) ≡ map terminal_of_word (changed_words ch 0 all)
   of_all = of_each 0 [] all [] (sym (append-nil all)) refl
 
 -- The tokens at the places are identifiers.
@@ -61,11 +61,11 @@ replaced gives others f g (WordOrSymbol k) = WordOrSymbol k ∷ []
 replaced gives others f g EndOfText = EndOfText ∷ []
 
 -- A token that isn't replaced is its word's token.
-stays : (w : Word) (gives : ℕ → Bool) (others : List (Terminal (List ℕ))) (f : ℕ → List ℕ) (g : ℕ → ℕ) (j : ℕ) → gives j ≡ false → f j ≡ w.text → g j ≡ kind_value_or_zero w.kind
-    → replaced gives others f g (index_terminal j w.kind) ≡ terminal_of_word w ∷ []
+stays : (w : Word) (gives : ℕ → Bool) (others : List (Terminal (List ℕ))) (f : ℕ → List ℕ) (g : ℕ → ℕ) (j : ℕ) → gives j ≡ false → f j ≡ w.text → g j ≡ integer_value_or_zero w.kind
+    → replaced gives others f g (indexed_terminal j w.kind) ≡ terminal_of_word w ∷ []
 stays w gives others f g j left e h = by_kind w.kind h
   where
-    by_kind : (kind : TokenKind) → g j ≡ kind_value_or_zero kind → replaced gives others f g (index_terminal j kind) ≡ terminal_of_kind w.text kind ∷ []
+    by_kind : (kind : TokenKind) → g j ≡ integer_value_or_zero kind → replaced gives others f g (indexed_terminal j kind) ≡ terminal_of_kind w.text kind ∷ []
     by_kind token.Identifier h = ap (λ b. if b then others else Name (f j) ∷ []) left ∙ ap (λ n. Name n ∷ []) e
     by_kind (token.ReservedWord r) h = refl
     by_kind (token.Integer n) h = ap (λ m. Number m ∷ []) h
@@ -76,21 +76,21 @@ module _ (s : TextWithTokens) (places : List ℕ) (vs : List Word) where
   abbrev pub put : Terminal ℕ → List (Terminal (List ℕ))
   put = replaced (λ k. is_in_list k places) (map terminal_of_word vs) (word_text_at (words_of s)) (number_at (words_of s))
 
-  pub each_put : (least : ℕ) → AreIdentifierIndexes s.tokens least places → (j : ℕ) → put (index_terminal j (word_at (words_of s) j).kind) ≡ map terminal_of_word (replacement_or_word (word_at (words_of s) j) (changes_at places vs j))
+  pub each_put : (least : ℕ) → AreIdentifierIndexes s.tokens least places → (j : ℕ) → put (indexed_terminal j (word_at (words_of s) j).kind) ≡ map terminal_of_word (replacement_or_word (word_at (words_of s) j) (changes_at places vs j))
   each_put least names j = by_test (is_in_list j places) refl
     where
       by_test : (b : Bool) → is_in_list j places ≡ b
-          → put (index_terminal j (word_at (words_of s) j).kind)
+          → put (indexed_terminal j (word_at (words_of s) j).kind)
           ≡ map terminal_of_word (replacement_or_word (word_at (words_of s) j) (if is_in_list j places then Some vs else None))
       by_test true e =
-          ap (λ k. put (index_terminal j k)) (word_kind s j ∙ names_at s.tokens least places j names e)
+          ap (λ k. put (indexed_terminal j k)) (word_kind s j ∙ names_at s.tokens least places j names e)
           ∙ ap (λ b. if b then map terminal_of_word vs else Name (word_text_at (words_of s) j) ∷ []) e
           ∙ ap (λ b. map terminal_of_word (replacement_or_word (word_at (words_of s) j) (if b then Some vs else None))) (sym e)
       by_test false e =
           stays (word_at (words_of s) j) (λ k. is_in_list k places) (map terminal_of_word vs) (word_text_at (words_of s)) (number_at (words_of s)) j e refl refl
           ∙ ap (λ b. map terminal_of_word (replacement_or_word (word_at (words_of s) j) (if b then Some vs else None))) (sym e)
 
-  pub all_put : AreIdentifierIndexes s.tokens 0 places → flat_map put (indexed_tokens 0 (words_of s)) ≡ map terminal_of_word (changed_words (changes_at places vs) 0 (words_of s))
+  pub all_put : AreIdentifierIndexes s.tokens 0 places → flat_map put (indexed_terminals_of_words 0 (words_of s)) ≡ map terminal_of_word (changed_words (changes_at places vs) 0 (words_of s))
   all_put names = of_all (words_of s) (changes_at places vs) put (each_put 0 names)
 
 -- Renaming the tokens is replacing the names by the new name.

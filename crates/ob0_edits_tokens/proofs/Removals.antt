@@ -15,13 +15,13 @@ use Rattle.ob0_scan.specs.declared.lexeme.Token.{Token}
 use Rattle.ob0_scan.specs.Classes.{IsLexemeOfKind, IsIdentifier, is_space}
 use Rattle.ob0_scan.specs.Lexed.{Lexeme, text_of_lexemes}
 use Rattle.ob0_scan.specs.Ends.{continues_lexeme, EachEndsBeforeNext}
-use Rattle.ob0_scan.specs.TextWithTokens.{Word, word_of, words_of_lexemes, span_from, token_at, tokens_from}
+use Rattle.ob0_scan.specs.TextWithTokens.{Word, words_of_lexeme, words_of_lexemes, span_from, tokens_of_lexeme, tokens_from}
 use Rattle.ob0_scan.proofs.Cuts.{nonempty}
 use Rattle.ob0_scan.proofs.Runs.{letter_or_digit}
 use Rattle.ob0_text.specs.Patches.{Cut, text_with_cuts}
 use Rattle.ob0_edits_tokens.specs.Changed.{WordChanges, changed_words, changes_at, replacement_or_word}
 use Rattle.ob0_edits_tokens.specs.Replaced as place
-use Rattle.ob0_edits_tokens.specs.Replaced.{AreIdentifierIndexes, span_at, replacement_cut, MayReplaceName}
+use Rattle.ob0_edits_tokens.specs.Replaced.{AreIdentifierIndexes, span_at, replacement_cut, MayReplaceIdentifier}
 use Rattle.ob0_edits_tokens.specs.Removed.{changes_with_removal, MayBeConstantDeclaration, removal_cut}
 use Rattle.ob0_edits_tokens.proofs.Swaps.{Chain, chain_from, AllClear, Swapped, swapped, pieced_keep, pieced_here, same_first, first_of, byte_at, further, here_token, make_token, make_word, no_break, not_among}
 use Rattle.ob0_edits_tokens.proofs.Merges.{begins_with_space, MeetsLoosely, merged}
@@ -51,7 +51,7 @@ gone first last k ch h e = rw (le-leb first k h, le-leb k last e) refl
 not_gone : (first last k : ℕ) (ch : WordChanges) → k < first → changes_with_removal first last ch k ≡ ch k
 not_gone first last k ch h = rw (lt-leb first k h) refl
 
-module _ (text : List ℕ) (tokens : List Token) (new : List ℕ) (ws : List Word) (replaces : MayReplaceName new ws) (first last : ℕ) (decl : MayBeConstantDeclaration tokens first last) (places : List ℕ) (names : AreIdentifierIndexes tokens (suc last) places) where
+module _ (text : List ℕ) (tokens : List Token) (new : List ℕ) (ws : List Word) (replaces : MayReplaceIdentifier new ws) (first last : ℕ) (decl : MayBeConstantDeclaration tokens first last) (places : List ℕ) (names : AreIdentifierIndexes tokens (suc last) places) where
   abbrev changes : WordChanges
   changes = changes_with_removal first last (changes_at places ws)
 
@@ -66,16 +66,16 @@ module _ (text : List ℕ) (tokens : List Token) (new : List ℕ) (ws : List Wor
     pub rest : drop at text ≡ text_of_lexemes ls
     pub apart : EachEndsBeforeNext ls
 
-  next_gap : (at k : ℕ) (l : Lexeme) (ls : List Lexeme) (done : List Token) (kind : LexemeKind) → l.kind ≡ kind → token_at kind (span_from at (length l.text)) ≡ [] → At at k (l ∷ ls) done → At (at + length l.text) k ls done
+  next_gap : (at k : ℕ) (l : Lexeme) (ls : List Lexeme) (done : List Token) (kind : LexemeKind) → l.kind ≡ kind → tokens_of_lexeme kind (span_from at (length l.text)) ≡ [] → At at k (l ∷ ls) done → At (at + length l.text) k ls done
   next_gap at k l ls done kind f none a = record {
-    tokens_are = a.tokens_are ∙ ap (λ x. done ++ (token_at x (span_from at (length l.text)) ++ tokens_from (at + length l.text) ls)) f ∙ ap (λ x. done ++ (x ++ tokens_from (at + length l.text) ls)) none;
+    tokens_are = a.tokens_are ∙ ap (λ x. done ++ (tokens_of_lexeme x (span_from at (length l.text)) ++ tokens_from (at + length l.text) ls)) f ∙ ap (λ x. done ++ (x ++ tokens_from (at + length l.text) ls)) none;
     count = a.count;
     rest = further text at l.text (text_of_lexemes ls) a.rest;
     apart = a.apart.1;
   }
 
   this_token : (at k : ℕ) (l : Lexeme) (ls : List Lexeme) (done : List Token) (kind : TokenKind) → l.kind ≡ lexeme.Token kind → At at k (l ∷ ls) done → tokens ≡ done ++ (make_token kind (span_from at (length l.text)) ∷ tokens_from (at + length l.text) ls)
-  this_token at k l ls done kind f a = a.tokens_are ∙ ap (λ x. done ++ (token_at x (span_from at (length l.text)) ++ tokens_from (at + length l.text) ls)) f
+  this_token at k l ls done kind f a = a.tokens_are ∙ ap (λ x. done ++ (tokens_of_lexeme x (span_from at (length l.text)) ++ tokens_from (at + length l.text) ls)) f
 
   next_token : (at k : ℕ) (l : Lexeme) (ls : List Lexeme) (done : List Token) (kind : TokenKind) → l.kind ≡ lexeme.Token kind → At at k (l ∷ ls) done → At (at + length l.text) (suc k) ls (done ++ (make_token kind (span_from at (length l.text)) ∷ []))
   next_token at k l ls done kind f a = record {
@@ -98,7 +98,7 @@ module _ (text : List ℕ) (tokens : List Token) (new : List ℕ) (ws : List Wor
     byte : get_or text (after - 1) 0 ≡ 59
     read : changed_words changes k (words_of_lexemes ls) ≡ changed_words (changes_at places ws) (suc last) (words_of_lexemes rest)
 
-  skip_more : (at k m : ℕ) (l : Lexeme) (ls : List Lexeme) → changed_words changes k (word_of l l.kind ++ words_of_lexemes ls) ≡ changed_words changes m (words_of_lexemes ls) → After (at + length l.text) m ls → After at k (l ∷ ls)
+  skip_more : (at k m : ℕ) (l : Lexeme) (ls : List Lexeme) → changed_words changes k (words_of_lexeme l l.kind ++ words_of_lexemes ls) ≡ changed_words changes m (words_of_lexemes ls) → After (at + length l.text) m ls → After at k (l ∷ ls)
   skip_more at k m l ls same b = record {
     after = b.after;
     rest = b.rest;
@@ -109,9 +109,9 @@ module _ (text : List ℕ) (tokens : List Token) (new : List ℕ) (ws : List Wor
     read = same ∙ b.read;
   }
 
-  words_gone : (k : ℕ) (l : Lexeme) (ls : List Lexeme) (kind : TokenKind) → l.kind ≡ lexeme.Token kind → first ≤ k → k ≤ last → changed_words changes k (word_of l l.kind ++ words_of_lexemes ls) ≡ changed_words changes (suc k) (words_of_lexemes ls)
+  words_gone : (k : ℕ) (l : Lexeme) (ls : List Lexeme) (kind : TokenKind) → l.kind ≡ lexeme.Token kind → first ≤ k → k ≤ last → changed_words changes k (words_of_lexeme l l.kind ++ words_of_lexemes ls) ≡ changed_words changes (suc k) (words_of_lexemes ls)
   words_gone k l ls kind f h e =
-      ap (λ x. changed_words changes k (word_of l x ++ words_of_lexemes ls)) f ∙ ap (λ o. replacement_or_word (make_word kind l.text) o ++ changed_words changes (suc k) (words_of_lexemes ls)) (gone first last k (changes_at places ws) h e)
+      ap (λ x. changed_words changes k (words_of_lexeme l x ++ words_of_lexemes ls)) f ∙ ap (λ o. replacement_or_word (make_word kind l.text) o ++ changed_words changes (suc k) (words_of_lexemes ls)) (gone first last k (changes_at places ws) h e)
 
   skip_end : (at : ℕ) (l : Lexeme) (ls : List Lexeme) (done : List Token) (kind : TokenKind) → l.kind ≡ lexeme.Token kind → At at last (l ∷ ls) done → After at last (l ∷ ls)
   skip_end at l ls done kind f a =
@@ -137,8 +137,8 @@ module _ (text : List ℕ) (tokens : List Token) (new : List ℕ) (ws : List Wor
     where
       by_kind : (kind : LexemeKind) → l.kind ≡ kind → ((before : List Token) → At (at + length l.text) k ls before → After (at + length l.text) k ls)
           → ((before : List Token) → At (at + length l.text) (suc k) ls before → suc k ≤ last → After (at + length l.text) (suc k) ls) → After at k (l ∷ ls)
-      by_kind lexeme.Space f same more = skip_more at k k l ls (ap (λ x. changed_words changes k (word_of l x ++ words_of_lexemes ls)) f) (same done (next_gap at k l ls done lexeme.Space f refl a))
-      by_kind lexeme.Comment f same more = skip_more at k k l ls (ap (λ x. changed_words changes k (word_of l x ++ words_of_lexemes ls)) f) (same done (next_gap at k l ls done lexeme.Comment f refl a))
+      by_kind lexeme.Space f same more = skip_more at k k l ls (ap (λ x. changed_words changes k (words_of_lexeme l x ++ words_of_lexemes ls)) f) (same done (next_gap at k l ls done lexeme.Space f refl a))
+      by_kind lexeme.Comment f same more = skip_more at k k l ls (ap (λ x. changed_words changes k (words_of_lexeme l x ++ words_of_lexemes ls)) f) (same done (next_gap at k l ls done lexeme.Comment f refl a))
       by_kind (lexeme.Token kind) f same more = by_test (k == last) refl
         where
           by_test : (b : Bool) → (k == last) ≡ b → After at k (l ∷ ls)
@@ -160,7 +160,7 @@ module _ (text : List ℕ) (tokens : List Token) (new : List ℕ) (ws : List Wor
     pub chain : Chain at cuts
     pub clear : AllClear text cuts
 
-  keep : (at k m : ℕ) (l : Lexeme) (ls : List Lexeme) (done : List Token) → At at k (l ∷ ls) done → changed_words changes k (words_of_lexemes (l ∷ ls)) ≡ word_of l l.kind ++ changed_words changes m (words_of_lexemes ls)
+  keep : (at k m : ℕ) (l : Lexeme) (ls : List Lexeme) (done : List Token) → At at k (l ∷ ls) done → changed_words changes k (words_of_lexemes (l ∷ ls)) ≡ words_of_lexeme l l.kind ++ changed_words changes m (words_of_lexemes ls)
       → (m ≡ first → OfBorder l.kind) → Cleared (at + length l.text) m ls → Cleared at k (l ∷ ls)
   keep at k m l ls done a same border tail =
       let one = merged l tail.lexemes a.apart.0.belongs tail.apart (tail.front l.kind border a.apart.0.ends) in
@@ -168,7 +168,7 @@ module _ (text : List ℕ) (tokens : List Token) (new : List ℕ) (ws : List Wor
       record {
         lexemes = one.lexemes;
         apart = one.apart;
-        read = one.read ∙ ap (λ t. word_of l l.kind ++ t) tail.read ∙ sym same;
+        read = one.read ∙ ap (λ t. words_of_lexeme l l.kind ++ t) tail.read ∙ sym same;
         whole = one.whole ∙ ap (λ t. l.text ++ t) tail.whole ∙ sym (pieced_keep text at l.text (text_of_lexemes ls) cuts a.rest tail.chain);
         front = λ kind may h. inl (ap (λ t. continues_lexeme kind (get_or t 0 0)) one.whole ∙ ap (continues_lexeme kind) (same_first l.text (text_of_lexemes tail.lexemes) (text_of_lexemes ls) some) ∙ h);
         chain = chain_from (at + length l.text) at cuts (omega arith) tail.chain;
@@ -226,9 +226,9 @@ module _ (text : List ℕ) (tokens : List Token) (new : List ℕ) (ws : List Wor
       by_kind : (kind : LexemeKind) → l.kind ≡ kind → ((before : List Token) → At (at + length l.text) k ls before → Cleared (at + length l.text) k ls)
           → ((before : List Token) → At (at + length l.text) (suc k) ls before → suc k ≤ first → Cleared (at + length l.text) (suc k) ls) → Cleared at k (l ∷ ls)
       by_kind lexeme.Space f same more =
-          keep at k k l ls done a (ap (λ x. changed_words changes k (word_of l x ++ words_of_lexemes ls)) f ∙ ap (λ x. word_of l x ++ changed_words changes k (words_of_lexemes ls)) (sym f)) (λ e. subst OfBorder (sym f) tt) (same done (next_gap at k l ls done lexeme.Space f refl a))
+          keep at k k l ls done a (ap (λ x. changed_words changes k (words_of_lexeme l x ++ words_of_lexemes ls)) f ∙ ap (λ x. words_of_lexeme l x ++ changed_words changes k (words_of_lexemes ls)) (sym f)) (λ e. subst OfBorder (sym f) tt) (same done (next_gap at k l ls done lexeme.Space f refl a))
       by_kind lexeme.Comment f same more =
-          keep at k k l ls done a (ap (λ x. changed_words changes k (word_of l x ++ words_of_lexemes ls)) f ∙ ap (λ x. word_of l x ++ changed_words changes k (words_of_lexemes ls)) (sym f)) (λ e. subst OfBorder (sym f) tt) (same done (next_gap at k l ls done lexeme.Comment f refl a))
+          keep at k k l ls done a (ap (λ x. changed_words changes k (words_of_lexeme l x ++ words_of_lexemes ls)) f ∙ ap (λ x. words_of_lexeme l x ++ changed_words changes k (words_of_lexemes ls)) (sym f)) (λ e. subst OfBorder (sym f) tt) (same done (next_gap at k l ls done lexeme.Comment f refl a))
       by_kind (lexeme.Token kind) f same more = by_test (k == first) refl
         where
           by_test : (b : Bool) → (k == first) ≡ b → Cleared at k (l ∷ ls)
@@ -239,6 +239,6 @@ module _ (text : List ℕ) (tokens : List Token) (new : List ℕ) (ws : List Wor
               ∙ ap (λ b. if b then Some ws else None) (not_among tokens (suc last) k places names (omega (arith, on, decl.order))) in
               let here = token_here at k l ls done kind f a in
               keep at k (suc k) l ls done a
-              (ap (λ x. changed_words changes k (word_of l x ++ words_of_lexemes ls)) f ∙ ap (λ o. replacement_or_word (make_word kind l.text) o ++ changed_words changes (suc k) (words_of_lexemes ls)) stays ∙ ap (λ x. word_of l x ++ changed_words changes (suc k) (words_of_lexemes ls)) (sym f))
+              (ap (λ x. changed_words changes k (words_of_lexeme l x ++ words_of_lexemes ls)) f ∙ ap (λ o. replacement_or_word (make_word kind l.text) o ++ changed_words changes (suc k) (words_of_lexemes ls)) stays ∙ ap (λ x. words_of_lexeme l x ++ changed_words changes (suc k) (words_of_lexemes ls)) (sym f))
               (λ now. subst OfBorder (sym f) (before_first k kind (ap (λ (t : Token). t.kind) here) now))
               (more (done ++ (make_token kind (span_from at (length l.text)) ∷ [])) (next_token at k l ls done kind f a) on)

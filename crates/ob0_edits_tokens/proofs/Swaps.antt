@@ -15,13 +15,13 @@ use Rattle.std.proofs.lemmas.Bool.Decides.{nat_tests}
 use Rattle.ob0_scan.specs.Classes.{IsLexemeOfKind, IsIdentifier}
 use Rattle.ob0_scan.specs.Lexed.{Lexeme, text_of_lexemes}
 use Rattle.ob0_scan.specs.Ends.{continues_lexeme, EachEndsBeforeNext}
-use Rattle.ob0_scan.specs.TextWithTokens.{Word, word_of, words_of_lexemes, span_from, token_at, tokens_from}
+use Rattle.ob0_scan.specs.TextWithTokens.{Word, words_of_lexeme, words_of_lexemes, span_from, tokens_of_lexeme, tokens_from}
 use Rattle.ob0_scan.proofs.Cuts.{nonempty}
 use Rattle.ob0_scan.proofs.Reusing.{joined_append}
 use Rattle.ob0_text.specs.Patches.{Cut, text_with_cuts}
 use Rattle.ob0_edits_tokens.specs.Changed.{changed_words, changes_at, is_in_list, replacement_or_word}
 use Rattle.ob0_edits_tokens.specs.Replaced as place
-use Rattle.ob0_edits_tokens.specs.Replaced.{AreIdentifierIndexes, span_at, replacement_cut, CutsAscend, MayReplaceName}
+use Rattle.ob0_edits_tokens.specs.Replaced.{AreIdentifierIndexes, span_at, replacement_cut, CutsAscend, MayReplaceIdentifier}
 use Rattle.ob0_edits_tokens.proofs.Ends.{append_apart}
 
 abbrev pub make_word : TokenKind → List ℕ → Word
@@ -29,7 +29,7 @@ make_word kind text = record { kind = kind; text = text }
 
 pub words_of_lexemes-append : (xs ys : List Lexeme) → words_of_lexemes (xs ++ ys) ≡ words_of_lexemes xs ++ words_of_lexemes ys
 words_of_lexemes-append [] ys = refl
-words_of_lexemes-append (x ∷ xs) ys = ap (λ t. word_of x x.kind ++ t) (words_of_lexemes-append xs ys) ∙ sym (append_assoc (word_of x x.kind) (words_of_lexemes xs) (words_of_lexemes ys))
+words_of_lexemes-append (x ∷ xs) ys = ap (λ t. words_of_lexeme x x.kind ++ t) (words_of_lexemes-append xs ys) ∙ sym (append_assoc (words_of_lexeme x x.kind) (words_of_lexemes xs) (words_of_lexemes ys))
 
 -- No index below the least is among the places.
 pub not_among : (tokens : List Token) (least k : ℕ) (places : List ℕ) → AreIdentifierIndexes tokens least places → k < least → is_in_list k places ≡ false
@@ -113,7 +113,7 @@ pieced_end text at = refl
 abbrev pub make_token : TokenKind → Span → Token
 make_token kind span = record { kind = kind; span = span }
 
-module _ (text : List ℕ) (tokens : List Token) (new : List ℕ) (ws : List Word) (replaces : MayReplaceName new ws) where
+module _ (text : List ℕ) (tokens : List Token) (new : List ℕ) (ws : List Word) (replaces : MayReplaceIdentifier new ws) where
   -- states that the lexemes after a place are known, with the new lexemes at the places; the first
   -- token has the index k
   pub record Swapped (at k : ℕ) (ls : List Lexeme) (places : List ℕ) : Type 0 where
@@ -127,12 +127,12 @@ module _ (text : List ℕ) (tokens : List Token) (new : List ℕ) (ws : List Wor
 
   -- A lexeme that isn't at a place is kept.
   keep : (at k m : ℕ) (l : Lexeme) (ls : List Lexeme) (places : List ℕ) → drop at text ≡ text_of_lexemes (l ∷ ls) → EachEndsBeforeNext (l ∷ ls)
-      → changed_words (changes_at places ws) k (words_of_lexemes (l ∷ ls)) ≡ word_of l l.kind ++ changed_words (changes_at places ws) m (words_of_lexemes ls)
+      → changed_words (changes_at places ws) k (words_of_lexemes (l ∷ ls)) ≡ words_of_lexeme l l.kind ++ changed_words (changes_at places ws) m (words_of_lexemes ls)
       → Swapped (at + length l.text) m ls places → Swapped at k (l ∷ ls) places
   keep at k m l ls places e apart same tail = record {
     lexemes = l ∷ tail.lexemes;
     apart = (record { belongs = apart.0.belongs; ends = tail.front l.kind apart.0.ends }, tail.apart);
-    read = ap (λ t. word_of l l.kind ++ t) tail.read ∙ sym same;
+    read = ap (λ t. words_of_lexeme l l.kind ++ t) tail.read ∙ sym same;
     whole = ap (λ t. l.text ++ t) tail.whole ∙ sym (pieced_keep text at l.text (text_of_lexemes ls) (map (replacement_cut tokens new) places) e tail.chain);
     front = λ kind h. ap (continues_lexeme kind) (same_first l.text (text_of_lexemes tail.lexemes) (text_of_lexemes ls) (nonempty l.kind l.text apart.0.belongs)) ∙ h;
     chain = chain_from (at + length l.text) at (map (replacement_cut tokens new) places) (omega arith) tail.chain;
@@ -157,7 +157,7 @@ module _ (text : List ℕ) (tokens : List Token) (new : List ℕ) (ws : List Wor
       let to : (span_at tokens k).end ≡ at + length l.text = ap (λ s. s.end) span in
       let following : List Word = changed_words (changes_at (k ∷ ps) ws) (suc k) (words_of_lexemes ls) in
       let gone : changed_words (changes_at (k ∷ ps) ws) k (words_of_lexemes (l ∷ ls)) ≡ ws ++ following =
-      ap (λ x. changed_words (changes_at (k ∷ ps) ws) k (word_of l x ++ words_of_lexemes ls)) name
+      ap (λ x. changed_words (changes_at (k ∷ ps) ws) k (words_of_lexeme l x ++ words_of_lexemes ls)) name
       ∙ ap (λ b. replacement_or_word (make_word token.Identifier l.text) (if b || is_in_list k ps then Some ws else None) ++ following) (eq-eqb k k refl) in
       let last_at : (span_at tokens k).end - 1 ≡ at + (length l.text - 1) = omega (arith, to, some) in
       let begins : get_or (text_of_lexemes (l ∷ ls)) 0 0 ≡ get_or l.text 0 0 = first_of l.text (text_of_lexemes ls) some in
@@ -187,11 +187,11 @@ module _ (text : List ℕ) (tokens : List Token) (new : List ℕ) (ws : List Wor
   Later at ls = (m : ℕ) (qs : List ℕ) (before : List Token) → tokens ≡ before ++ tokens_from at ls → length before ≡ m → AreIdentifierIndexes tokens m qs → Swapped at m ls qs
 
   module _ (at k : ℕ) (l : Lexeme) (ls : List Lexeme) (done : List Token) (te : tokens ≡ done ++ tokens_from at (l ∷ ls)) (count : length done ≡ k) (e : drop at text ≡ text_of_lexemes (l ∷ ls)) (apart : EachEndsBeforeNext (l ∷ ls)) (later : Later (at + length l.text) ls) where
-    gap : (kind : LexemeKind) → l.kind ≡ kind → word_of l kind ≡ [] → token_at kind (span_from at (length l.text)) ≡ [] → (places : List ℕ) → AreIdentifierIndexes tokens k places → Swapped at k (l ∷ ls) places
+    gap : (kind : LexemeKind) → l.kind ≡ kind → words_of_lexeme l kind ≡ [] → tokens_of_lexeme kind (span_from at (length l.text)) ≡ [] → (places : List ℕ) → AreIdentifierIndexes tokens k places → Swapped at k (l ∷ ls) places
     gap kind f no_word no_token places names =
-        let none : word_of l l.kind ≡ [] = ap (word_of l) f ∙ no_word in
+        let none : words_of_lexeme l l.kind ≡ [] = ap (words_of_lexeme l) f ∙ no_word in
         let same : tokens ≡ done ++ tokens_from (at + length l.text) ls =
-        te ∙ ap (λ x. done ++ (token_at x (span_from at (length l.text)) ++ tokens_from (at + length l.text) ls)) f ∙ ap (λ x. done ++ (x ++ tokens_from (at + length l.text) ls)) no_token in
+        te ∙ ap (λ x. done ++ (tokens_of_lexeme x (span_from at (length l.text)) ++ tokens_from (at + length l.text) ls)) f ∙ ap (λ x. done ++ (x ++ tokens_from (at + length l.text) ls)) no_token in
         keep at k k l ls places e apart (ap (λ x. changed_words (changes_at places ws) k (x ++ words_of_lexemes ls)) none ∙ ap (λ x. x ++ changed_words (changes_at places ws) k (words_of_lexemes ls)) (sym none)) (later k places done same count names)
 
     module _ (kind : TokenKind) (f : l.kind ≡ lexeme.Token kind) where
@@ -200,7 +200,7 @@ module _ (text : List ℕ) (tokens : List Token) (new : List ℕ) (ws : List Wor
 
       tokens_here : tokens ≡ done ++ (this ∷ tokens_from (at + length l.text) ls)
       unfolding this
-      tokens_here = te ∙ ap (λ x. done ++ (token_at x (span_from at (length l.text)) ++ tokens_from (at + length l.text) ls)) f
+      tokens_here = te ∙ ap (λ x. done ++ (tokens_of_lexeme x (span_from at (length l.text)) ++ tokens_from (at + length l.text) ls)) f
 
       tokens_following : tokens ≡ (done ++ (this ∷ [])) ++ tokens_from (at + length l.text) ls
       tokens_following = tokens_here ∙ sym (append_assoc done (this ∷ []) (tokens_from (at + length l.text) ls))
@@ -210,10 +210,10 @@ module _ (text : List ℕ) (tokens : List Token) (new : List ℕ) (ws : List Wor
 
       stays : (places : List ℕ) → is_in_list k places ≡ false → AreIdentifierIndexes tokens (suc k) places → Swapped at k (l ∷ ls) places
       stays places other names =
-          let same : changed_words (changes_at places ws) k (words_of_lexemes (l ∷ ls)) ≡ word_of l l.kind ++ changed_words (changes_at places ws) (suc k) (words_of_lexemes ls) =
-          ap (λ x. changed_words (changes_at places ws) k (word_of l x ++ words_of_lexemes ls)) f
+          let same : changed_words (changes_at places ws) k (words_of_lexemes (l ∷ ls)) ≡ words_of_lexeme l l.kind ++ changed_words (changes_at places ws) (suc k) (words_of_lexemes ls) =
+          ap (λ x. changed_words (changes_at places ws) k (words_of_lexeme l x ++ words_of_lexemes ls)) f
           ∙ ap (λ b. replacement_or_word (make_word kind l.text) (if b then Some ws else None) ++ changed_words (changes_at places ws) (suc k) (words_of_lexemes ls)) other
-          ∙ ap (λ x. word_of l x ++ changed_words (changes_at places ws) (suc k) (words_of_lexemes ls)) (sym f) in
+          ∙ ap (λ x. words_of_lexeme l x ++ changed_words (changes_at places ws) (suc k) (words_of_lexemes ls)) (sym f) in
           keep at k (suc k) l ls places e apart same (later (suc k) places (done ++ (this ∷ [])) tokens_following count_following names)
 
       goes : (ps : List ℕ) → (place.token_or_empty tokens k).kind ≡ token.Identifier → AreIdentifierIndexes tokens (suc k) ps → Swapped at k (l ∷ ls) (k ∷ ps)

@@ -11,8 +11,8 @@ use Rattle.ob0_text.specs.declared.position_types.Range.{Range}
 use Rattle.ob0_text.specs.declared.position_types.Unit as counting
 use Rattle.ob0_text.specs.Units.{width_of}
 use Rattle.ob0_text.proofs.Widths.{wide}
-use Rattle.ob0_text.specs.Texts.{CR, LF, text_before, position_of, byte_len, IsInsideEnding}
-use Rattle.ob0_text.specs.Patches.{Cut, char_count_before, cut_at, are_disjoint, are_all_disjoint, is_cut_before, insert_in_order, in_text_order, text_with_cuts, patched_by_cuts}
+use Rattle.ob0_text.specs.Texts.{CR, LF, text_before, position_of, byte_len, IsBetweenCrAndLf}
+use Rattle.ob0_text.specs.Patches.{Cut, char_count_before, cut_at, are_disjoint, are_all_disjoint, is_cut_before, insert_cut_in_order, cuts_in_text_order, text_with_cuts, patched_by_cuts}
 use Rattle.ob0_text.proofs.RoundTrip.{places_go_back}
 use Rattle.ob0_text.proofs.Prefixes.{border_at}
 use Rattle.ob0_text.proofs.CutOrder.{bytes_further}
@@ -66,7 +66,7 @@ ascii_pair rest = λ i. encode_ascii 13 (omega arith) i ++ (encode_ascii 10 (ome
 ascii_one : encode_utf8_all (CR ∷ []) ≡ 13 ∷ []
 ascii_one = λ i. encode_ascii 13 (omega arith) i ++ []
 
-ending_bytes : (text : List ℕ) (offset k : ℕ) → byte_len (take k text) ≡ offset → IsInsideEnding text k → IsEnding (encode_utf8_all text) offset
+ending_bytes : (text : List ℕ) (offset k : ℕ) → byte_len (take k text) ≡ offset → IsBetweenCrAndLf text k → IsEnding (encode_utf8_all text) offset
 ending_bytes text offset k here (front, rest, e, count) =
     let start : List ℕ = encode_utf8_all front in
     let bytes : encode_utf8_all text ≡ start ++ (13 ∷ 10 ∷ encode_utf8_all rest) = ap encode_utf8_all e ∙ encodes-append front (CR ∷ LF ∷ rest) ∙ ap (λ t. start ++ t) (ascii_pair rest) in
@@ -86,7 +86,7 @@ module _ (unit : counting.Unit) (bytes : List ℕ) (u : IsUtf8 bytes) where
   goes_to : (offset k : ℕ) → CanCountFrom bytes offset k → (IsEnding bytes offset → ⊥) → char_count_before (width_of unit) (chars bytes) (position_of (width_of unit) (chars bytes) offset) ≡ k
   unfolding char_count_before
   goes_to offset k p clear =
-      let outside : IsInsideEnding (chars bytes) k → ⊥ = λ inside. clear (subst (λ b. IsEnding b offset) (encodes-chars bytes u) (ending_bytes (chars bytes) offset k p.here inside)) in
+      let outside : IsBetweenCrAndLf (chars bytes) k → ⊥ = λ inside. clear (subst (λ b. IsEnding b offset) (encodes-chars bytes u) (ending_bytes (chars bytes) offset k p.here inside)) in
       ap (λ n. length (text_before (width_of unit) (chars bytes) (position_of (width_of unit) (chars bytes) n))) (sym p.here)
       ∙ ap length (places_go_back (width_of unit) (wide unit) (chars bytes) k p.inside outside)
       ∙ length-take k (chars bytes) ∙ omega (arith, p.inside)
@@ -168,16 +168,16 @@ module _ (unit : counting.Unit) (bytes : List ℕ) (u : IsUtf8 bytes) where
   pieces at k _ _ p same chain = absurd same
 
 -- Inserting a cut before cuts that follow it puts it first.
-first_stays : (c : Cut) (cs : List Cut) → c.from ≤ c.to → Chain c.to cs → insert_in_order c cs ≡ c ∷ cs
+first_stays : (c : Cut) (cs : List Cut) → c.from ≤ c.to → Chain c.to cs → insert_cut_in_order c cs ≡ c ∷ cs
 first_stays c [] some chain = refl
 first_stays c (d ∷ ds) some chain =
     let after : is_cut_before d c ≡ false = grind (arith, nat_tests) in
-    ap (λ b. if b then d ∷ insert_in_order c ds else c ∷ d ∷ ds) after
+    ap (λ b. if b then d ∷ insert_cut_in_order c ds else c ∷ d ∷ ds) after
 
-order_stays : (at : ℕ) (cs : List Cut) → Chain at cs → in_text_order cs ≡ cs
-unfolding in_text_order
+order_stays : (at : ℕ) (cs : List Cut) → Chain at cs → cuts_in_text_order cs ≡ cs
+unfolding cuts_in_text_order
 order_stays at [] chain = refl
-order_stays at (c ∷ cs) chain = ap (insert_in_order c) (order_stays c.to cs chain.2) ∙ first_stays c cs chain.1 chain.2
+order_stays at (c ∷ cs) chain = ap (insert_cut_in_order c) (order_stays c.to cs chain.2) ∙ first_stays c cs chain.1 chain.2
 
 apart_from_later : (c : Cut) (at : ℕ) (cs : List Cut) → c.to ≤ at → Chain at cs → list_all (are_disjoint c) cs ≡ true
 apart_from_later c at [] h chain = refl
@@ -192,7 +192,7 @@ all_are_apart at (c ∷ cs) chain = rw (apart_from_later c c.to cs (omega arith)
 patched_in_order : (text : List ℕ) (cs : List Cut) → Chain 0 cs → patched_by_cuts text cs ≡ Some (text_with_cuts text 0 cs)
 unfolding patched_by_cuts
 patched_in_order text cs chain =
-    ap (λ b. if b then Some (text_with_cuts text 0 (in_text_order cs)) else None) (all_are_apart 0 cs chain) ∙ ap (λ xs. Some (text_with_cuts text 0 xs)) (order_stays 0 cs chain)
+    ap (λ b. if b then Some (text_with_cuts text 0 (cuts_in_text_order cs)) else None) (all_are_apart 0 cs chain) ∙ ap (λ xs. Some (text_with_cuts text 0 xs)) (order_stays 0 cs chain)
 
 -- Cuts in bytes leave the same text as the same cuts in characters.
 pub patched_by_same : (unit : counting.Unit) (bytes : List ℕ) (u : IsUtf8 bytes) (bs cs : List Cut) → AreSame unit bytes u bs cs → Chain 0 bs → IsUtf8 (text_with_cuts bytes 0 bs) × (patched_by_cuts (chars bytes) cs ≡ Some (chars (text_with_cuts bytes 0 bs)))

@@ -12,7 +12,7 @@ use Rattle.ob0_scan.specs.declared.lexeme.Symbol.TheVariants as symbol
 use Rattle.ob0_scan.specs.declared.lexeme.TokenKind.TheVariants as token
 use Rattle.ob0_scan.specs.declared.lexeme.LexemeKind.TheVariants as lexeme
 use Rattle.ob0_scan.specs.Classes.{IsInteger, IsNonEmptySequenceOf, decimal_value, reserved_text, symbol_text, is_space}
-use Rattle.ob0_edits_tokens.specs.Replaced.{MayReplaceName}
+use Rattle.ob0_edits_tokens.specs.Replaced.{MayReplaceIdentifier}
 use Rattle.ob0_edits_tokens.specs.Written.{IsInt32, number_text, number_words, truth_text, truth_words, integer_word, symbol_word}
 use Rattle.ob0_scan.proofs.Runs.{digit_or_letter}
 use Rattle.std.proofs.lemmas.List.Sums.{fold-append, AllPass-from_list_all}
@@ -50,7 +50,7 @@ digits_lexeme n h =
     record { digits = record { nonempty = w.some; all = w.all }; value_of_digits = sym w.value; fits = h }
 
 -- A number that isn't negative may replace any identifier.
-pub a_number : (n : ℕ) → n ≤ 2147483647 → MayReplaceName (decimal n) (integer_word n ∷ [])
+pub a_number : (n : ℕ) → n ≤ 2147483647 → MayReplaceIdentifier (decimal n) (integer_word n ∷ [])
 a_number n h =
     let w = writes n (omega arith) in
     record {
@@ -64,7 +64,7 @@ a_number n h =
 
 -- A negative number in parentheses may replace any identifier.
 pub a_negative : (n : ℕ) → suc n ≤ 2147483647
-    → MayReplaceName (codes "(-" ++ (decimal (suc n) ++ codes ")")) (symbol_word symbol.LeftParen ∷ symbol_word symbol.Minus ∷ integer_word (suc n) ∷ symbol_word symbol.RightParen ∷ [])
+    → MayReplaceIdentifier (codes "(-" ++ (decimal (suc n) ++ codes ")")) (symbol_word symbol.LeftParen ∷ symbol_word symbol.Minus ∷ integer_word (suc n) ∷ symbol_word symbol.RightParen ∷ [])
 a_negative n h = record {
   lexemes = record { kind = lexeme.Token (token.Symbol symbol.LeftParen); text = symbol_text symbol.LeftParen }
       ∷ record { kind = lexeme.Token (token.Symbol symbol.Minus); text = symbol_text symbol.Minus }
@@ -78,7 +78,7 @@ a_negative n h = record {
 }
 
 -- The least number, written as a difference, may replace any identifier.
-pub the_least : MayReplaceName (codes "(-2147483647 - 1)") (symbol_word symbol.LeftParen ∷ symbol_word symbol.Minus ∷ record { kind = token.Integer 2147483647; text = codes "2147483647" } ∷ symbol_word symbol.Minus ∷ record { kind = token.Integer 1; text = codes "1" } ∷ symbol_word symbol.RightParen ∷ [])
+pub the_least : MayReplaceIdentifier (codes "(-2147483647 - 1)") (symbol_word symbol.LeftParen ∷ symbol_word symbol.Minus ∷ record { kind = token.Integer 2147483647; text = codes "2147483647" } ∷ symbol_word symbol.Minus ∷ record { kind = token.Integer 1; text = codes "1" } ∷ symbol_word symbol.RightParen ∷ [])
 the_least = record {
   lexemes = record { kind = lexeme.Token (token.Symbol symbol.LeftParen); text = symbol_text symbol.LeftParen }
       ∷ record { kind = lexeme.Token (token.Symbol symbol.Minus); text = symbol_text symbol.Minus }
@@ -105,12 +105,12 @@ the_least = record {
     unit = record { digits = record { nonempty = omega arith; all = AllPass-from_list_all is_ascii_digit (codes "1") refl }; value_of_digits = refl; fits = omega arith }
 
 -- Any 32-bit number may replace any identifier.
-pub a_value : (z : ℤ) → IsInt32 z → MayReplaceName (number_text z) (number_words z)
+pub a_value : (z : ℤ) → IsInt32 z → MayReplaceIdentifier (number_text z) (number_words z)
 a_value (pos n) h = a_number n h
 a_value (negsuc n) h = by_test (nat_lt n 2147483647) refl
   where
     by_test : (b : Bool) → nat_lt n 2147483647 ≡ b
-        → MayReplaceName (if b then codes "(-" ++ (decimal (suc n) ++ codes ")") else codes "(-2147483647 - 1)")
+        → MayReplaceIdentifier (if b then codes "(-" ++ (decimal (suc n) ++ codes ")") else codes "(-2147483647 - 1)")
         (if b then symbol_word symbol.LeftParen ∷ symbol_word symbol.Minus ∷ integer_word (suc n) ∷ symbol_word symbol.RightParen ∷ []
         else symbol_word symbol.LeftParen ∷ symbol_word symbol.Minus ∷ record { kind = token.Integer 2147483647; text = codes "2147483647" } ∷ symbol_word symbol.Minus ∷ record { kind = token.Integer 1; text = codes "1" } ∷ symbol_word symbol.RightParen ∷ [])
     by_test true e = a_negative n (ltb-true n 2147483647 e)
@@ -132,6 +132,6 @@ false_free reserved.Until e = omega (arith, ap (λ t. get_or t 0 0) e)
 false_free _ e = omega (arith, ap length e)
 
 -- TRUE and FALSE may replace any identifier.
-pub a_truth : (b : Bool) → MayReplaceName (truth_text b) (truth_words b)
+pub a_truth : (b : Bool) → MayReplaceIdentifier (truth_text b) (truth_words b)
 a_truth true = a_name (codes "TRUE") (record { word = record { letter = refl; all = AllPass-from_list_all is_ascii_alphanumeric (codes "TRUE") refl }; differs_from_reserved = true_free })
 a_truth false = a_name (codes "FALSE") (record { word = record { letter = refl; all = AllPass-from_list_all is_ascii_alphanumeric (codes "FALSE") refl }; differs_from_reserved = false_free })

@@ -4,19 +4,18 @@
 use Rattle.std.specs.Prelude.{◌≡◌, ℕ, suc, if◌then◌else◌, List, [], ◌∷◌, map, slice_index_or}
 use Rattle.ob0_scan.specs.TextWithTokens.{Word, TextWithTokens}
 use Rattle.ob0_tree.specs.Lexeme.{Terminal}
-use Rattle.ob0_tree.specs.Places.{index_terminal, kind_value_or_zero}
+use Rattle.ob0_tree.specs.Places.{indexed_terminal, integer_value_or_zero}
 use Rattle.ob0_edits_tokens.specs.Words.{terminal_of_word}
 use Rattle.ob0_tree.specs.Tree.{Tree, Sort, spell, mapped_tree}
 use Rattle.ob0_edits_tokens.specs.Changed.{words_of, changed_words, changes_at, is_in_list}
 use Rattle.ob0_edits_tokens.specs.Replaced.{AreIdentifierIndexes}
 use Rattle.ob0_edits_tokens.specs.Written.{name_word}
 
--- Returns the tokens that a tree spells for these words if it has word indexes instead of names and
--- integers. The token of a name or integer has the index of its word. `k` is the index in the text
--- of the list's first word.
-abbrev pub indexed_tokens : ℕ → List Word → List (Terminal ℕ)
-indexed_tokens k [] = []
-indexed_tokens k (w ∷ ws) = index_terminal k w.kind ∷ indexed_tokens (suc k) ws
+-- Returns the terminals of the given words. The terminal of a name or integer has the index of its
+-- word instead of the name or value. `k` is the index of the first given word in the text.
+abbrev pub indexed_terminals_of_words : ℕ → List Word → List (Terminal ℕ)
+indexed_terminals_of_words k [] = []
+indexed_terminals_of_words k (w ∷ ws) = indexed_terminal k w.kind ∷ indexed_terminals_of_words (suc k) ws
 
 -- Returns the word with this index, or a name without text if there is no such word.
 abbrev pub word_at : List Word → ℕ → Word
@@ -29,10 +28,10 @@ word_text_at ws k = (word_at ws k).text
 -- Returns the value of the integer that is the word with this index. Returns 0 if there is no such
 -- word or the word isn't an integer.
 abbrev pub number_at : List Word → ℕ → ℕ
-number_at ws k = kind_value_or_zero (word_at ws k).kind
+number_at ws k = integer_value_or_zero (word_at ws k).kind
 
--- Returns the name `new` if the word index `k` is in `token_indexes`, otherwise the text of the word with
--- this index.
+-- Returns the name `new` if the word index `k` is in `token_indexes`, otherwise the text of the
+-- word with the index `k`.
 abbrev pub renamed_word_text : List Word → List ℕ → List ℕ → ℕ → List ℕ
 renamed_word_text ws token_indexes new k = if is_in_list k token_indexes then new else word_text_at ws k
 
@@ -43,6 +42,6 @@ abbrev pub RenamingKeepsSpelling : Type 0
 RenamingKeepsSpelling =
     (s : TextWithTokens) (sort : Sort) (t : Tree ℕ sort) (token_indexes new : List ℕ)
     → AreIdentifierIndexes s.tokens 0 token_indexes
-    → spell t ≡ indexed_tokens 0 (words_of s)
+    → spell t ≡ indexed_terminals_of_words 0 (words_of s)
     → map terminal_of_word (changed_words (changes_at token_indexes (name_word new ∷ [])) 0 (words_of s))
     ≡ spell (mapped_tree (renamed_word_text (words_of s) token_indexes new) (number_at (words_of s)) t)

@@ -1,4 +1,4 @@
--- Defines the text that is left if a constant's declaration is removed and identifiers behind the
+-- Defines the text that is left if a constant's declaration is removed and identifiers after the
 -- declaration are replaced.
 -- Rule: docs/PROTOCOL.md, Requests on documents 9.
 use Rattle.std.specs.Prelude.{◌≡◌, ℕ, suc, ◌<◌, ◌⊎◌, nat_le, ◌&&◌, if◌then◌else◌, List, [], ◌∷◌, length, map, Some}
@@ -43,9 +43,9 @@ abbrev pub removal_cut : List Token → ℕ → ℕ → Cut
 removal_cut tokens first last =
     record { from = (span_at tokens first).start; to = (span_at tokens last).end; new = [] }
 
--- Returns the text that is left if the part from the token with the index `first` to the token with
--- the index `last` is removed, and each token whose index is in `token_indexes` is replaced by
--- `new`.
+-- Returns the text that is left if the tokens from the index `first` to the index `last` are
+-- removed with all text between them, and each token whose index is in `token_indexes` is replaced
+-- by `new`.
 abbrev pub text_after_removal : TextWithTokens → ℕ → ℕ → List ℕ → List ℕ → List ℕ
 text_after_removal s first last token_indexes new =
     text_with_cuts s.text 0 (removal_cut s.tokens first last ∷ map (replacement_cut s.tokens new) token_indexes)

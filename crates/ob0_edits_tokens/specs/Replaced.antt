@@ -15,7 +15,7 @@ use Rattle.ob0_text.specs.declared.edits.Edit.{Edit}
 use Rattle.ob0_text.specs.declared.position_types.Range.{Range}
 use Rattle.ob0_text.specs.declared.position_types.Unit as counting
 use Rattle.ob0_text.specs.Units.{width_of}
-use Rattle.ob0_text.specs.Patches.{Cut, text_with_cuts, patched}
+use Rattle.ob0_text.specs.Patches.{Cut, text_with_cuts, patched_text}
 use Rattle.ob0_edits_tokens.specs.Changed.{words_of}
 use Rattle.ob0_edits_tokens.specs.Ranges.{range_of}
 
@@ -31,8 +31,8 @@ token_or_empty tokens p =
 abbrev pub span_at : List Token → ℕ → Span
 span_at tokens p = (token_or_empty tokens p).span
 
--- States that the numbers in the list are token indexes of identifiers, in ascending order, and that
--- each is at least `least`.
+-- States that the given numbers are token indexes of identifiers, in ascending order, and that each
+-- is at least `least`.
 abbrev pub AreIdentifierIndexes : List Token → ℕ → List ℕ → Type 0
 AreIdentifierIndexes tokens least [] = Unit {0}
 AreIdentifierIndexes tokens least (p ∷ ps) =
@@ -64,11 +64,11 @@ LexemesEndBefore [] byte = Unit {0}
 LexemesEndBefore (l ∷ lexemes) byte =
     EndsBeforeByte l (slice_index (text_of_lexemes lexemes ++ (byte ∷ [])) 0) × LexemesEndBefore lexemes byte
 
--- States that the text `new`, whose words are `ws`, may replace any identifier. A lexeme in front
--- of `new` that can't continue with a letter can't continue with the first byte of `new` either.
--- The lexemes of `new` stay separate from one another, and from a following byte that isn't a
--- letter or digit.
-pub record MayReplaceName (new : List ℕ) (ws : List Word) : Type 0 where
+-- States that the text `new`, whose words are `ws`, may replace any identifier. A lexeme before
+-- `new` that can't continue with a letter can't continue with the first byte of `new` either. The
+-- lexemes of `new` stay separate from one another, and from a following byte that isn't a letter or
+-- digit.
+pub record MayReplaceIdentifier (new : List ℕ) (ws : List Word) : Type 0 where
   pub lexemes : List Lexeme
   pub whole : text_of_lexemes lexemes ≡ new
   pub read : words_of_lexemes lexemes ≡ ws
@@ -88,11 +88,11 @@ range_and_text edit = (edit.range, string_bytes edit.text)
 abbrev pub replacement_at_token : counting.Unit → List ℕ → List Token → List ℕ → ℕ → Range × List ℕ
 replacement_at_token unit text tokens new p = (range_of (width_of unit) text (span_at tokens p), new)
 
--- States that the edits, applied to `text` all at once, give a text that can be scanned and has the
+-- States that the edits, applied to `text` together, give a text that can be scanned and has the
 -- words `ws`.
-pub record LeavesWords
+pub record EditsGiveWords
     (unit : counting.Unit) (text : List ℕ) (edits : List Edit) (ws : List Word) : Type 0 where
   pub after : TextWithTokens
   pub scan : IsScan after
-  pub made : patched (width_of unit) text edits ≡ Some (chars after.text)
+  pub made : patched_text (width_of unit) text edits ≡ Some (chars after.text)
   pub words_are : words_of after ≡ ws

@@ -4,13 +4,13 @@
 ghost use Rattle.std.specs.Prelude.{ℕ, List, [], ◌∷◌};
 ghost use Rattle.ob0_scan.specs.Classes.{IsIdentifier};
 ghost use Rattle.ob0_edits_tokens.specs.OfTrees.{RenamingKeepsSpelling};
-ghost use Rattle.ob0_edits_tokens.specs.Replaced.{MayReplaceName};
+ghost use Rattle.ob0_edits_tokens.specs.Replaced.{MayReplaceIdentifier};
 ghost use Rattle.ob0_edits_tokens.specs.Written.{name_word};
 
-/// Proves that the identifier `new` may replace any identifier of a text: the tokens in front of it
-/// and behind it stay separate from it.
-pub fn names_replace_names()
-    ensures { (new : List ℕ) → IsIdentifier new → MayReplaceName new (name_word new ∷ []) }
+/// Proves that the identifier `new` may replace any identifier of a text: the tokens before and
+/// after it stay separate from it.
+pub fn identifier_may_replace_identifier()
+    ensures { (new : List ℕ) → IsIdentifier new → MayReplaceIdentifier new (name_word new ∷ []) }
 {}
 
 /// Proves that renaming keeps the spelling of trees. Let a tree that has word indexes instead of

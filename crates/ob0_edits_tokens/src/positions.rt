@@ -9,11 +9,12 @@ use ob0_scan::{Span, Token};
 use ob0_text::{Range, TextStore};
 use std::alloc::{AllocError, Global};
 
-/// The greatest number of spans that are converted at once. This limit keeps the buffers small.
-const SPANS_AT_ONCE: usize = 16_384;
+/// The greatest number of spans that are converted to ranges in one step. This limit keeps the
+/// buffers small.
+const MAX_SPANS_PER_PASS: usize = 16_384;
 
 /// Returns the range of positions of each span, in the same order. If the spans are in text order,
-/// one pass over the text finds the ranges of up to `SPANS_AT_ONCE` spans.
+/// one pass over the text finds the ranges of up to `MAX_SPANS_PER_PASS` spans.
 pub fn ranges<T: TextStore>(
     alloc: Global,
     store: &T,
@@ -25,7 +26,7 @@ pub fn ranges<T: TextStore>(
     let mut ranges = Vec::with_capacity(alloc, spans.len())?;
     while ranges.len() < spans.len() {
         let from = ranges.len();
-        let part = &spans[from..spans.len().min(from + SPANS_AT_ONCE)];
+        let part = &spans[from..spans.len().min(from + MAX_SPANS_PER_PASS)];
         add_ranges(alloc, store, part, &mut ranges)?;
     }
     Ok(ranges)
@@ -66,7 +67,7 @@ fn span_bounds(alloc: Global, spans: &[Span]) -> Result<Vec<usize>, AllocError>
 }
 
 /// Returns the spans of the tokens with the indexes `token_indexes`, in the same order.
-pub(crate) fn spans_of(
+pub(crate) fn token_spans(
     alloc: Global,
     tokens: &[Token],
     token_indexes: &[usize],

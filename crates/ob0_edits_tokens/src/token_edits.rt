@@ -3,17 +3,17 @@
 
 ghost use Rattle.std.specs.Prelude.{◌≡◌, ◌⊎◌, ◌+◌, ◌++◌, ◌∷◌, [], suc, OnOk, ◌≤◌, ◌<◌, nat_lt, List, length, map, IfOk, IfErr, IsErrOf};
 ghost use Rattle.std.specs.Str.{chars};
-ghost use Rattle.ob0_scan.specs.TextWithTokens.{Word, max_text};
+ghost use Rattle.ob0_scan.specs.TextWithTokens.{Word, max_text_length};
 ghost use Rattle.ob0_text.specs.declared.refusals.EditRefusal.TheVariants.{TooLong, Memory};
 ghost use Rattle.ob0_edits_tokens.specs.Changed.{words_of, changed_words, changes_at};
-ghost use Rattle.ob0_edits_tokens.specs.Replaced.{AreIdentifierIndexes, CutsAscend, replacement_cut, text_after_replacement, MayReplaceName, range_and_text, replacement_at_token, LeavesWords};
+ghost use Rattle.ob0_edits_tokens.specs.Replaced.{AreIdentifierIndexes, CutsAscend, replacement_cut, text_after_replacement, MayReplaceIdentifier, range_and_text, replacement_at_token, EditsGiveWords};
 ghost use Rattle.ob0_text.specs.Units.{width_of};
 ghost use Rattle.ob0_edits_tokens.specs.Ranges.{range_of};
 ghost use Rattle.ob0_text.specs.Patches.{text_with_cuts};
 ghost use Rattle.ob0_edits_tokens.specs.Removed.{changes_with_removal, MayBeConstantDeclaration, span_of_tokens, text_after_removal};
 
-use crate::positions::{ranges, spans_of};
-use ob0_scan::{MAX_TEXT, Span, Tokens};
+use crate::positions::{ranges, token_spans};
+use ob0_scan::{MAX_TEXT_LENGTH, Span, Tokens};
 use ob0_text::{Edit, EditRefusal, Range, TextStore};
 use std::alloc::Global;
 
@@ -34,25 +34,25 @@ pub fn replacement_edits<T: TextStore>(
         ≡ map (replacement_at_token (T.unit_of store.now) (T.content store.now) tokens.now.tokens new.now)
         token_indexes.now) }
     ensures short { IfOk result
-        (λ edits. length (text_after_replacement tokens.now token_indexes.now new.now) ≤ max_text) }
-    ensures words { (ws : List Word) → MayReplaceName new.now ws
-        → IfOk result (λ edits. LeavesWords (T.unit_of store.now) (T.content store.now) edits.items
+        (λ edits. length (text_after_replacement tokens.now token_indexes.now new.now) ≤ max_text_length) }
+    ensures words { (ws : List Word) → MayReplaceIdentifier new.now ws
+        → IfOk result (λ edits. EditsGiveWords (T.unit_of store.now) (T.content store.now) edits.items
         (changed_words (changes_at token_indexes.now ws) 0 (words_of tokens.now))) }
     ensures too_long { IsErrOf result TooLong
-        → max_text < length (text_after_replacement tokens.now token_indexes.now new.now) }
+        → max_text_length < length (text_after_replacement tokens.now token_indexes.now new.now) }
     ensures refusals { IfErr result (λ refusal. (refusal ≡ TooLong) ⊎ (refusal ≡ Memory)) }
 {
     // The proof needs the contract of this call: the tokens are a scan of their text (`IsScan`).
     let _text = tokens.text();
-    if is_too_long(tokens, 0, 0, token_indexes, new) {
+    if is_edited_text_too_long(tokens, 0, 0, token_indexes, new) {
         return Err(EditRefusal::TooLong);
     }
     let mut edits = Vec::new(alloc);
-    add_edits(alloc, store, tokens, token_indexes, new, &mut edits)?;
+    add_replacement_edits(alloc, store, tokens, token_indexes, new, &mut edits)?;
     Ok(edits)
 }
 
-/// Returns the edits that remove a declaration and replace identifiers behind it, in text order.
+/// Returns the edits that remove a declaration and replace identifiers after it, in text order.
 /// The first edit removes the text from the start of the token with the index `first` to the end of
 /// the token with the index `last`. The other edits replace the tokens with the indexes
 /// `token_indexes` by `new`, one edit for each. These are token indexes of identifiers, all
@@ -78,20 +78,20 @@ pub fn removal_edits<T: TextStore>(
         ) ∷ map (replacement_at_token (T.unit_of store.now)
         (T.content store.now) tokens.now.tokens new.now) token_indexes.now) }
     ensures short { IfOk result
-        (λ edits. length (text_after_removal tokens.now first last token_indexes.now new.now) ≤ max_text) }
-    ensures words { (ws : List Word) → MayReplaceName new.now ws
-        → IfOk result (λ edits. LeavesWords (T.unit_of store.now) (T.content store.now) edits.items
+        (λ edits. length (text_after_removal tokens.now first last token_indexes.now new.now) ≤ max_text_length) }
+    ensures words { (ws : List Word) → MayReplaceIdentifier new.now ws
+        → IfOk result (λ edits. EditsGiveWords (T.unit_of store.now) (T.content store.now) edits.items
         (changed_words (changes_with_removal first last (changes_at token_indexes.now ws)) 0
         (words_of tokens.now))) }
     ensures too_long { IsErrOf result TooLong
-        → max_text < length (text_after_removal tokens.now first last token_indexes.now new.now) }
+        → max_text_length < length (text_after_removal tokens.now first last token_indexes.now new.now) }
     ensures refusals { IfErr result (λ refusal. (refusal ≡ TooLong) ⊎ (refusal ≡ Memory)) }
 {
     // The proof needs the contract of this call: the tokens are a scan of their text (`IsScan`).
     let _text = tokens.text();
     let start = tokens.tokens()[first].span.start;
     let end = tokens.tokens()[last].span.end;
-    if is_too_long(tokens, start as usize, end as usize, token_indexes, new) {
+    if is_edited_text_too_long(tokens, start as usize, end as usize, token_indexes, new) {
         return Err(EditRefusal::TooLong);
     }
     let mut edits = Vec::new(alloc);
@@ -100,13 +100,13 @@ pub fn removal_edits<T: TextStore>(
         range,
         text: String::new(alloc),
     })?;
-    add_edits(alloc, store, tokens, token_indexes, new, &mut edits)?;
+    add_replacement_edits(alloc, store, tokens, token_indexes, new, &mut edits)?;
     Ok(edits)
 }
 
 /// Appends edits to `edits`, in order: for each index in `token_indexes`, one edit that replaces
 /// the token with this index by `new`. The only refusal is `Memory`, if an allocation fails.
-fn add_edits<T: TextStore>(
+fn add_replacement_edits<T: TextStore>(
     alloc: Global,
     store: &T,
     tokens: &Tokens,
@@ -120,7 +120,7 @@ fn add_edits<T: TextStore>(
         token_indexes.now) }
     ensures memory { IfErr result (λ refusal. refusal ≡ Memory) }
 {
-    let spans = spans_of(alloc, tokens.tokens(), token_indexes)?;
+    let spans = token_spans(alloc, tokens.tokens(), token_indexes)?;
     let ranges = ranges(alloc, store, &spans)?;
     for range in &ranges {
         let text = String::from_str(alloc, new)?;
@@ -146,7 +146,7 @@ pub fn range_of<T: TextStore>(store: &T, span: Span) -> Range
 /// Returns whether an edited text is longer than a text may be. The edited text consists of
 /// `front_len` bytes, followed by the old text starting at the byte offset `end`. In this second
 /// part, `new` replaces each token whose index is in `token_indexes`.
-fn is_too_long(
+fn is_edited_text_too_long(
     tokens: &Tokens,
     front_len: usize,
     end: usize,
@@ -158,7 +158,7 @@ fn is_too_long(
     requires front { front_len ≤ end }
     requires inside { end ≤ length tokens.now.text }
     ensures { result
-        ≡ nat_lt max_text (front_len
+        ≡ nat_lt max_text_length (front_len
         + length (text_with_cuts tokens.now.text end (map (replacement_cut tokens.now.tokens new.now) token_indexes.now))) }
 {
     let text = tokens.text();
@@ -168,9 +168,9 @@ fn is_too_long(
         let span = tokens.tokens()[*token_index].span;
         length += span.start as usize - end + new.len();
         end = span.end as usize;
-        if length > MAX_TEXT {
+        if length > MAX_TEXT_LENGTH {
             return true;
         }
     }
-    length + (text.len() - end) > MAX_TEXT
+    length + (text.len() - end) > MAX_TEXT_LENGTH
 }

@@ -3,7 +3,7 @@
 use Rattle.std.specs.Prelude.{ℕ, ◌-◌, ◌<◌, ◌≤◌, List, ◌++◌, length, take, drop}
 use Rattle.ob0_frame.specs.declared.head.MessageStage.{MessageStage}
 use Rattle.ob0_frame.specs.declared.head.MessageStage.TheVariants.{Head, Content, Bad}
-use Rattle.ob0_frame.specs.Head.{Announces, HasNoEmptyLine, max_head}
+use Rattle.ob0_frame.specs.Head.{Announces, HasNoEmptyLine, max_head_length}
 use Rattle.ob0_frame.specs.Frames.{Frames, CannotBeginMessage}
 
 -- States that the bytes begin with an accepted head that ends at the byte offset `start`, and that
@@ -15,21 +15,21 @@ pub record IsContentAt (bytes : List ℕ) (start end : ℕ) : Type 0 where
   pub head_is_nonempty : 0 < start
   pub announces : Announces (take start bytes) (end - start)
 
--- States that this is the stage of the message at the beginning of the bytes.
+-- States that the message at the beginning of the bytes is at this stage.
 abbrev pub IsMessageStage : List ℕ → MessageStage → Type 0
-IsMessageStage bytes Head = (length bytes < max_head) × HasNoEmptyLine bytes
+IsMessageStage bytes Head = (length bytes < max_head_length) × HasNoEmptyLine bytes
 IsMessageStage bytes (Content start end) = IsContentAt bytes start end
 IsMessageStage bytes Bad = CannotBeginMessage bytes
 
 -- States that the message at the beginning of the bytes, which has this stage, isn't complete. At
 -- the stages `Head` and `Bad` this is always true.
-abbrev pub IsUnfinished : List ℕ → MessageStage → Type 0
-IsUnfinished bytes Head = Unit {0}
-IsUnfinished bytes (Content start end) = length bytes < end
-IsUnfinished bytes Bad = Unit {0}
+abbrev pub IsMessageUnfinished : List ℕ → MessageStage → Type 0
+IsMessageUnfinished bytes Head = Unit {0}
+IsMessageUnfinished bytes (Content start end) = length bytes < end
+IsMessageUnfinished bytes Bad = Unit {0}
 
 -- States that the first `taken` bytes are complete messages with these contents, and that the
--- message behind these bytes has this stage.
+-- message that begins after these bytes is at this stage.
 pub record CutsMessages (bytes : List ℕ) (contents : List (List ℕ)) (taken : ℕ)
     (stage : MessageStage) : Type 0 where
   pub within : taken ≤ length bytes

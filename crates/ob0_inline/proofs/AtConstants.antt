@@ -17,15 +17,15 @@ use Rattle.ob0_language_names.specs.Names.{Label, Name}
 use Rattle.ob0_language_names.specs.Occurrences.{bindings, ordinal_bound_at, label_ordinal}
 use Rattle.ob0_scope_table.specs.Resolution.{Resolution}
 use Rattle.ob0_language_names.specs.Scopes.{same_ordinal}
-use Rattle.ob0_scope.specs.declared.naming.Named as named
+use Rattle.ob0_scope.specs.declared.naming.BoundName as named
 use Rattle.ob0_scope.specs.NamesAtPlaces.{name_at_offset}
 use Rattle.ob0_types.specs.CheckedModules.{IsWellTyped}
 use Rattle.ob0_language_types.specs.EditLaws.{ConstantUsesAreFactors, IsConstantWithLiteral, IsScalar, MeansPredeclaredTruth}
 use Rattle.ob0_language_runs.specs.EditLaws.{InliningEverywhereKeepsTypingAndRuns}
 use Rattle.ob0_language_values.specs.declared.scalar.Scalar.TheVariants as scalar
 use Rattle.ob0_language_values.specs.Scalars.{scalar_value}
-use Rattle.ob0_inline.specs.declared.constants.NamedConstant.{NamedConstant}
-use Rattle.ob0_inline.specs.Everywhere.{InlinesEverywhere, IsConstant, IsConstantAt, HasNoConstantAt, UsesAreFactors, any_use_shadowed, declaration_has_comment, tree_inlined_everywhere, is_shadowed_use, refusal_everywhere, text_after_inlining, uses_of}
+use Rattle.ob0_inline.specs.declared.constants.DeclaredConstant.{DeclaredConstant}
+use Rattle.ob0_inline.specs.Everywhere.{InlinesEverywhere, IsConstant, IsConstantAt, HasNoConstantAt, UsesAreFactors, has_shadowed_use, declaration_has_comment, tree_inlined_everywhere, is_shadowed_use, refusal_of_inlining_everywhere, text_inlined_everywhere, use_tokens_of}
 use Rattle.ob0_inline.specs.Uses.{value_text_keeps_meaning}
 use Rattle.ob0_inline.specs.Values.{value_factor, value_text}
 use Rattle.ob0_inline.proofs.AtUses.{literal_of, shown_is}
@@ -53,7 +53,7 @@ bound_inside [] k d e = absurd (cc)
 bound_inside (l ∷ ls) zero d e = omega arith
 bound_inside (l ∷ ls) (suc k) d e = let h = bound_inside ls k d e in omega (arith, h)
 
-module _ (m : Tree Name module_text) (c : NamedConstant) (none : any_use_shadowed m c ≡ false) where
+module _ (m : Tree Name module_text) (c : DeclaredConstant) (none : has_shadowed_use m c ≡ false) where
   shown_each : (k : ℕ) → ordinal_bound_at m k ≡ Some c.ordinal → value_text_keeps_meaning m k c.value ≡ true
   shown_each k e =
       let here : is_shadowed_use m c k ≡ false = ap (is_shadowed_use m c) (let z : k ≡ 0 + k = omega arith in z) ∙ none_passes (is_shadowed_use m c) 0 (length (bindings m)) k none (bound_inside (bindings m) k c.ordinal e) in
@@ -76,31 +76,31 @@ none_of f (k ∷ ks) = one (f k) ∙ none_of f ks
     one true = refl
     one false = refl
 
-pub numbers_shown : (m : Tree Name module_text) (c : NamedConstant) (n : ℤ) → c.value ≡ scalar.Number n → any_use_shadowed m c ≡ false
+pub numbers_shown : (m : Tree Name module_text) (c : DeclaredConstant) (n : ℤ) → c.value ≡ scalar.Number n → has_shadowed_use m c ≡ false
 numbers_shown m c n e =
     (λ i. list_any (λ k. same_ordinal (ordinal_bound_at m k) c.ordinal && not (value_text_keeps_meaning m k (e i))) (range_with_len 0 (length (bindings m))))
     ∙ none_of (λ k. same_ordinal (ordinal_bound_at m k) c.ordinal) (range_with_len 0 (length (bindings m)))
 
 -- The constant with the name at the place is the constant at the place.
-pub constant_named : (m : ParsedModule) (offset : ℕ) (found : named.Named) → Some found ≡ name_at_offset m offset → (o : Option NamedConstant) → IsSomeAnd o (λ c. (c.ordinal ≡ found.ordinal) × IsConstant m c)
+pub constant_named : (m : ParsedModule) (offset : ℕ) (found : named.BoundName) → Some found ≡ name_at_offset m offset → (o : Option DeclaredConstant) → IsSomeAnd o (λ c. (c.ordinal ≡ found.ordinal) × IsConstant m c)
     → MatchOption o (HasNoConstantAt m offset) (λ c. IsConstantAt m offset c)
 constant_named m offset found e None h = absurd h
 constant_named m offset found e (Some c) h =
-    record { token = found.token; named = sym e ∙ ap (λ n. Some (let a : named.Named = record { token = found.token; ordinal = n } in a)) (sym h.0); is_constant = h.1 }
+    record { token = found.token; named = sym e ∙ ap (λ n. Some (let a : named.BoundName = record { token = found.token; ordinal = n } in a)) (sym h.0); is_constant = h.1 }
 
 -- the facts about a constant's edits, or about their refusal, for any reading of the module
 
-pub record Made (r : Resolution) (c : NamedConstant) (unit : counting.Unit) (text : List ℕ) (edits : List Edit) : Type 0 where
-  pub edits_are : map range_and_text edits ≡ (range_of (width_of unit) text (span_of_tokens r.module_read.source.tokens c.first c.last), []) ∷ map (replacement_at_token unit text r.module_read.source.tokens (value_text c.value)) (uses_of r.module_read c.ordinal)
-  pub make_text : MakeText (UsesAreFactors r.module_read c.ordinal) (text_after_inlining r.module_read c) (tree_inlined_everywhere r.module_read c) unit text edits
+pub record Made (r : Resolution) (c : DeclaredConstant) (unit : counting.Unit) (text : List ℕ) (edits : List Edit) : Type 0 where
+  pub edits_are : map range_and_text edits ≡ (range_of (width_of unit) text (span_of_tokens r.module_read.source.tokens c.first c.last), []) ∷ map (replacement_at_token unit text r.module_read.source.tokens (value_text c.value)) (use_tokens_of r.module_read c.ordinal)
+  pub make_text : MakeText (UsesAreFactors r.module_read c.ordinal) (text_inlined_everywhere r.module_read c) (tree_inlined_everywhere r.module_read c) unit text edits
 
-abbrev pub IsRefused : Resolution → NamedConstant → EditRefusal → Type 0
-IsRefused r c refusal = Refused (UsesAreFactors r.module_read c.ordinal) (text_after_inlining r.module_read c) (tree_inlined_everywhere r.module_read c) refusal
+abbrev pub IsRefused : Resolution → DeclaredConstant → EditRefusal → Type 0
+IsRefused r c refusal = Refused (UsesAreFactors r.module_read c.ordinal) (text_inlined_everywhere r.module_read c) (tree_inlined_everywhere r.module_read c) refusal
 
 abbrev others : Bool → Bool → Option EditRefusal
 others hidden comment = if hidden then Some Shadowed else if comment then Some CommentInside else None
 
-module _ (r : Resolution) (well : IsWellTyped r) (c : NamedConstant) (constant : IsConstant r.module_read c) (law : ConstantUsesAreFactors) (scalar_so : IsScalar (scalar_value c.value)) where
+module _ (r : Resolution) (well : IsWellTyped r) (c : DeclaredConstant) (constant : IsConstant r.module_read c) (law : ConstantUsesAreFactors) (scalar_so : IsScalar (scalar_value c.value)) where
   written_there : IsConstantWithLiteral (named_tree_of r.module_read) c.ordinal (scalar_value c.value) (value_factor c.value)
   written_there = record { value = constant.has_value; scalar = scalar_so; literal = literal_of c.value }
 
@@ -108,27 +108,27 @@ module _ (r : Resolution) (well : IsWellTyped r) (c : NamedConstant) (constant :
   unfolding written_there
   alone_there = law (named_tree_of r.module_read) c.ordinal (scalar_value c.value) (value_factor c.value) written_there well.well_typed
 
-  made_first : (unit : counting.Unit) (text : List ℕ) (edits : List Edit) → Made r c unit text edits → (hidden comment : Bool) → any_use_shadowed (named_tree_of r.module_read) c ≡ hidden → declaration_has_comment r.module_read c ≡ comment
-      → refusal_everywhere r.module_read c ≡ others hidden comment
+  made_first : (unit : counting.Unit) (text : List ℕ) (edits : List Edit) → Made r c unit text edits → (hidden comment : Bool) → has_shadowed_use (named_tree_of r.module_read) c ≡ hidden → declaration_has_comment r.module_read c ≡ comment
+      → refusal_of_inlining_everywhere r.module_read c ≡ others hidden comment
   made_first unit text edits h hidden comment e f =
-      other_is_first (UsesAreFactors r.module_read c.ordinal) alone_there (text_after_inlining r.module_read c) (tree_inlined_everywhere r.module_read c) (others (any_use_shadowed (named_tree_of r.module_read) c) (declaration_has_comment r.module_read c)) unit text edits h.make_text
+      other_is_first (UsesAreFactors r.module_read c.ordinal) alone_there (text_inlined_everywhere r.module_read c) (tree_inlined_everywhere r.module_read c) (others (has_shadowed_use (named_tree_of r.module_read) c) (declaration_has_comment r.module_read c)) unit text edits h.make_text
       ∙ (λ i. others (e i) (f i))
 
   pub answer_made : InliningEverywhereKeepsTypingAndRuns → (unit : counting.Unit) (text : List ℕ) (edits : List Edit) → Made r c unit text edits
-      → any_use_shadowed (named_tree_of r.module_read) c ≡ false → declaration_has_comment r.module_read c ≡ false → (refusal_everywhere r.module_read c ≡ None) × InlinesEverywhere unit text r.module_read c edits
+      → has_shadowed_use (named_tree_of r.module_read) c ≡ false → declaration_has_comment r.module_read c ≡ false → (refusal_of_inlining_everywhere r.module_read c ≡ None) × InlinesEverywhere unit text r.module_read c edits
   answer_made keeps unit text edits h shown bare =
       let kept = keeps (named_tree_of r.module_read) c.ordinal (scalar_value c.value) (value_factor c.value) written_there (all_seen (named_tree_of r.module_read) c shown) well.well_typed in (
         made_first unit text edits h false false shown bare,
         record { everywhere = h.edits_are; leaves = h.make_text.leaves alone_there; well_typed = kept.0; same_runs = kept.1 },
       )
 
-  pub answer_hidden : (unit : counting.Unit) (text : List ℕ) (edits : List Edit) → Made r c unit text edits → any_use_shadowed (named_tree_of r.module_read) c ≡ true → refusal_everywhere r.module_read c ≡ Some Shadowed
+  pub answer_hidden : (unit : counting.Unit) (text : List ℕ) (edits : List Edit) → Made r c unit text edits → has_shadowed_use (named_tree_of r.module_read) c ≡ true → refusal_of_inlining_everywhere r.module_read c ≡ Some Shadowed
   answer_hidden unit text edits h hidden = made_first unit text edits h true (declaration_has_comment r.module_read c) hidden refl
 
   pub answer_comment : (unit : counting.Unit) (text : List ℕ) (edits : List Edit) → Made r c unit text edits
-      → any_use_shadowed (named_tree_of r.module_read) c ≡ false → declaration_has_comment r.module_read c ≡ true → refusal_everywhere r.module_read c ≡ Some CommentInside
+      → has_shadowed_use (named_tree_of r.module_read) c ≡ false → declaration_has_comment r.module_read c ≡ true → refusal_of_inlining_everywhere r.module_read c ≡ Some CommentInside
   answer_comment unit text edits h shown comment = made_first unit text edits h false true shown comment
 
-  pub answer_not_made : (refusal : EditRefusal) → IsRefused r c refusal → (refusal_everywhere r.module_read c ≡ Some refusal) ⊎ (refusal ≡ Memory)
+  pub answer_not_made : (refusal : EditRefusal) → IsRefused r c refusal → (refusal_of_inlining_everywhere r.module_read c ≡ Some refusal) ⊎ (refusal ≡ Memory)
   answer_not_made =
-      refused_first (UsesAreFactors r.module_read c.ordinal) alone_there (text_after_inlining r.module_read c) (tree_inlined_everywhere r.module_read c) (others (any_use_shadowed (named_tree_of r.module_read) c) (declaration_has_comment r.module_read c))
+      refused_first (UsesAreFactors r.module_read c.ordinal) alone_there (text_inlined_everywhere r.module_read c) (tree_inlined_everywhere r.module_read c) (others (has_shadowed_use (named_tree_of r.module_read) c) (declaration_has_comment r.module_read c))

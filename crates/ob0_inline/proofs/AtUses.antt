@@ -21,7 +21,7 @@ use Rattle.ob0_language_types.proofs.Leaves.{same_ordinal-true}
 use Rattle.ob0_language_types.proofs.Literals.{some_inverse}
 use Rattle.ob0_scope_table.specs.Resolution.{IsResolution, Resolution, ordinal_in}
 use Rattle.ob0_scope_table.proofs.Bound.{bound_at}
-use Rattle.ob0_scope.specs.declared.naming.Named as named
+use Rattle.ob0_scope.specs.declared.naming.BoundName as named
 use Rattle.ob0_scope.specs.Listing.{is_identifier_at_offset}
 use Rattle.ob0_scope.specs.NamesAtPlaces.{name_at_offset}
 use Rattle.ob0_scope.proofs.Placed.{name_found, named_so}
@@ -36,7 +36,7 @@ use Rattle.ob0_language_values.specs.Scalars.{scalar_value}
 use Rattle.ob0_inline.specs.declared.uses.ConstantUse.{ConstantUse}
 use Rattle.ob0_inline.specs.Everywhere.{UsesAreFactors}
 use Rattle.ob0_inline.specs.Inlined.{EditsGiveModule}
-use Rattle.ob0_inline.specs.Uses.{InlinesHere, IsUse, IsUseAt, tree_inlined_here, value_text_keeps_meaning, refusal_here}
+use Rattle.ob0_inline.specs.Uses.{InlinesHere, IsUse, IsUseAt, tree_inlined_here, value_text_keeps_meaning, refusal_of_inlining_here}
 use Rattle.ob0_inline.specs.Values.{value_factor, value_text, value_words}
 use Rattle.ob0_inline.proofs.ModuleTexts.{spelled_by_words, value_spelled}
 use Rattle.ob0_inline.proofs.Refusals.{MakeText, Refused, other_is_first, refused_first}
@@ -59,12 +59,12 @@ some_named : (token ordinal : ℕ) (found : Option ℕ) (ordinals : List (Option
 some_named token ordinal None ordinals e = absurd (cc)
 some_named token ordinal (Some i) ordinals e = go (ordinal_in ordinals i) refl e
   where
-    go : (o : Option ℕ) → ordinal_in ordinals i ≡ o → option_map {U = named.Named} (λ ordinal. record { token = i; ordinal = ordinal }) o ≡ Some (record { token = token; ordinal = ordinal }) → ordinal_in ordinals token ≡ Some ordinal
+    go : (o : Option ℕ) → ordinal_in ordinals i ≡ o → option_map {U = named.BoundName} (λ ordinal. record { token = i; ordinal = ordinal }) o ≡ Some (record { token = token; ordinal = ordinal }) → ordinal_in ordinals token ≡ Some ordinal
     go None q e = absurd (cc)
     go (Some k) q e =
-        let same : Some (let n : named.Named = record { token = i; ordinal = k } in n) ≡ Some (record { token = token; ordinal = ordinal }) = e in
-        ap (ordinal_in ordinals) (sym (ap (λ o. (elim o as (λ _. named.Named) [ Some n ↦ n | None ↦ record { token = 0; ordinal = 0 } ]).token) same))
-        ∙ (q ∙ ap (λ o. Some ((elim o as (λ _. named.Named) [ Some n ↦ n | None ↦ record { token = 0; ordinal = 0 } ]).ordinal)) same)
+        let same : Some (let n : named.BoundName = record { token = i; ordinal = k } in n) ≡ Some (record { token = token; ordinal = ordinal }) = e in
+        ap (ordinal_in ordinals) (sym (ap (λ o. (elim o as (λ _. named.BoundName) [ Some n ↦ n | None ↦ record { token = 0; ordinal = 0 } ]).token) same))
+        ∙ (q ∙ ap (λ o. Some ((elim o as (λ _. named.BoundName) [ Some n ↦ n | None ↦ record { token = 0; ordinal = 0 } ]).ordinal)) same)
 
 pub use_is : (r : Resolution) → IsResolution r → (offset : ℕ) (u : ConstantUse) → IsUseAt r.module_read offset u → IsUse r.module_read u
 use_is r is offset u h =
@@ -147,21 +147,21 @@ module _ (r : Resolution) (well : IsWellTyped r) (u : ConstantUse) (use_so : IsU
   hidden shown = if shown then None else Some Shadowed
 
   made_first : (unit : counting.Unit) (text : List ℕ) (edits : List Edit) → Made r u unit text edits → (shown : Bool) → value_text_keeps_meaning (named_tree_of r.module_read) u.occurrence u.value ≡ shown
-      → refusal_here r.module_read u ≡ hidden shown
+      → refusal_of_inlining_here r.module_read u ≡ hidden shown
   made_first unit text edits h shown e =
       other_is_first (UsesAreFactors r.module_read u.constant) (is_alone r well u use_so law scalar_so) (new_text r u) (tree_inlined_here r.module_read u) (hidden (value_text_keeps_meaning (named_tree_of r.module_read) u.occurrence u.value)) unit text edits h.make_text
       ∙ ap hidden e
 
   pub answer_ok : InliningKeepsTypingAndRuns → (unit : counting.Unit) (text : List ℕ) (edits : List Edit) → Made r u unit text edits → value_text_keeps_meaning (named_tree_of r.module_read) u.occurrence u.value ≡ true
-      → (refusal_here r.module_read u ≡ None) × InlinesHere unit text r.module_read u edits
+      → (refusal_of_inlining_here r.module_read u ≡ None) × InlinesHere unit text r.module_read u edits
   answer_ok keeps unit text edits h shown =
       (made_first unit text edits h true shown, inlines r well u use_so keeps scalar_so unit text edits h.edits_are (h.make_text.leaves (is_alone r well u use_so law scalar_so)) shown)
 
   pub answer_shadowed : (unit : counting.Unit) (text : List ℕ) (edits : List Edit) → Made r u unit text edits → value_text_keeps_meaning (named_tree_of r.module_read) u.occurrence u.value ≡ false
-      → refusal_here r.module_read u ≡ Some Shadowed
+      → refusal_of_inlining_here r.module_read u ≡ Some Shadowed
   answer_shadowed unit text edits h shown = made_first unit text edits h false shown
 
-  pub answer_refused : (refusal : EditRefusal) → IsRefused r u refusal → (refusal_here r.module_read u ≡ Some refusal) ⊎ (refusal ≡ Memory)
+  pub answer_refused : (refusal : EditRefusal) → IsRefused r u refusal → (refusal_of_inlining_here r.module_read u ≡ Some refusal) ⊎ (refusal ≡ Memory)
   answer_refused =
       refused_first (UsesAreFactors r.module_read u.constant) (is_alone r well u use_so law scalar_so) (new_text r u) (tree_inlined_here r.module_read u) (hidden (value_text_keeps_meaning (named_tree_of r.module_read) u.occurrence u.value))
 
@@ -187,10 +187,10 @@ not_there token j n (i ∷ is) e f = by_test (i == token) refl e n f (λ m. not_
 
 -- the use at a name that was found at a place
 
-named_token : (found : named.Named) (token ordinal : ℕ) → Some found ≡ Some (record { token = token; ordinal = ordinal }) → found.token ≡ token
-named_token found token ordinal e = ap (λ (o : Option named.Named). (elim o as (λ _. named.Named) [ Some n ↦ n | None ↦ found ]).token) e
+named_token : (found : named.BoundName) (token ordinal : ℕ) → Some found ≡ Some (record { token = token; ordinal = ordinal }) → found.token ≡ token
+named_token found token ordinal e = ap (λ (o : Option named.BoundName). (elim o as (λ _. named.BoundName) [ Some n ↦ n | None ↦ found ]).token) e
 
-pub use_found : (r : Resolution) → IsWellTyped r → (offset : ℕ) (found : named.Named) (k : ℕ) (value : Scalar) → Some found ≡ name_at_offset r.module_read offset
+pub use_found : (r : Resolution) → IsWellTyped r → (offset : ℕ) (found : named.BoundName) (k : ℕ) (value : Scalar) → Some found ≡ name_at_offset r.module_read offset
     → position_from (λ i. i == found.token) 0 r.uses ≡ Some k → option_map scalar_value (Some value) ≡ value_of_constant (named_tree_of r.module_read) found.ordinal
     → IsUseAt r.module_read offset (record { token = found.token; occurrence = k; constant = found.ordinal; value = value })
 use_found r well offset found k value e at has_value =
@@ -206,7 +206,7 @@ pub use_is_one : (r : Resolution) → IsWellTyped r → (offset : ℕ) (made u :
 use_is_one r well offset made u h e =
     subst (IsUse r.module_read) (ap (λ (o : Option ConstantUse). elim o as (λ _. ConstantUse) [ Some n ↦ n | None ↦ made ]) e) (use_is r well.resolved offset made h)
 
-pub no_use : (r : Resolution) → IsWellTyped r → (offset : ℕ) (found : named.Named) → Some found ≡ name_at_offset r.module_read offset
+pub no_use : (r : Resolution) → IsWellTyped r → (offset : ℕ) (found : named.BoundName) → Some found ≡ name_at_offset r.module_read offset
     → position_from (λ i. i == found.token) 0 r.uses ≡ None → (u : ConstantUse) → IsUseAt r.module_read offset u → ⊥
 no_use r well offset found e none u h =
     not_there found.token 0 u.occurrence r.uses none

@@ -13,7 +13,7 @@ use Rattle.ob0_scan.specs.TextWithTokens.{TextWithTokens, word_of_token}
 use Rattle.ob0_tree.specs.Module.{terminals_of_text}
 use Rattle.ob0_tree.specs.ParsedModule.{ParsedModule, IsParsed, named_tree_of}
 use Rattle.ob0_tree.specs.Tree.{Tree, module_text, nesting, spell}
-use Rattle.ob0_parse.specs.IsRightParseRefusal.{NoModuleBegins}
+use Rattle.ob0_parse.specs.IsRightParseRefusal.{NoModuleBeginsWithTokens}
 use Rattle.ob0_parse_descent.proofs.Unique.{same}
 
 -- A module with the tokens of a tree has that tree, so the tree is nested at most 100 deep.
@@ -24,7 +24,7 @@ shallow_where_parsed s t spelled m source parsed =
     subst (λ (u : Tree (List ℕ) module_text). nesting u ≤ 100) one parsed.module_of.shallow
 
 -- If no module begins with the tree's tokens up to some token, the tree is nested deeper than 100.
-pub deep_where_refused : (s : TextWithTokens) (t : Tree (List ℕ) module_text) → terminals_of_text s ≡ spell t → (i : ℕ) → NoModuleBegins s i → nesting t ≤ 100 → ⊥
+pub deep_where_refused : (s : TextWithTokens) (t : Tree (List ℕ) module_text) → terminals_of_text s ≡ spell t → (i : ℕ) → NoModuleBeginsWithTokens s i → nesting t ≤ 100 → ⊥
 deep_where_refused s t spelled i none low =
     let all : List (Terminal (List ℕ)) = terminals_of_text s ++ (EndOfText ∷ []) in
     none t (drop (i + 1) all) low (ap (λ xs. xs ++ (EndOfText ∷ [])) (sym spelled) ∙ sym (take-append-drop (i + 1) all))

@@ -3,8 +3,8 @@
 use Rattle.std.proofs.Common.{ℕ, suc, ◌<◌, ◌≤◌, true, false, Option, Some, None, List, [], ◌∷◌, ◌++◌, map, sym, subst, arith}
 use Rattle.ob0_tree.specs.Tree.{Sort, Tree, block, constant, constants, declares, declares_constant, declares_constants, declares_procedure, declares_type, declares_types, declares_variable, declares_variables, end, formals, further_section, forms_block, item, items, maybe, more, none, occurrences, one, procedure, section, some_formals, then_section, type_definition, type_definitions, value_section, variable, variable_section, variables}
 use Rattle.ob0_language_names.specs.Names.{Name, naming_by_spelling, same_name}
-use Rattle.ob0_language_names.specs.Parts.{constant_names, formal_names, formal_sections, declared_type_names, names_in_list, procedure_name, section_constants, section_names, section_types, section_variables, variable_names}
-use Rattle.ob0_language_names.specs.Scopes.{Labelling, Scope, ordinal_after_block, ordinal_after_names, ordinal_after_procedure, ordinal_after_procedures, body_scope, declare_names, declare_procedure_names, first_procedure_ordinal, first_type_ordinal, first_variable_ordinal, label_of, ordinal_of, procedures_scope, relabel_block, relabel_constant_section, relabel_constants, relabel_formals, relabel_procedure, relabel_procedures, relabel_section, relabel_sections, relabel_type_section, relabel_types, relabel_uses, relabel_variable_section, relabel_variables, types_scope, variables_scope}
+use Rattle.ob0_language_names.specs.Parts.{constant_names, formal_names, formal_sections, declared_type_names, names_in_list, procedure_name, section_constants, parameter_section_names, section_types, section_variables, variable_names}
+use Rattle.ob0_language_names.specs.Scopes.{Labelling, Scope, ordinal_after_block, ordinal_after_names, ordinal_after_procedure, ordinal_after_procedures, body_scope, declare_names, declare_procedure_names, first_procedure_ordinal, first_type_ordinal, first_variable_ordinal, label_of, ordinal_of, scope_before_procedures, relabel_block, relabel_constant_section, relabel_constants, relabel_formals, relabel_procedure, relabel_procedures, relabel_section, relabel_sections, relabel_type_section, relabel_types, relabel_uses, relabel_variable_section, relabel_variables, scope_before_types, scope_before_variables}
 use Rattle.ob0_language_names.proofs.OccurrenceNames.{occurrences-map_names}
 use Rattle.ob0_language_names.proofs.Ordinals.{ordinal_after_names-append, le-ordinal_after_block, le-ordinal_after_names, le-ordinal_after_procedure, le-ordinal_after_procedures}
 
@@ -92,7 +92,7 @@ section_low scope k j (variable_section ns t) h = uses_low k scope t h
 pub sections_low : (scope : Scope Name) (k : ℕ) (fs : Tree Name (items further_section)) → ScopeLow k scope → AllLow (ordinal_after_names k (formal_names fs)) (occurrences (relabel_sections naming_by_spelling forget scope k fs))
 sections_low scope k end h = tt
 sections_low scope k (more (then_section s) fs) h =
-    let xs = section_names s in
+    let xs = parameter_section_names s in
     let n = ordinal_after_names k xs in
     let last = ordinal_after_names n (formal_names fs) in
     let up1 = le-ordinal_after_names k xs in
@@ -133,21 +133,21 @@ mutual
       let zs = variable_names (section_variables vs) in
       let n = ordinal_after_block k b in
       let h1 = declared_low k xs scope h in
-      let h2 = declared_low (ordinal_after_names k xs) ys (types_scope k b scope) h1 in
-      let h3 = declared_low (ordinal_after_names (ordinal_after_names k xs) ys) zs (variables_scope k b scope) h2 in
-      let h4 = procedures_below (first_procedure_ordinal k b) ps (procedures_scope k b scope) h3 in
+      let h2 = declared_low (ordinal_after_names k xs) ys (scope_before_types k b scope) h1 in
+      let h3 = declared_low (ordinal_after_names (ordinal_after_names k xs) ys) zs (scope_before_variables k b scope) h2 in
+      let h4 = procedures_below (first_procedure_ordinal k b) ps (scope_before_procedures k b scope) h3 in
       let up2 = le-ordinal_after_names (ordinal_after_names k xs) ys in
       let up3 = le-ordinal_after_names (ordinal_after_names (ordinal_after_names k xs) ys) zs in
       let up4 = le-ordinal_after_procedures (first_procedure_ordinal k b) ps in
       let lc = occurrences (relabel_constant_section naming_by_spelling forget scope k cs) in
-      let lt = occurrences (relabel_type_section naming_by_spelling forget (types_scope k b scope) (first_type_ordinal k b) ts) in
-      let lv = occurrences (relabel_variable_section naming_by_spelling forget (variables_scope k b scope) (first_variable_ordinal k b) vs) in
-      let lp = occurrences (relabel_procedures naming_by_spelling forget (procedures_scope k b scope) (first_procedure_ordinal k b) ps) in
+      let lt = occurrences (relabel_type_section naming_by_spelling forget (scope_before_types k b scope) (first_type_ordinal k b) ts) in
+      let lv = occurrences (relabel_variable_section naming_by_spelling forget (scope_before_variables k b scope) (first_variable_ordinal k b) vs) in
+      let lp = occurrences (relabel_procedures naming_by_spelling forget (scope_before_procedures k b scope) (first_procedure_ordinal k b) ps) in
       low_append n (lc ++ (lt ++ (lv ++ lp))) (occurrences (relabel_uses naming_by_spelling forget (body_scope k b scope) statements))
       (low_append n lc (lt ++ (lv ++ lp)) (raised (ordinal_after_names k xs) n lc (omega (arith, up2, up3, up4)) (constant_section_low scope k cs h))
-      (low_append n lt (lv ++ lp) (raised (ordinal_after_names (ordinal_after_names k xs) ys) n lt (omega (arith, up3, up4)) (type_section_low (types_scope k b scope) (first_type_ordinal k b) ts h1))
-      (low_append n lv lp (raised (first_procedure_ordinal k b) n lv (omega (arith, up4)) (variable_section_low (variables_scope k b scope) (first_variable_ordinal k b) vs h2))
-      (procedures_low (procedures_scope k b scope) (first_procedure_ordinal k b) ps h3))))
+      (low_append n lt (lv ++ lp) (raised (ordinal_after_names (ordinal_after_names k xs) ys) n lt (omega (arith, up3, up4)) (type_section_low (scope_before_types k b scope) (first_type_ordinal k b) ts h1))
+      (low_append n lv lp (raised (first_procedure_ordinal k b) n lv (omega (arith, up4)) (variable_section_low (scope_before_variables k b scope) (first_variable_ordinal k b) vs h2))
+      (procedures_low (scope_before_procedures k b scope) (first_procedure_ordinal k b) ps h3))))
       (uses_low n (body_scope k b scope) statements h4)
 
   pub procedures_low : (scope : Scope Name) (k : ℕ) (ps : Tree Name (items procedure)) → ScopeLow k scope → AllLow (ordinal_after_procedures k ps) (occurrences (relabel_procedures naming_by_spelling forget scope k ps))

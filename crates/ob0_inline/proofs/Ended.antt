@@ -14,11 +14,11 @@ use Rattle.ob0_tree.specs.declared.tree.Role.TheVariants as role
 use Rattle.ob0_tree.specs.Lexeme.{Terminal, WordOrSymbol}
 use Rattle.ob0_tree.specs.Lexeme as lexeme
 use Rattle.ob0_tree.specs.ParsedModule.{ParsedModule, named_tree_of, tree_of}
-use Rattle.ob0_tree.specs.Places.{index_terminal}
+use Rattle.ob0_tree.specs.Places.{indexed_terminal}
 use Rattle.ob0_tree.specs.Places as leaf
 use Rattle.ob0_tree.specs.Tree.{identifiers, occurrences, spell}
 use Rattle.ob0_edits_tokens.specs.Changed.{changes_at, changed_words, words_of}
-use Rattle.ob0_edits_tokens.specs.OfTrees.{indexed_tokens}
+use Rattle.ob0_edits_tokens.specs.OfTrees.{indexed_terminals_of_words}
 use Rattle.ob0_edits_tokens.specs.Removed.{MayBeConstantDeclaration, changes_with_removal}
 use Rattle.ob0_edits_tokens.specs.Replaced.{AreIdentifierIndexes}
 use Rattle.ob0_edits_tokens.specs.Words.{terminal_of_word}
@@ -34,9 +34,9 @@ use Rattle.ob0_language_names.proofs.Peeling.{heads}
 use Rattle.ob0_language_types.specs.ConstantValues.{value_of_constant}
 use Rattle.ob0_language_values.specs.Scalars.{scalar_value}
 use Rattle.ob0_language_values.specs.Values.{Value}
-use Rattle.ob0_inline.specs.declared.constants.NamedConstant.{NamedConstant}
+use Rattle.ob0_inline.specs.declared.constants.DeclaredConstant.{DeclaredConstant}
 use Rattle.ob0_inline.specs.Declarations.{is_semicolon}
-use Rattle.ob0_inline.specs.Everywhere.{IsConstant, UsesAreFactors, tree_inlined_everywhere, uses_of}
+use Rattle.ob0_inline.specs.Everywhere.{IsConstant, UsesAreFactors, tree_inlined_everywhere, use_tokens_of}
 use Rattle.ob0_inline.specs.Values.{value_factor, value_words}
 use Rattle.ob0_inline.proofs.EverywhereAt.{bound_tokens, late_here, uses_are_names, words_everywhere}
 use Rattle.ob0_inline.proofs.ModuleTexts.{spelled_by_words, value_spelled}
@@ -63,7 +63,7 @@ uses_kept source ordinals d (i ∷ is) =
     one kept bound e true = λ j. i ∷ e j
     one kept bound e false = e
 
-pub uses_by_table : (r : Resolution) → IsResolution r → (d : ℕ) → bound_tokens r.ordinals d r.uses ≡ uses_of r.module_read d
+pub uses_by_table : (r : Resolution) → IsResolution r → (d : ℕ) → bound_tokens r.ordinals d r.uses ≡ use_tokens_of r.module_read d
 uses_by_table r is d =
     let m = r.module_read in
     ap (bound_tokens r.ordinals d) is.occurring
@@ -78,7 +78,7 @@ as_many_bindings r is =
 
 -- Finds the first `;` among tokens.
 
-not_end : (k : ℕ) (q : TokenKind) (x : Terminal ℕ) (xs : List (Terminal ℕ)) → index_terminal k q ≡ x → NoEnd (x ∷ xs) → is_semicolon q ≡ false
+not_end : (k : ℕ) (q : TokenKind) (x : Terminal ℕ) (xs : List (Terminal ℕ)) → indexed_terminal k q ≡ x → NoEnd (x ∷ xs) → is_semicolon q ≡ false
 not_end k (kind.Symbol s) x xs e n = (subst (λ y. NoEnd (y ∷ xs)) (sym e) n).0
 not_end k _ x xs e n = refl
 
@@ -86,7 +86,7 @@ others_no_end : (x : Terminal ℕ) (xs : List (Terminal ℕ)) → NoEnd (x ∷ x
 others_no_end (WordOrSymbol k) xs n = n.1
 others_no_end _ xs n = n
 
-first_end : (text : List ℕ) (k j : ℕ) (ts : List Token) (xs ys : List (Terminal ℕ)) → indexed_tokens k (map (word_of_token text) ts) ≡ xs ++ (WordOrSymbol (kind.Symbol symbol.Semicolon) ∷ ys) → NoEnd xs
+first_end : (text : List ℕ) (k j : ℕ) (ts : List Token) (xs ys : List (Terminal ℕ)) → indexed_terminals_of_words k (map (word_of_token text) ts) ≡ xs ++ (WordOrSymbol (kind.Symbol symbol.Semicolon) ∷ ys) → NoEnd xs
     → position_from (λ t. is_semicolon t.kind) j ts ≡ Some (j + length xs)
 first_end text k j [] [] ys e n = absurd (cc)
 first_end text k j [] (x ∷ xs) ys e n = absurd (cc)
@@ -98,11 +98,11 @@ first_end text k j (t ∷ ts) (x ∷ xs) ys e n =
     ∙ (first_end text (suc k) (j + 1) ts xs ys (heads e).1 (others_no_end x xs n) ∙ ap Some (let z : j + 1 + length xs ≡ j + suc (length xs) = omega arith in z))
 
 -- Dropping the tokens of a prefix leaves the tokens of the rest.
-following_front : (text : List ℕ) (k : ℕ) (ts : List Token) (front rest : List (Terminal ℕ)) → indexed_tokens k (map (word_of_token text) ts) ≡ front ++ rest → indexed_tokens (k + length front) (map (word_of_token text) (drop (length front) ts)) ≡ rest
-following_front text k ts [] rest e = ap (λ n. indexed_tokens n (map (word_of_token text) ts)) (let z : k + 0 ≡ k = omega arith in z) ∙ e
+following_front : (text : List ℕ) (k : ℕ) (ts : List Token) (front rest : List (Terminal ℕ)) → indexed_terminals_of_words k (map (word_of_token text) ts) ≡ front ++ rest → indexed_terminals_of_words (k + length front) (map (word_of_token text) (drop (length front) ts)) ≡ rest
+following_front text k ts [] rest e = ap (λ n. indexed_terminals_of_words n (map (word_of_token text) ts)) (let z : k + 0 ≡ k = omega arith in z) ∙ e
 following_front text k [] (x ∷ front) rest e = absurd (cc)
 following_front text k (t ∷ ts) (x ∷ front) rest e =
-    ap (λ n. indexed_tokens n (map (word_of_token text) (drop (length front) ts))) (let z : k + suc (length front) ≡ suc k + length front = omega arith in z)
+    ap (λ n. indexed_terminals_of_words n (map (word_of_token text) (drop (length front) ts))) (let z : k + suc (length front) ≡ suc k + length front = omega arith in z)
     ∙ following_front text (suc k) ts front rest (heads e).1
 
 pub none_some : (n : ℕ) → None ≡ Some n → ⊥
@@ -114,7 +114,7 @@ token_of : (labels : List ℕ) (d place : ℕ) → d ≡ 7 + place → declarati
 token_of labels d place e =
     ap (λ b. if b then None else slice_get labels (d - 7)) (le-ltb d 7 (omega (arith, e))) ∙ ap (slice_get labels) (let z : d - 7 ≡ place = omega (arith, e) in z)
 
-module _ (m : ParsedModule) (d : ℕ) (left : List (Terminal ℕ)) (t : Taken d 7 (names_in (module_block (tree_of m))) (indexed_tokens 0 (words_of m.source)) left) where
+module _ (m : ParsedModule) (d : ℕ) (left : List (Terminal ℕ)) (t : Taken d 7 (names_in (module_block (tree_of m))) (indexed_terminals_of_words 0 (words_of m.source)) left) where
   pub begins_there : declaration_token (declaring_names (identifiers role.Declaring (tree_of m))) d ≡ Some (first_bound_token t)
   begins_there =
       let labels = names_in (module_block (tree_of m)) in
@@ -135,10 +135,10 @@ module _ (m : ParsedModule) (d : ℕ) (left : List (Terminal ℕ)) (t : Taken d 
 -- the facts about a constant whose declaration is removed
 
 module _ (r : Resolution) (is : IsResolution r) (d : ℕ) (w : Value) (has_value : value_of_constant (named_tree_of r.module_read) d ≡ Some w) where
-  abbrev spelled : spell (tree_of r.module_read) ≡ indexed_tokens 0 (words_of r.module_read.source)
+  abbrev spelled : spell (tree_of r.module_read) ≡ indexed_terminals_of_words 0 (words_of r.module_read.source)
   spelled = spelled_by_words r.module_read is.parsed
 
-  abbrev taken : Taken d 7 (names_in (module_block (tree_of r.module_read))) (indexed_tokens 0 (words_of r.module_read.source)) (spell (gone_module d (tree_of r.module_read)))
+  abbrev taken : Taken d 7 (names_in (module_block (tree_of r.module_read))) (indexed_terminals_of_words 0 (words_of r.module_read.source)) (spell (gone_module d (tree_of r.module_read)))
   taken = (late_here r is d w has_value spelled).taken
 
   abbrev pub name_token : ℕ
@@ -163,12 +163,12 @@ module _ (r : Resolution) (is : IsResolution r) (d : ℕ) (w : Value) (has_value
   pub declaration_at : MayBeConstantDeclaration r.module_read.source.tokens name_token end_token
   declaration_at = is_declaration r.module_read.source d 7 (names_in (module_block (tree_of r.module_read))) (spell (gone_module d (tree_of r.module_read))) taken
 
-  pub names_at : AreIdentifierIndexes r.module_read.source.tokens (suc end_token) (uses_of r.module_read d)
+  pub names_at : AreIdentifierIndexes r.module_read.source.tokens (suc end_token) (use_tokens_of r.module_read d)
   names_at =
       subst (AreIdentifierIndexes r.module_read.source.tokens (suc end_token)) (uses_by_table r is d)
       (uses_are_names r is d w has_value spelled declaration_at.inside)
 
-module _ (r : Resolution) (is : IsResolution r) (c : NamedConstant) (constant : IsConstant r.module_read c) where
+module _ (r : Resolution) (is : IsResolution r) (c : DeclaredConstant) (constant : IsConstant r.module_read c) where
   first_is : name_token r is c.ordinal (scalar_value c.value) constant.has_value ≡ c.first
   first_is = some_inverse (sym (begins_at r is c.ordinal (scalar_value c.value) constant.has_value) ∙ constant.begins)
 
@@ -183,12 +183,12 @@ module _ (r : Resolution) (is : IsResolution r) (c : NamedConstant) (constant : 
       (subst (MayBeConstantDeclaration r.module_read.source.tokens (name_token r is c.ordinal (scalar_value c.value) constant.has_value)) last_is
       (declaration_at r is c.ordinal (scalar_value c.value) constant.has_value))
 
-  pub are_uses : AreIdentifierIndexes r.module_read.source.tokens (suc c.last) (uses_of r.module_read c.ordinal)
-  are_uses = subst (λ n. AreIdentifierIndexes r.module_read.source.tokens (suc n) (uses_of r.module_read c.ordinal)) last_is (names_at r is c.ordinal (scalar_value c.value) constant.has_value)
+  pub are_uses : AreIdentifierIndexes r.module_read.source.tokens (suc c.last) (use_tokens_of r.module_read c.ordinal)
+  are_uses = subst (λ n. AreIdentifierIndexes r.module_read.source.tokens (suc n) (use_tokens_of r.module_read c.ordinal)) last_is (names_at r is c.ordinal (scalar_value c.value) constant.has_value)
 
   -- The remaining words spell the inlined module.
   pub left_spelled : UsesAreFactors r.module_read c.ordinal
-      → map terminal_of_word (changed_words (changes_with_removal c.first c.last (changes_at (uses_of r.module_read c.ordinal) (value_words c.value))) 0 (words_of r.module_read.source)) ≡ spell (tree_inlined_everywhere r.module_read c)
+      → map terminal_of_word (changed_words (changes_with_removal c.first c.last (changes_at (use_tokens_of r.module_read c.ordinal) (value_words c.value))) 0 (words_of r.module_read.source)) ≡ spell (tree_inlined_everywhere r.module_read c)
   left_spelled alone =
       let m = r.module_read in
       let d = c.ordinal in

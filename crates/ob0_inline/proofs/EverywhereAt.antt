@@ -4,12 +4,12 @@ use Rattle.std.proofs.Common.{◌≡◌, ℕ, zero, suc, ◌+◌, ◌<◌, ◌==
 use Rattle.std.specs.List.{filter}
 use Rattle.ob0_scan.specs.declared.lexeme.Token.{Token}
 use Rattle.ob0_scan.specs.TextWithTokens.{Word}
-use Rattle.ob0_tree.specs.Order.{AreIdentifierTokens, AreAscending}
+use Rattle.ob0_tree.specs.Order.{AreIdentifierTokens, AreAscendingWithin}
 use Rattle.ob0_tree.specs.ParsedModule.{named_tree_of, tree_of}
 use Rattle.ob0_tree.specs.Tree.{Tree, factor, occurrences, spell}
 use Rattle.ob0_tree.proofs.Leaves.{ascending_lower}
 use Rattle.ob0_edits_tokens.specs.Changed.{changes_at, changed_words, is_in_list, words_of}
-use Rattle.ob0_edits_tokens.specs.OfTrees.{indexed_tokens}
+use Rattle.ob0_edits_tokens.specs.OfTrees.{indexed_terminals_of_words}
 use Rattle.ob0_edits_tokens.specs.Removed.{changes_with_removal}
 use Rattle.ob0_edits_tokens.specs.Replaced.{AreIdentifierIndexes}
 use Rattle.ob0_edits_tokens.specs.Words.{terminal_of_word}
@@ -34,10 +34,10 @@ use Rattle.ob0_inline.proofs.WordsLeft.{first_bound_token, last_token, words_lef
 abbrev pub bound_tokens : List (Option ℕ) → ℕ → List ℕ → List ℕ
 bound_tokens ordinals d is = filter (λ i. same_ordinal (ordinal_in ordinals i) d) is
 
-bound_ascend : (ordinals : List (Option ℕ)) (d low high : ℕ) (is : List ℕ) → AreAscending low is high → AreAscending low (bound_tokens ordinals d is) high
+bound_ascend : (ordinals : List (Option ℕ)) (d low high : ℕ) (is : List ℕ) → AreAscendingWithin low is high → AreAscendingWithin low (bound_tokens ordinals d is) high
 bound_ascend ordinals d low high [] a = a
 bound_ascend ordinals d low high (i ∷ is) a =
-    elim (same_ordinal (ordinal_in ordinals i) d) as (λ b. AreAscending low (cond b (i ∷ bound_tokens ordinals d is) (bound_tokens ordinals d is)) high)
+    elim (same_ordinal (ordinal_in ordinals i) d) as (λ b. AreAscendingWithin low (cond b (i ∷ bound_tokens ordinals d is) (bound_tokens ordinals d is)) high)
     [ true ↦ (a.0, bound_ascend ordinals d (i + 1) high is a.1) | false ↦ ascending_lower low (i + 1) (bound_tokens ordinals d is) high (omega (arith, a.0)) (bound_ascend ordinals d (i + 1) high is a.1) ]
 
 bound_are_identifiers : (ts : List Token) (ordinals : List (Option ℕ)) (d : ℕ) (is : List ℕ) → AreIdentifierTokens ts is → AreIdentifierTokens ts (bound_tokens ordinals d is)
@@ -47,12 +47,12 @@ bound_are_identifiers ts ordinals d (i ∷ is) h =
     [ true ↦ (h.0, bound_are_identifiers ts ordinals d is h.1) | false ↦ bound_are_identifiers ts ordinals d is h.1 ]
 
 -- If the tokens that are bound to d are after a token, they ascend from there.
-from_there : (ordinals : List (Option ℕ)) (d low high last : ℕ) (is : List ℕ) → AreAscending low (bound_tokens ordinals d is) high → last < high → ((j i : ℕ) → slice_get is j ≡ Some i → ordinal_in ordinals i ≡ Some d → last < i)
-    → AreAscending (suc last) (bound_tokens ordinals d is) high
+from_there : (ordinals : List (Option ℕ)) (d low high last : ℕ) (is : List ℕ) → AreAscendingWithin low (bound_tokens ordinals d is) high → last < high → ((j i : ℕ) → slice_get is j ≡ Some i → ordinal_in ordinals i ≡ Some d → last < i)
+    → AreAscendingWithin (suc last) (bound_tokens ordinals d is) high
 from_there ordinals d low high last [] a inside h = omega (arith, inside)
 from_there ordinals d low high last (i ∷ is) a inside h =
-    (elim (same_ordinal (ordinal_in ordinals i) d) as (λ b. same_ordinal (ordinal_in ordinals i) d ≡ b → AreAscending low (cond b (i ∷ bound_tokens ordinals d is) (bound_tokens ordinals d is)) high
-    → AreAscending (suc last) (cond b (i ∷ bound_tokens ordinals d is) (bound_tokens ordinals d is)) high)
+    (elim (same_ordinal (ordinal_in ordinals i) d) as (λ b. same_ordinal (ordinal_in ordinals i) d ≡ b → AreAscendingWithin low (cond b (i ∷ bound_tokens ordinals d is) (bound_tokens ordinals d is)) high
+    → AreAscendingWithin (suc last) (cond b (i ∷ bound_tokens ordinals d is) (bound_tokens ordinals d is)) high)
     [ true ↦ (λ e a. let over = h 0 i refl (same_ordinal-true (ordinal_in ordinals i) d e) in (omega (arith, over), a.1)) | false ↦ (λ e a. from_there ordinals d low high last is a inside (λ j x f. h (suc j) x f)) ]) refl a
 
 are_bound : (r : Resolution) (d : ℕ) (is : List ℕ) → ((j i : ℕ) → slice_get is j ≡ Some i → (k : ℕ) × (slice_get r.uses k ≡ Some i)) → AreBound r d (bound_tokens r.ordinals d is)
@@ -102,9 +102,9 @@ agree r is d j i e =
     and_true true = refl
     and_true false = refl
 
-module _ (r : Resolution) (is : IsResolution r) (d : ℕ) (w : Value) (has_value : value_of_constant (named_tree_of r.module_read) d ≡ Some w) (spelled : spell (tree_of r.module_read) ≡ indexed_tokens 0 (words_of r.module_read.source)) where
+module _ (r : Resolution) (is : IsResolution r) (d : ℕ) (w : Value) (has_value : value_of_constant (named_tree_of r.module_read) d ≡ Some w) (spelled : spell (tree_of r.module_read) ≡ indexed_terminals_of_words 0 (words_of r.module_read.source)) where
   -- the places of the constant's declaration and uses among the module's tokens
-  abbrev pub late_here : Late d 7 (names_in (module_block (tree_of r.module_read))) (indexed_tokens 0 (words_of r.module_read.source)) (spell (gone_module d (tree_of r.module_read))) (occurrences (tree_of r.module_read))
+  abbrev pub late_here : Late d 7 (names_in (module_block (tree_of r.module_read))) (indexed_terminals_of_words 0 (words_of r.module_read.source)) (spell (gone_module d (tree_of r.module_read))) (occurrences (tree_of r.module_read))
       (map (ordinal_in r.ordinals) (occurrences (tree_of r.module_read)))
   late_here = late_of r is d w has_value spelled
 

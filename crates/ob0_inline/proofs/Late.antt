@@ -18,7 +18,7 @@ use Rattle.ob0_tree.proofs.Occurring.{looked_up_only, looked_up-occurrences}
 use Rattle.ob0_edits_tokens.specs.Changed.{is_in_list}
 use Rattle.ob0_language_names.specs.Names.{Name, naming_by_spelling}
 use Rattle.ob0_language_names.specs.Parts.{constant_names, formal_names, formal_sections, module_block, declared_type_names, procedure_name, section_constants, section_types, section_variables, variable_names}
-use Rattle.ob0_language_names.specs.Scopes.{Scope, ordinal_after_names, ordinal_after_procedure, body_scope, declare_names, first_procedure_ordinal, first_type_ordinal, first_variable_ordinal, predeclared_scope, procedures_scope, relabel_block, relabel_constant_section, relabel_constants, relabel_formals, relabel_procedure, relabel_procedures, relabel_type_section, relabel_uses, relabel_variable_section, relabel_module, types_scope, variables_scope}
+use Rattle.ob0_language_names.specs.Scopes.{Scope, ordinal_after_names, ordinal_after_procedure, body_scope, declare_names, first_procedure_ordinal, first_type_ordinal, first_variable_ordinal, predeclared_scope, scope_before_procedures, relabel_block, relabel_constant_section, relabel_constants, relabel_formals, relabel_procedure, relabel_procedures, relabel_type_section, relabel_uses, relabel_variable_section, relabel_module, scope_before_types, scope_before_variables}
 use Rattle.ob0_language_names.proofs.OccurrenceNames.{as_many-constant_section, as_many-formals, as_many-procedure, as_many-type_section, as_many-uses, as_many-variable_section}
 use Rattle.ob0_language_names.proofs.Ordinals.{le-ordinal_after_names, le-ordinal_after_procedure}
 use Rattle.ob0_language_types.specs.ConstantValues.{ConstantEnvironment, non_constant, predeclared_constants, value_in_constants, value_in_block, value_in_procedure, value_in_procedures, value_of_constant}
@@ -353,16 +353,16 @@ module _ (f : ℕ → Name) (g : ℕ → ℕ) (d : ℕ) (w : Value) where
         let b : Tree ℕ block = forms_block (declares cs ts vs ps) statements in
         let b' = mapped_tree f g b in
         let lc = occurrences (relabel_constant_section naming_by_spelling forget scope n (mapped_tree f g cs)) in
-        let lt = occurrences (relabel_type_section naming_by_spelling forget (types_scope n b' scope) (first_type_ordinal n b') (mapped_tree f g ts)) in
-        let lv = occurrences (relabel_variable_section naming_by_spelling forget (variables_scope n b' scope) (first_variable_ordinal n b') (mapped_tree f g vs)) in
-        let lp = occurrences (relabel_procedures naming_by_spelling forget (procedures_scope n b' scope) (first_procedure_ordinal n b') (mapped_tree f g ps)) in
+        let lt = occurrences (relabel_type_section naming_by_spelling forget (scope_before_types n b' scope) (first_type_ordinal n b') (mapped_tree f g ts)) in
+        let lv = occurrences (relabel_variable_section naming_by_spelling forget (scope_before_variables n b' scope) (first_variable_ordinal n b') (mapped_tree f g vs)) in
+        let lp = occurrences (relabel_procedures naming_by_spelling forget (scope_before_procedures n b' scope) (first_procedure_ordinal n b') (mapped_tree f g ps)) in
         let ls = occurrences (relabel_uses naming_by_spelling forget (body_scope n b' scope) (mapped_tree f g statements)) in
         let xs = constant_names (section_constants (mapped_tree f g cs)) in
         let ys = declared_type_names (section_types (mapped_tree f g ts)) in
         let zs = variable_names (section_variables (mapped_tree f g vs)) in
         let h1 = declared_low n xs scope below in
-        let h2 = declared_low (ordinal_after_names n xs) ys (types_scope n b' scope) h1 in
-        let h3 = declared_low (ordinal_after_names (ordinal_after_names n xs) ys) zs (variables_scope n b' scope) h2 in
+        let h2 = declared_low (ordinal_after_names n xs) ys (scope_before_types n b' scope) h1 in
+        let h3 = declared_low (ordinal_after_names (ordinal_after_names n xs) ys) zs (scope_before_variables n b' scope) h2 in
         let up2 = le-ordinal_after_names (ordinal_after_names n xs) ys in
         let up3 = le-ordinal_after_names (ordinal_after_names (ordinal_after_names n xs) ys) zs in
         elim (nat_lt d (first_type_ordinal n b')) as (λ x. nat_lt d (first_type_ordinal n b') ≡ x
@@ -389,12 +389,12 @@ module _ (f : ℕ → Name) (g : ℕ → ℕ) (d : ℕ) (w : Value) where
                       | Some inner ↦ λ g0.
                           late_by_procedures cs ts vs ps statements k lc lt lv lp ls (subst (λ m. m ≤ d) (first_type_count f g n b ∙ ap (λ m. first_type_ordinal m b) same) high)
                           (as_many-constant_section naming_by_spelling forget scope n (mapped_tree f g cs) ∙ as_many f g cs)
-                          (as_many-type_section naming_by_spelling forget (types_scope n b' scope) (first_type_ordinal n b') (mapped_tree f g ts) ∙ as_many f g ts)
-                          (as_many-variable_section naming_by_spelling forget (variables_scope n b' scope) (first_variable_ordinal n b') (mapped_tree f g vs) ∙ as_many f g vs)
+                          (as_many-type_section naming_by_spelling forget (scope_before_types n b' scope) (first_type_ordinal n b') (mapped_tree f g ts) ∙ as_many f g ts)
+                          (as_many-variable_section naming_by_spelling forget (scope_before_variables n b' scope) (first_variable_ordinal n b') (mapped_tree f g vs) ∙ as_many f g vs)
                           (raised (ordinal_after_names n xs) d lc high (constant_section_low scope n (mapped_tree f g cs) below))
-                          (raised (ordinal_after_names (ordinal_after_names n xs) ys) d lt (omega (arith, all, up3)) (type_section_low (types_scope n b' scope) (first_type_ordinal n b') (mapped_tree f g ts) h1))
-                          (raised (first_procedure_ordinal n b') d lv all (variable_section_low (variables_scope n b' scope) (first_variable_ordinal n b') (mapped_tree f g vs) h2))
-                          (late_procedures (bind_names (declared_type_names (section_types (mapped_tree f g ts)) ++ variable_names (section_variables (mapped_tree f g vs))) non_constant inner) (procedures_scope n b' scope)
+                          (raised (ordinal_after_names (ordinal_after_names n xs) ys) d lt (omega (arith, all, up3)) (type_section_low (scope_before_types n b' scope) (first_type_ordinal n b') (mapped_tree f g ts) h1))
+                          (raised (first_procedure_ordinal n b') d lv all (variable_section_low (scope_before_variables n b' scope) (first_variable_ordinal n b') (mapped_tree f g vs) h2))
+                          (late_procedures (bind_names (declared_type_names (section_types (mapped_tree f g ts)) ++ variable_names (section_variables (mapped_tree f g vs))) non_constant inner) (scope_before_procedures n b' scope)
                           (first_procedure_ordinal k b) (first_procedure_ordinal n b') (first_procedure_count f g n b ∙ ap (λ m. first_procedure_ordinal m b) same) h3 ps g0)
                     ]
               ] refl h

@@ -9,11 +9,11 @@ use Rattle.ob0_text.specs.declared.edits.Edit.{Edit}
 use Rattle.ob0_text.specs.declared.position_types.Unit as counting
 use Rattle.ob0_tree.specs.Lexeme.{EndOfText}
 use Rattle.ob0_tree.specs.ParsedModule.{ParsedModule, IsParsed, tree_of}
-use Rattle.ob0_tree.specs.Places.{index_terminal, index_terminals_from}
+use Rattle.ob0_tree.specs.Places.{indexed_terminal, indexed_terminals_from}
 use Rattle.ob0_tree.specs.Tree.{Tree, factor, module_text, nesting, spell}
 use Rattle.ob0_edits_tokens.specs.Changed.{words_of}
-use Rattle.ob0_edits_tokens.specs.OfTrees.{indexed_tokens}
-use Rattle.ob0_edits_tokens.specs.Replaced.{LeavesWords}
+use Rattle.ob0_edits_tokens.specs.OfTrees.{indexed_terminals_of_words}
+use Rattle.ob0_edits_tokens.specs.Replaced.{EditsGiveWords}
 use Rattle.ob0_edits_tokens.specs.Words.{terminal_of_word}
 use Rattle.ob0_language_values.specs.declared.scalar.Scalar.{Scalar}
 use Rattle.ob0_language_values.specs.declared.scalar.Scalar.TheVariants as scalar
@@ -21,16 +21,16 @@ use Rattle.ob0_inline.specs.Inlined.{EditsGiveModule}
 use Rattle.ob0_inline.specs.Values.{value_factor, value_words}
 use Rattle.ob0_inline.proofs.Depths.{lexemes_of_words}
 
-lexemes_placed : (text : List ℕ) (i : ℕ) (ts : List Token) → index_terminals_from i ts ≡ indexed_tokens i (map (word_of_token text) ts) ++ (EndOfText ∷ [])
+lexemes_placed : (text : List ℕ) (i : ℕ) (ts : List Token) → indexed_terminals_from i ts ≡ indexed_terminals_of_words i (map (word_of_token text) ts) ++ (EndOfText ∷ [])
 lexemes_placed text i [] = refl
 lexemes_placed text i (t ∷ ts) =
     let next : i + 1 ≡ suc i = omega arith in
-    let rest = ap (λ n. index_terminals_from n ts) next ∙ lexemes_placed text (suc i) ts in
-    λ j. index_terminal i t.kind ∷ rest j
+    let rest = ap (λ n. indexed_terminals_from n ts) next ∙ lexemes_placed text (suc i) ts in
+    λ j. indexed_terminal i t.kind ∷ rest j
 
 -- The words with their indexes spell the tree over the tokens' indexes.
-pub spelled_by_words : (m : ParsedModule) → IsParsed m → spell (tree_of m) ≡ indexed_tokens 0 (words_of m.source)
-spelled_by_words m parsed = append_cancel_right (spell (tree_of m)) (indexed_tokens 0 (words_of m.source)) (EndOfText ∷ []) (parsed.places ∙ lexemes_placed m.source.text 0 m.source.tokens)
+pub spelled_by_words : (m : ParsedModule) → IsParsed m → spell (tree_of m) ≡ indexed_terminals_of_words 0 (words_of m.source)
+spelled_by_words m parsed = append_cancel_right (spell (tree_of m)) (indexed_terminals_of_words 0 (words_of m.source)) (EndOfText ∷ []) (parsed.places ∙ lexemes_placed m.source.text 0 m.source.tokens)
 
 -- A conditional spells its tree if both of its cases spell theirs.
 either_spelled : (b : Bool) (vs ws : List Word) (v w : Tree (List ℕ) factor) → map terminal_of_word vs ≡ spell v → map terminal_of_word ws ≡ spell w → map terminal_of_word (if b then vs else ws) ≡ spell (if b then v else w)
@@ -43,7 +43,7 @@ value_spelled _ = refl
 
 -- If the tree isn't too deep, edits that leave words that spell it leave its text.
 pub leaves_module : (unit : counting.Unit) (text : List ℕ) (edits : List Edit) (ws : List Word) (t : Tree (List ℕ) module_text)
-    → LeavesWords unit text edits ws → map terminal_of_word ws ≡ spell t → nesting t ≤ 100 → EditsGiveModule unit text edits t
+    → EditsGiveWords unit text edits ws → map terminal_of_word ws ≡ spell t → nesting t ≤ 100 → EditsGiveModule unit text edits t
 leaves_module unit text edits ws t leaves spelled low = record {
   after = leaves.after;
   scan = leaves.scan;

@@ -7,13 +7,13 @@ use Rattle.ob0_tree.specs.ParsedModule.{ParsedModule, named_tree_of, tree_of}
 use Rattle.ob0_tree.specs.Places as leaf
 use Rattle.ob0_tree.specs.Tree.{Sort, Tree, block, constant, constants, factor, item, items, maybe, module_text, nesting, occurrences, procedure, adds, array_type, assigns, begins, branches, calls, compares, declares, declares_constant, declares_constants, declares_procedure, declares_type, declares_types, declares_variable, declares_variables, designator, else_branch, elsif_branch, end, forms_block, index, is_module, more, multiplies, negation, none, one, parenthesised, product, record_type, relates, repeat_loop, runs, some_arguments, some_fields, some_formals, sum, then_argument, then_fields, then_section, then_statement, value_section, variable_section, while_loop}
 use Rattle.ob0_tree.proofs.Mapped.{nesting_mapped}
-use Rattle.ob0_language_names.specs.Inlining.{OccurrenceSet, occurrences_bound_to, block_without, inline_in, inlined, module_without, procedure_without, procedures_without, section_without, constants_without}
+use Rattle.ob0_language_names.specs.Inlining.{OccurrenceSet, occurrences_bound_to, block_without_constant, inline_in_tree, inlined, module_without_constant, procedure_without_constant, procedures_without_constant, section_without_constant, constants_without}
 use Rattle.ob0_language_names.specs.Names.{Name}
 use Rattle.ob0_language_names.specs.Parts.{formal_names, formal_sections}
 use Rattle.ob0_language_names.specs.Scopes.{ordinal_after_names, ordinal_after_procedure, first_procedure_ordinal}
 use Rattle.ob0_language_values.specs.declared.scalar.Scalar.{Scalar}
 use Rattle.ob0_language_values.specs.declared.scalar.Scalar.TheVariants as scalar
-use Rattle.ob0_inline.specs.declared.constants.NamedConstant.{NamedConstant}
+use Rattle.ob0_inline.specs.declared.constants.DeclaredConstant.{DeclaredConstant}
 use Rattle.ob0_inline.specs.Everywhere.{tree_inlined_everywhere}
 use Rattle.ob0_inline.specs.Values.{value_factor}
 
@@ -31,7 +31,7 @@ module _ (uses : OccurrenceSet) (v : Tree Name factor) where
   name_low x false = omega arith
 
   -- Replacing names by a factor makes a tree deeper by at most the factor's nesting.
-  inlined_low : {s : Sort} (k : ℕ) (t : Tree Name s) → nesting (inline_in uses v k t) ≤ nesting t + nesting v
+  inlined_low : {s : Sort} (k : ℕ) (t : Tree Name s) → nesting (inline_in_tree uses v k t) ≤ nesting t + nesting v
   inlined_low k (one t) = omega (arith, inlined_low k t)
   inlined_low k (more t u) = omega (arith, inlined_low k t, inlined_low (k + length (occurrences t)) u)
   inlined_low k (compares t u) = omega (arith, inlined_low k t, inlined_low (k + length (occurrences t)) u)
@@ -91,33 +91,33 @@ constants_low d k (more c cs) =
     let rest = constants_low d (suc k) cs in
     elim (k == d) as (λ b. nesting (if b then cs else more c (constants_without d (suc k) cs)) ≤ nesting (more c cs)) [ true ↦ omega arith | false ↦ omega (arith, rest) ]
 
-section_low : (d k : ℕ) (cs : Tree Name (maybe constants)) → nesting (section_without d k cs) ≤ nesting cs
+section_low : (d k : ℕ) (cs : Tree Name (maybe constants)) → nesting (section_without_constant d k cs) ≤ nesting cs
 section_low d k none = omega arith
 section_low d k (one (declares_constants cs)) = constants_low d k cs
 
 mutual
-  block_low : (d k : ℕ) (b : Tree Name block) → nesting (block_without d k b) ≤ nesting b
+  block_low : (d k : ℕ) (b : Tree Name block) → nesting (block_without_constant d k b) ≤ nesting b
   block_low d k (forms_block (declares cs ts vs ps) statements) =
       let first = section_low d k cs in
       let last = procedures_low d (first_procedure_ordinal k (forms_block (declares cs ts vs ps) statements)) ps in
       omega (arith, first, last)
 
-  procedures_low : (d k : ℕ) (ps : Tree Name (items procedure)) → nesting (procedures_without d k ps) ≤ nesting ps
+  procedures_low : (d k : ℕ) (ps : Tree Name (items procedure)) → nesting (procedures_without_constant d k ps) ≤ nesting ps
   procedures_low d k end = omega arith
   procedures_low d k (more p rest) =
       let first = procedure_low d (suc k) p in
       let others = procedures_low d (ordinal_after_procedure (suc k) p) rest in
       omega (arith, first, others)
 
-  procedure_low : (d k : ℕ) (p : Tree Name (item procedure)) → nesting (procedure_without d k p) ≤ nesting p
+  procedure_low : (d k : ℕ) (p : Tree Name (item procedure)) → nesting (procedure_without_constant d k p) ≤ nesting p
   procedure_low d k (declares_procedure x fs b closing) =
       let inner = block_low d (ordinal_after_names k (formal_names (formal_sections fs))) b in
       omega (arith, inner)
 
-module_low : (d : ℕ) (m : Tree Name module_text) → nesting (module_without d m) ≤ nesting m
+module_low : (d : ℕ) (m : Tree Name module_text) → nesting (module_without_constant d m) ≤ nesting m
 module_low d (is_module x b closing) = block_low d 7 b
 
-pub everywhere_shallow : (m : ParsedModule) (c : NamedConstant) → nesting (tree_inlined_everywhere m c) ≤ nesting (tree_of m) + 1
+pub everywhere_shallow : (m : ParsedModule) (c : DeclaredConstant) → nesting (tree_inlined_everywhere m c) ≤ nesting (tree_of m) + 1
 everywhere_shallow m c =
     let uses = occurrences_bound_to (named_tree_of m) c.ordinal in
     let less = module_low c.ordinal (inlined (named_tree_of m) uses (value_factor c.value)) in

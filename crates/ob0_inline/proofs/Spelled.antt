@@ -11,8 +11,8 @@ use Rattle.ob0_tree.specs.declared.tree.Role.TheVariants as role
 use Rattle.ob0_tree.specs.Lexeme.{Terminal, Name}
 use Rattle.ob0_tree.specs.Tree.{Sort, Tree, block, constant, constants, factor, further_name, identifiers, item, items, mapped_tree, maybe, module_text, names, occurrences, procedure, spell, adds, array_type, assigns, begins, branches, calls, compares, declares, declares_constant, declares_constants, declares_procedure, declares_type, declares_types, declares_variable, declares_variables, designator, else_branch, elsif_branch, end, field, forms_block, index, is_module, listed, more, multiplies, named_type, negation, none, one, parenthesised, product, record_type, relates, repeat_loop, runs, some_arguments, some_fields, some_formals, sum, then_argument, then_fields, then_name, then_section, then_statement, value_section, variable_section, while_loop}
 use Rattle.ob0_edits_tokens.proofs.OfTrees.{replaced}
-use Rattle.ob0_language_names.specs.NonFactorNames.{non_factor_names}
-use Rattle.ob0_language_names.specs.Inlining.{OccurrenceSet, inline_in, module_without}
+use Rattle.ob0_language_names.specs.NonFactorNames.{non_factor_occurrences}
+use Rattle.ob0_language_names.specs.Inlining.{OccurrenceSet, inline_in_tree, module_without_constant}
 use Rattle.ob0_language_names.specs.Names as naming
 use Rattle.ob0_language_names.specs.Names.{Label, declared}
 use Rattle.ob0_language_names.specs.Parts.{formal_names, formal_sections}
@@ -69,22 +69,22 @@ module _ (gives : ℕ → Bool) (uses : OccurrenceSet) (v : Tree naming.Name fac
   Rest k os is es = Agrees gives uses k os × AllMarked table is × NoneIs d es
 
   abbrev pub Fits : {s : Sort} → ℕ → Role → Tree ℕ s → Type 0
-  Fits k r t = Rest k (occurrences t) (identifiers r t) (non_factor_names (mapped_tree label g t))
+  Fits k r t = Rest k (occurrences t) (identifiers r t) (non_factor_occurrences (mapped_tree label g t))
 
   abbrev past : {s : Sort} → ℕ → Tree ℕ s → ℕ
   past k t = k + length (occurrences (mapped_tree f g t))
 
   cut : {s : Sort} (k : ℕ) (r : Role) (t : Tree ℕ s) (os : List ℕ) (is : List (Role × ℕ)) (es : List Label)
-      → Rest k (occurrences t ++ os) (identifiers r t ++ is) (non_factor_names (mapped_tree label g t) ++ es) → Fits k r t × Rest (past k t) os is es
+      → Rest k (occurrences t ++ os) (identifiers r t ++ is) (non_factor_occurrences (mapped_tree label g t) ++ es) → Fits k r t × Rest (past k t) os is es
   cut k r t os is es h =
       let a = cut_uses gives uses k (length (occurrences (mapped_tree f g t))) (occurrences t) os (sym (as_many f g t)) h.0 in
       let b = cut_roles table (identifiers r t) is h.1 in
-      let c = cut_labels d (non_factor_names (mapped_tree label g t)) es h.2 in
+      let c = cut_labels d (non_factor_occurrences (mapped_tree label g t)) es h.2 in
       ((a.0, b.0, c.0), (a.1, b.1, c.1))
 
   both : {s z : Sort} (k : ℕ) (r : Role) (t : Tree ℕ s) (u : Tree ℕ z)
-      → Rest k (occurrences t ++ occurrences u) (identifiers r t ++ identifiers r u) (non_factor_names (mapped_tree label g t) ++ non_factor_names (mapped_tree label g u)) → Fits k r t × Fits (past k t) r u
-  both k r t u h = cut k r t (occurrences u) (identifiers r u) (non_factor_names (mapped_tree label g u)) h
+      → Rest k (occurrences t ++ occurrences u) (identifiers r t ++ identifiers r u) (non_factor_occurrences (mapped_tree label g t) ++ non_factor_occurrences (mapped_tree label g u)) → Fits k r t × Fits (past k t) r u
+  both k r t u h = cut k r t (occurrences u) (identifiers r u) (non_factor_occurrences (mapped_tree label g u)) h
 
   -- holds if names in this role, such as declared names or fields, aren't replaced
   abbrev pub Plain : Role → Type 0
@@ -97,7 +97,7 @@ module _ (gives : ℕ → Bool) (uses : OccurrenceSet) (v : Tree naming.Name fac
   names_spelled : (r : Role) → Plain r → (ns : Tree ℕ names) → AllMarked table (identifiers r ns) → spell (mapped_tree f g ns) ≡ flat_map put (spell ns)
   names_spelled r plain (listed x rest) h = simp (plain x h.0, further_spelled r plain rest h.1)
 
-  further_kept : (k : ℕ) (ns : Tree ℕ (items further_name)) → inline_in uses v k (mapped_tree f g ns) ≡ mapped_tree f g ns
+  further_kept : (k : ℕ) (ns : Tree ℕ (items further_name)) → inline_in_tree uses v k (mapped_tree f g ns) ≡ mapped_tree f g ns
   further_kept k end = refl
   further_kept k (more (then_name x) rest) = λ i. more (then_name (f x)) (further_kept (k + 0) rest i)
 
@@ -107,7 +107,7 @@ module _ (gives : ℕ → Bool) (uses : OccurrenceSet) (v : Tree naming.Name fac
 
   -- A tree with the factor in place of the uses is spelled like the tree. r is the role of the
   -- names in a list.
-  pub spelled : {s : Sort} (k : ℕ) (r : Role) → Plain r → (t : Tree ℕ s) → Fits k r t → spell (inline_in uses v k (mapped_tree f g t)) ≡ flat_map put (spell t)
+  pub spelled : {s : Sort} (k : ℕ) (r : Role) → Plain r → (t : Tree ℕ s) → Fits k r t → spell (inline_in_tree uses v k (mapped_tree f g t)) ≡ flat_map put (spell t)
   spelled k r plain (one t) h = simp (spelled k r plain t h)
   spelled k r plain (more t u) h = let s = both k r t u h in simp (flat_map-append, spelled k r plain t s.0, spelled (past k t) r plain u s.1)
   spelled k r plain (compares t u) h = let s = both k r t u h in simp (flat_map-append, spelled k r plain t s.0, spelled (past k t) r plain u s.1)
@@ -126,8 +126,8 @@ module _ (gives : ℕ → Bool) (uses : OccurrenceSet) (v : Tree naming.Name fac
   spelled k r plain (assigns x t u) h = let s = both (suc k) r t u (h.0.1, h.1.1, h.2.1) in simp (flat_map-append, apart x h.2.0, spelled (suc k) r plain t s.0, spelled (past (suc k) t) r plain u s.1)
   spelled k r plain (calls x t) h = simp (apart x h.2.0, spelled (suc k) r plain t (h.0.1, h.1.1, h.2.1))
   spelled k r plain (branches t u w z) h =
-      let a = cut k r t (occurrences u ++ (occurrences w ++ (occurrences z))) (identifiers r u ++ (identifiers r w ++ (identifiers r z))) (non_factor_names (mapped_tree label g u) ++ (non_factor_names (mapped_tree label g w) ++ (non_factor_names (mapped_tree label g z)))) h in
-      let b = cut (past k t) r u (occurrences w ++ (occurrences z)) (identifiers r w ++ (identifiers r z)) (non_factor_names (mapped_tree label g w) ++ (non_factor_names (mapped_tree label g z))) a.1 in
+      let a = cut k r t (occurrences u ++ (occurrences w ++ (occurrences z))) (identifiers r u ++ (identifiers r w ++ (identifiers r z))) (non_factor_occurrences (mapped_tree label g u) ++ (non_factor_occurrences (mapped_tree label g w) ++ (non_factor_occurrences (mapped_tree label g z)))) h in
+      let b = cut (past k t) r u (occurrences w ++ (occurrences z)) (identifiers r w ++ (identifiers r z)) (non_factor_occurrences (mapped_tree label g w) ++ (non_factor_occurrences (mapped_tree label g z))) a.1 in
       let c = both (past (past k t) u) r w z b.1 in
       simp (flat_map-append, spelled k r plain t a.0, spelled (past k t) r plain u b.0, spelled (past (past k t) u) r plain w c.0, spelled (past (past (past k t) u) w) r plain z c.1)
   spelled k r plain (while_loop t u) h = let s = both k r t u h in simp (flat_map-append, spelled k r plain t s.0, spelled (past k t) r plain u s.1)
@@ -156,12 +156,12 @@ module _ (gives : ℕ → Bool) (uses : OccurrenceSet) (v : Tree naming.Name fac
   spelled k r plain (declares_variable ns t) h = let s = cut_roles table (identifiers role.Declaring ns) (identifiers r t) h.1 in simp (flat_map-append, names_spelled role.Declaring others ns s.0, spelled k r plain t (h.0, s.1, h.2))
   spelled k r plain (declares_variables t) h = simp (spelled k r plain t h)
   spelled k r plain (declares_procedure x t u y) h =
-      let a = cut k r t (occurrences u) (identifiers r u ++ ((role.ClosingName, y) ∷ [])) (non_factor_names (mapped_tree label g u)) (h.0, h.1.1, h.2) in
+      let a = cut k r t (occurrences u) (identifiers r u ++ ((role.ClosingName, y) ∷ [])) (non_factor_occurrences (mapped_tree label g u)) (h.0, h.1.1, h.2) in
       let b = cut_roles table (identifiers r u) ((role.ClosingName, y) ∷ []) a.1.1 in
       simp (flat_map-append, others x h.1.0, others y b.1.0, spelled k r plain t a.0, spelled (past k t) r plain u (a.1.0, b.0, a.1.2))
   spelled k r plain (declares t u w z) h =
-      let a = cut k r t (occurrences u ++ (occurrences w ++ (occurrences z))) (identifiers r u ++ (identifiers r w ++ (identifiers r z))) (non_factor_names (mapped_tree label g u) ++ (non_factor_names (mapped_tree label g w) ++ (non_factor_names (mapped_tree label g z)))) h in
-      let b = cut (past k t) r u (occurrences w ++ (occurrences z)) (identifiers r w ++ (identifiers r z)) (non_factor_names (mapped_tree label g w) ++ (non_factor_names (mapped_tree label g z))) a.1 in
+      let a = cut k r t (occurrences u ++ (occurrences w ++ (occurrences z))) (identifiers r u ++ (identifiers r w ++ (identifiers r z))) (non_factor_occurrences (mapped_tree label g u) ++ (non_factor_occurrences (mapped_tree label g w) ++ (non_factor_occurrences (mapped_tree label g z)))) h in
+      let b = cut (past k t) r u (occurrences w ++ (occurrences z)) (identifiers r w ++ (identifiers r z)) (non_factor_occurrences (mapped_tree label g w) ++ (non_factor_occurrences (mapped_tree label g z))) a.1 in
       let c = both (past (past k t) u) r w z b.1 in
       simp (flat_map-append, spelled k r plain t a.0, spelled (past k t) r plain u b.0, spelled (past (past k t) u) r plain w c.0, spelled (past (past (past k t) u) w) r plain z c.1)
   spelled k r plain (begins t) h = simp (spelled k r plain t h)
@@ -184,7 +184,7 @@ module _ (gives : ℕ → Bool) (uses : OccurrenceSet) (v : Tree naming.Name fac
       let later = constants_spelled c (suc n) (past k t) cs s.1 in
       let rest = edited_constants (everywhere uses v c) (past k t) (suc n) (mapped_tree f g cs) in
       (elim (n == c) as (λ b. (n == c) ≡ b
-      → spell (if b then rest else more (declares_constant (f x) (inline_in uses v k (mapped_tree f g t))) rest)
+      → spell (if b then rest else more (declares_constant (f x) (inline_in_tree uses v k (mapped_tree f g t))) rest)
       ≡ flat_map put (spell (if b then cs else more (declares_constant x t) (gone_constants c (suc n) cs)))) [
         | true ↦ (λ e. later ∙ ap (λ z. flat_map put (spell z)) (kept_constants c (suc n) cs (λ j l u. omega (arith, eqb-true n c e, l))))
         | false ↦ (λ e. joined (spell (declares_constant x t)) (spell (gone_constants c (suc n) cs)) (spelled k r others (declares_constant x t) s.0) later)
@@ -200,8 +200,8 @@ module _ (gives : ℕ → Bool) (uses : OccurrenceSet) (v : Tree naming.Name fac
         let r = role.Declaring in
         let b : Tree ℕ block = forms_block (declares t u w z) st in
         let s = both k r (declares t u w z) st h in
-        let a = cut k r t (occurrences u ++ (occurrences w ++ occurrences z)) (identifiers r u ++ (identifiers r w ++ identifiers r z)) (non_factor_names (mapped_tree label g u) ++ (non_factor_names (mapped_tree label g w) ++ non_factor_names (mapped_tree label g z))) s.0 in
-        let e = cut (past k t) r u (occurrences w ++ occurrences z) (identifiers r w ++ identifiers r z) (non_factor_names (mapped_tree label g w) ++ non_factor_names (mapped_tree label g z)) a.1 in
+        let a = cut k r t (occurrences u ++ (occurrences w ++ occurrences z)) (identifiers r u ++ (identifiers r w ++ identifiers r z)) (non_factor_occurrences (mapped_tree label g u) ++ (non_factor_occurrences (mapped_tree label g w) ++ non_factor_occurrences (mapped_tree label g z))) s.0 in
+        let e = cut (past k t) r u (occurrences w ++ occurrences z) (identifiers r w ++ identifiers r z) (non_factor_occurrences (mapped_tree label g w) ++ non_factor_occurrences (mapped_tree label g z)) a.1 in
         let p = both (past (past k t) u) r w z e.1 in
         let j = past (past (past k t) u) w in
         let left : List (Terminal ℕ) = spell (gone_procedures c (first_procedure_ordinal n b) z) in
@@ -222,13 +222,13 @@ module _ (gives : ℕ → Bool) (uses : OccurrenceSet) (v : Tree naming.Name fac
     procedure_spelled : (c n k : ℕ) (p : Tree ℕ (item procedure)) → Fits k role.Declaring p → spell (edited_procedure (everywhere uses v c) k n (mapped_tree f g p)) ≡ flat_map put (spell (gone_procedure c n p))
     procedure_spelled c n k (declares_procedure x u b y) h =
         let r = role.Declaring in
-        let a = cut k r u (occurrences b) (identifiers r b ++ ((role.ClosingName, y) ∷ [])) (non_factor_names (mapped_tree label g b)) (h.0, h.1.1, h.2) in
+        let a = cut k r u (occurrences b) (identifiers r b ++ ((role.ClosingName, y) ∷ [])) (non_factor_occurrences (mapped_tree label g b)) (h.0, h.1.1, h.2) in
         let q = cut_roles table (identifiers r b) ((role.ClosingName, y) ∷ []) a.1.1 in
         let first = ordinal_after_names n (formal_names (formal_sections u)) in
         let inner = ap (λ i. spell (edited_block (everywhere uses v c) (past k u) i (mapped_tree f g b))) (formals_count f g n u) ∙ block_spelled c first (past k u) b (a.1.0, q.0, a.1.2) in
         simp (flat_map-append, others x h.1.0, others y q.1.0, spelled k r others u a.0, inner)
 
-  pub module_spelled : (c : ℕ) (m : Tree ℕ module_text) → Fits 0 role.Declaring m → spell (module_without c (inline_in uses v 0 (mapped_tree f g m))) ≡ flat_map put (spell (gone_module c m))
+  pub module_spelled : (c : ℕ) (m : Tree ℕ module_text) → Fits 0 role.Declaring m → spell (module_without_constant c (inline_in_tree uses v 0 (mapped_tree f g m))) ≡ flat_map put (spell (gone_module c m))
   module_spelled c (is_module x b y) h =
       let q = cut_roles table (identifiers role.Declaring b) ((role.ModuleName, y) ∷ []) h.1.1 in
       let inner = block_spelled c 7 0 b (h.0, q.0, h.2) in

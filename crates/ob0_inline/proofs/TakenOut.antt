@@ -16,7 +16,7 @@ use Rattle.ob0_tree.specs.declared.tree.Relation.{Relation}
 use Rattle.ob0_tree.specs.declared.tree.Relation.TheVariants as relation
 use Rattle.ob0_tree.specs.declared.tree.Sign.{Sign}
 use Rattle.ob0_tree.specs.declared.tree.Sign.TheVariants as sign
-use Rattle.ob0_tree.specs.Lexeme.{Terminal, WordOrSymbol, add_operator_token, multiply_operator_token, relation_token, sign_tokens}
+use Rattle.ob0_tree.specs.Lexeme.{Terminal, WordOrSymbol, add_operator_token_kind, multiply_operator_token_kind, relation_token_kind, sign_tokens}
 use Rattle.ob0_tree.specs.Lexeme as lexeme
 use Rattle.ob0_tree.specs.Tree.{Tree, addend, adds, compares, designator, expression, factor, field, index, integer, multiplier, multiplies, negation, parenthesised, product, relates, selector, simple, sum, term, block, constant, constants, declares, declares_constant, declares_constants, declares_procedure, end, formals, forms_block, is_module, item, items, mapped_tree, maybe, module_text, more, none, one, procedure, spell}
 use Rattle.ob0_language_names.specs.Names.{Name}
@@ -202,15 +202,15 @@ no_end_append [] ys p q = q
 no_end_append (WordOrSymbol k ∷ xs) ys p q = (p.0, no_end_append xs ys p.1 q)
 no_end_append (_ ∷ xs) ys p q = no_end_append xs ys p q
 
-relation_no_end : (r : Relation) → is_end (relation_token r) ≡ false
+relation_no_end : (r : Relation) → is_end (relation_token_kind r) ≡ false
 relation_no_end relation.Equal = refl
 relation_no_end _ = refl
 
-add_no_end : (o : AddOperator) → is_end (add_operator_token o) ≡ false
+add_no_end : (o : AddOperator) → is_end (add_operator_token_kind o) ≡ false
 add_no_end add_operator.Add = refl
 add_no_end _ = refl
 
-multiply_no_end : (o : MultiplyOperator) → is_end (multiply_operator_token o) ≡ false
+multiply_no_end : (o : MultiplyOperator) → is_end (multiply_operator_token_kind o) ≡ false
 multiply_no_end multiply_operator.Multiply = refl
 multiply_no_end _ = refl
 
@@ -222,21 +222,21 @@ sign_no_end (Some sign.Minus) = (refl, tt)
 mutual
   pub expression_no_end : (e : Tree ℕ expression) → NoEnd (spell e)
   expression_no_end (compares a none) = no_end_append (spell a) [] (simple_no_end a) tt
-  expression_no_end (compares a (one (relates r b))) = no_end_append (spell a) (WordOrSymbol (relation_token r) ∷ spell b) (simple_no_end a) (relation_no_end r, simple_no_end b)
+  expression_no_end (compares a (one (relates r b))) = no_end_append (spell a) (WordOrSymbol (relation_token_kind r) ∷ spell b) (simple_no_end a) (relation_no_end r, simple_no_end b)
 
   simple_no_end : (a : Tree ℕ simple) → NoEnd (spell a)
   simple_no_end (sum s t rest) = no_end_append (sign_tokens s) (spell t ++ spell rest) (sign_no_end s) (no_end_append (spell t) (spell rest) (term_no_end t) (addends_no_end rest))
 
   addends_no_end : (rest : Tree ℕ (items addend)) → NoEnd (spell rest)
   addends_no_end end = tt
-  addends_no_end (more (adds o t) rest) = no_end_append (WordOrSymbol (add_operator_token o) ∷ spell t) (spell rest) (add_no_end o, term_no_end t) (addends_no_end rest)
+  addends_no_end (more (adds o t) rest) = no_end_append (WordOrSymbol (add_operator_token_kind o) ∷ spell t) (spell rest) (add_no_end o, term_no_end t) (addends_no_end rest)
 
   term_no_end : (t : Tree ℕ term) → NoEnd (spell t)
   term_no_end (product a rest) = no_end_append (spell a) (spell rest) (factor_no_end a) (multipliers_no_end rest)
 
   multipliers_no_end : (rest : Tree ℕ (items multiplier)) → NoEnd (spell rest)
   multipliers_no_end end = tt
-  multipliers_no_end (more (multiplies o a) rest) = no_end_append (WordOrSymbol (multiply_operator_token o) ∷ spell a) (spell rest) (multiply_no_end o, factor_no_end a) (multipliers_no_end rest)
+  multipliers_no_end (more (multiplies o a) rest) = no_end_append (WordOrSymbol (multiply_operator_token_kind o) ∷ spell a) (spell rest) (multiply_no_end o, factor_no_end a) (multipliers_no_end rest)
 
   factor_no_end : (a : Tree ℕ factor) → NoEnd (spell a)
   factor_no_end (designator x path) = path_no_end path

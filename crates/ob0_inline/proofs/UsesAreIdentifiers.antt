@@ -7,7 +7,7 @@ use Rattle.ob0_scan.specs.declared.lexeme.Token.{Token}
 use Rattle.ob0_scan.specs.TextWithTokens.{Word, word_of_token}
 use Rattle.ob0_tree.specs.declared.tree.Role.{Role}
 use Rattle.ob0_tree.specs.declared.tree.Role.TheVariants as role
-use Rattle.ob0_tree.specs.Order.{AreIdentifierTokens, AreAscending, IsIdentifierToken, names_without_roles}
+use Rattle.ob0_tree.specs.Order.{AreIdentifierTokens, AreAscendingWithin, IsIdentifierToken, names_without_roles}
 use Rattle.ob0_tree.specs.ParsedModule.{named_tree_of, tree_of}
 use Rattle.ob0_tree.specs.Places as leaf
 use Rattle.ob0_tree.specs.Lexeme.{Terminal}
@@ -19,8 +19,8 @@ use Rattle.ob0_edits_tokens.specs.OfTrees.{number_at, word_text_at}
 use Rattle.ob0_edits_tokens.specs.Replaced.{AreIdentifierIndexes}
 use Rattle.ob0_edits_tokens.specs.Words.{terminal_of_word}
 use Rattle.ob0_edits_tokens.proofs.OfTrees.{put, replaced}
-use Rattle.ob0_language_names.specs.NonFactorNames.{non_factor_names}
-use Rattle.ob0_language_names.specs.Inlining.{OccurrenceSet, inline_in, module_without}
+use Rattle.ob0_language_names.specs.NonFactorNames.{non_factor_occurrences}
+use Rattle.ob0_language_names.specs.Inlining.{OccurrenceSet, inline_in_tree, module_without_constant}
 use Rattle.ob0_language_names.specs.Names.{Label, Name, naming_by_spelling, declared}
 use Rattle.ob0_language_types.proofs.Literals.{some_inverse}
 use Rattle.ob0_scope_table.specs.Resolution.{IsResolution, Resolution, label_at, ordinal_in}
@@ -31,14 +31,14 @@ use Rattle.ob0_inline.proofs.Spelled.{Agrees, NoneIs, agrees_each, module_spelle
 use Rattle.ob0_inline.proofs.TakenOut.{gone_module}
 
 -- Identifiers in text order are names in text order.
-pub names_from : (ts : List Token) (low high : ℕ) (is : List ℕ) → AreAscending low is high → AreIdentifierTokens ts is → AreIdentifierIndexes ts low is
+pub names_from : (ts : List Token) (low high : ℕ) (is : List ℕ) → AreAscendingWithin low is high → AreIdentifierTokens ts is → AreIdentifierIndexes ts low is
 names_from ts low high [] a h = tt
 names_from ts low high (i ∷ is) a h =
     let next : i + 1 ≡ suc i = omega arith in
     (a.0, h.0.0, h.0.1 _, subst (λ n. AreIdentifierIndexes ts n is) next (names_from ts (i + 1) high is a.1 h.1))
 
 -- The identifiers of a module that are looked up ascend.
-looked_up_ascend : (low high : ℕ) (xs : List (Role × ℕ)) → AreAscending low (names_without_roles xs) high → AreAscending low (looked_up_only xs) high
+looked_up_ascend : (low high : ℕ) (xs : List (Role × ℕ)) → AreAscendingWithin low (names_without_roles xs) high → AreAscendingWithin low (looked_up_only xs) high
 looked_up_ascend low high [] a = a
 looked_up_ascend low high ((role.LookedUp, i) ∷ xs) a = (a.0, looked_up_ascend (i + 1) high xs a.1)
 looked_up_ascend low high ((_, i) ∷ xs) a = ascending_lower low (i + 1) _ high (omega (arith, a.0)) (looked_up_ascend (i + 1) high xs a.1)
@@ -51,10 +51,10 @@ looked_up_are_identifiers ts ((_, i) ∷ xs) h = looked_up_are_identifiers ts xs
 found_looked_up : (r : Resolution) → IsResolution r → looked_up_only (identifiers role.Declaring (tree_of r.module_read)) ≡ r.uses
 found_looked_up r is = looked_up-occurrences role.Declaring (λ n xs. refl) (tree_of r.module_read) ∙ sym is.occurring
 
-pub uses_ascend : (r : Resolution) → IsResolution r → AreAscending 0 r.uses (length r.module_read.source.tokens)
+pub uses_ascend : (r : Resolution) → IsResolution r → AreAscendingWithin 0 r.uses (length r.module_read.source.tokens)
 uses_ascend r is =
     let m = r.module_read in
-    subst (λ xs. AreAscending 0 xs (length m.source.tokens)) (found_looked_up r is)
+    subst (λ xs. AreAscendingWithin 0 xs (length m.source.tokens)) (found_looked_up r is)
     (looked_up_ascend 0 (length m.source.tokens) (identifiers role.Declaring (tree_of m)) (leaves_ascend m is.parsed))
 
 pub uses_are_identifiers : (r : Resolution) → IsResolution r → AreIdentifierTokens r.module_read.source.tokens r.uses
@@ -132,29 +132,29 @@ module _ (r : Resolution) (is : IsResolution r) (d : ℕ) (v : Tree Name factor)
       let zero_more : j ≡ 0 + j = omega arith in
       agree j i (ap (λ us. slice_get us j) is.occurring ∙ e) ∙ ap uses zero_more)
 
-  none_elsewhere : NoneIs d (non_factor_names (mapped_tree (label_at r.module_read.source r.ordinals) (leaf.token_value_at r.module_read.source) (tree_of r.module_read)))
-  none_elsewhere = none_is d (non_factor_names (mapped_tree (label_at r.module_read.source r.ordinals) (leaf.token_value_at r.module_read.source) (tree_of r.module_read))) (subst (All (λ l. l ≢ declared d)) (ap non_factor_names is.numbering) alone)
+  none_elsewhere : NoneIs d (non_factor_occurrences (mapped_tree (label_at r.module_read.source r.ordinals) (leaf.token_value_at r.module_read.source) (tree_of r.module_read)))
+  none_elsewhere = none_is d (non_factor_occurrences (mapped_tree (label_at r.module_read.source r.ordinals) (leaf.token_value_at r.module_read.source) (tree_of r.module_read))) (subst (All (λ l. l ≢ declared d)) (ap non_factor_occurrences is.numbering) alone)
 
   puts : (xs : List (Terminal ℕ)) → flat_map (put r.module_read.source places vs) xs ≡ flat_map (replaced gives (spell v) (leaf.token_text_at r.module_read.source) (leaf.token_value_at r.module_read.source)) xs
   puts xs =
       let s = r.module_read.source in
       λ i. flat_map (replaced gives (same i) (λ k. word_text s.text s.tokens k i) (λ k. word_number s.text s.tokens k i)) xs
 
-  pub uses_spelled : flat_map (put r.module_read.source places vs) (spell (tree_of r.module_read)) ≡ spell (inline_in uses v 0 (named_tree_of r.module_read))
+  pub uses_spelled : flat_map (put r.module_read.source places vs) (spell (tree_of r.module_read)) ≡ spell (inline_in_tree uses v 0 (named_tree_of r.module_read))
   uses_spelled =
       let m = r.module_read in
       puts (spell (tree_of m))
       ∙ sym (spelled gives uses v (leaf.token_text_at m.source) (leaf.token_value_at m.source) (occurrence_table r) (label_at m.source r.ordinals) d others apart 0 role.Declaring others (tree_of m) (uses_agree, uses_reported r is, none_elsewhere))
 
   -- Without the declaration, the tokens also spell a tree.
-  pub others_spelled : flat_map (put r.module_read.source places vs) (spell (gone_module d (tree_of r.module_read))) ≡ spell (module_without d (inline_in uses v 0 (named_tree_of r.module_read)))
+  pub others_spelled : flat_map (put r.module_read.source places vs) (spell (gone_module d (tree_of r.module_read))) ≡ spell (module_without_constant d (inline_in_tree uses v 0 (named_tree_of r.module_read)))
   others_spelled =
       let m = r.module_read in
       puts (spell (gone_module d (tree_of m)))
       ∙ sym (module_spelled gives uses v (leaf.token_text_at m.source) (leaf.token_value_at m.source) (occurrence_table r) (label_at m.source r.ordinals) d others apart d (tree_of m) (uses_agree, uses_reported r is, none_elsewhere))
 
 -- Tokens of occurrences ascend, so each is at least the lower bound.
-pub above : (low high : ℕ) (is : List ℕ) (j i : ℕ) → AreAscending low is high → slice_get is j ≡ Some i → low ≤ i
+pub above : (low high : ℕ) (is : List ℕ) (j i : ℕ) → AreAscendingWithin low is high → slice_get is j ≡ Some i → low ≤ i
 above low high [] j i a e = absurd (cc)
 above low high (x ∷ is) zero i a e = subst (λ n. low ≤ n) (some_inverse e) a.0
 above low high (x ∷ is) (suc j) i a e = let more = above (x + 1) high is j i a.1 e in omega (arith, more, a.0)
@@ -169,7 +169,7 @@ next_same j k =
       | false ↦ (λ e. sym (not_equal (suc j) (suc k) (λ q. let back : j ≡ k = omega (arith, q) in true≢false (sym (eq-eqb j k back) ∙ e))))
     ]) refl
 
-pub one_place : (low high : ℕ) (is : List ℕ) (j k i p : ℕ) → AreAscending low is high → slice_get is j ≡ Some i → slice_get is k ≡ Some p → (i == p) ≡ (j == k)
+pub one_place : (low high : ℕ) (is : List ℕ) (j k i p : ℕ) → AreAscendingWithin low is high → slice_get is j ≡ Some i → slice_get is k ≡ Some p → (i == p) ≡ (j == k)
 one_place low high [] j k i p a e f = absurd (cc)
 one_place low high (x ∷ is) zero zero i p a e f = eq-eqb i p (some_inverse (sym e ∙ f))
 one_place low high (x ∷ is) zero (suc k) i p a e f =

@@ -8,11 +8,11 @@ use Rattle.ob0_tree.specs.Lexeme.{Terminal, WordOrSymbol}
 use Rattle.ob0_tree.specs.Lexeme as lexeme
 use Rattle.ob0_tree.specs.ParsedModule.{named_tree_of, tree_of}
 use Rattle.ob0_tree.specs.Places as leaf
-use Rattle.ob0_tree.specs.Places.{index_terminal}
+use Rattle.ob0_tree.specs.Places.{indexed_terminal}
 use Rattle.ob0_tree.specs.Tree.{mapped_tree, occurrences, spell}
 use Rattle.ob0_tree.proofs.Leaves.{lexeme_names}
 use Rattle.ob0_edits_tokens.specs.Changed.{is_in_list, words_of}
-use Rattle.ob0_edits_tokens.specs.OfTrees.{indexed_tokens}
+use Rattle.ob0_edits_tokens.specs.OfTrees.{indexed_terminals_of_words}
 use Rattle.ob0_language_names.specs.Names.{Name, naming_by_spelling}
 use Rattle.ob0_language_names.specs.Parts.{module_block}
 use Rattle.ob0_scope_table.specs.Resolution.{IsResolution, Resolution, ordinal_and_spelling_at, ordinal_in, ordinal_and_spelling}
@@ -37,8 +37,8 @@ bound_by_table r is =
     ∙ occurrences-mapped_tree (ordinal_in r.ordinals) (leaf.token_value_at m.source) (tree_of m)
 
 -- If the constant has a value, the module's tokens are split by its declaration.
-pub late_of : (r : Resolution) → IsResolution r → (d : ℕ) (w : Value) → value_of_constant (named_tree_of r.module_read) d ≡ Some w → spell (tree_of r.module_read) ≡ indexed_tokens 0 (words_of r.module_read.source)
-    → Late d 7 (names_in (module_block (tree_of r.module_read))) (indexed_tokens 0 (words_of r.module_read.source)) (spell (gone_module d (tree_of r.module_read))) (occurrences (tree_of r.module_read))
+pub late_of : (r : Resolution) → IsResolution r → (d : ℕ) (w : Value) → value_of_constant (named_tree_of r.module_read) d ≡ Some w → spell (tree_of r.module_read) ≡ indexed_terminals_of_words 0 (words_of r.module_read.source)
+    → Late d 7 (names_in (module_block (tree_of r.module_read))) (indexed_terminals_of_words 0 (words_of r.module_read.source)) (spell (gone_module d (tree_of r.module_read))) (occurrences (tree_of r.module_read))
     (map (ordinal_in r.ordinals) (occurrences (tree_of r.module_read)))
 late_of r is d w has_value spelled =
     let m = r.module_read in
@@ -48,18 +48,18 @@ late_of r is d w has_value spelled =
     let labels = names_in (module_block t) in
     let h = late_module f g d w t has_value in
     let named = subst (λ (l : List (Option ℕ)). Late d 7 labels (spell t) (spell (gone_module d t)) (occurrences t) l) (bound_by_table r is) h in
-    late_move d 7 labels (spell t) (indexed_tokens 0 (words_of m.source)) (spell (gone_module d t)) (spell (gone_module d t)) (occurrences t) (map (ordinal_in r.ordinals) (occurrences t)) (sym spelled) refl named
+    late_move d 7 labels (spell t) (indexed_terminals_of_words 0 (words_of m.source)) (spell (gone_module d t)) (spell (gone_module d t)) (occurrences t) (map (ordinal_in r.ordinals) (occurrences t)) (sym spelled) refl named
 
 -- The names of words whose first index is k have no smaller indexes.
-names_above : (i k : ℕ) (ws : List Word) → is_in_list i (lexeme_names (indexed_tokens k ws)) ≡ true → k ≤ i
+names_above : (i k : ℕ) (ws : List Word) → is_in_list i (lexeme_names (indexed_terminals_of_words k ws)) ≡ true → k ≤ i
 names_above i k [] e = absurd (true≢false (sym e))
 names_above i k (w ∷ ws) e = by_kind w.kind e (names_above i (suc k) ws)
   where
-    by_test : (b : Bool) → (i == k) ≡ b → (b || is_in_list i (lexeme_names (indexed_tokens (suc k) ws))) ≡ true → (is_in_list i (lexeme_names (indexed_tokens (suc k) ws)) ≡ true → suc k ≤ i) → k ≤ i
+    by_test : (b : Bool) → (i == k) ≡ b → (b || is_in_list i (lexeme_names (indexed_terminals_of_words (suc k) ws))) ≡ true → (is_in_list i (lexeme_names (indexed_terminals_of_words (suc k) ws)) ≡ true → suc k ≤ i) → k ≤ i
     by_test true q e later = let here = eqb-true i k q in omega (arith, here)
     by_test false q e later = let more = later e in omega (arith, more)
 
-    by_kind : (x : TokenKind) → is_in_list i (lexeme_names (index_terminal k x ∷ indexed_tokens (suc k) ws)) ≡ true → (is_in_list i (lexeme_names (indexed_tokens (suc k) ws)) ≡ true → suc k ≤ i) → k ≤ i
+    by_kind : (x : TokenKind) → is_in_list i (lexeme_names (indexed_terminal k x ∷ indexed_terminals_of_words (suc k) ws)) ≡ true → (is_in_list i (lexeme_names (indexed_terminals_of_words (suc k) ws)) ≡ true → suc k ≤ i) → k ≤ i
     by_kind kind.Identifier e later = by_test (i == k) refl e later
     by_kind (kind.ReservedWord r) e later = let more = later e in omega (arith, more)
     by_kind (kind.Integer n) e later = let more = later e in omega (arith, more)
@@ -91,7 +91,7 @@ not_in_front ordinals d zero i (x ∷ front) following names low among e o =
 not_in_front ordinals d (suc j) i (x ∷ front) following names low among e o = not_in_front ordinals d j i front following names low.1 among e o
 
 -- A name after the last token of a declaration has a greater index.
-names_after : (d k : ℕ) (labels : List ℕ) (left : List (Terminal ℕ)) (ws : List Word) (t : Taken d k labels (indexed_tokens 0 ws) left) (i : ℕ) → is_in_list i (lexeme_names t.after) ≡ true → last_token t < i
+names_after : (d k : ℕ) (labels : List ℕ) (left : List (Terminal ℕ)) (ws : List Word) (t : Taken d k labels (indexed_terminals_of_words 0 ws) left) (i : ℕ) → is_in_list i (lexeme_names t.after) ≡ true → last_token t < i
 names_after d k labels left ws t i e =
     let front : List (Terminal ℕ) = t.before ++ (WordOrSymbol t.border ∷ []) in
     let whole : List (Terminal ℕ) = lexeme.Name t.name ∷ WordOrSymbol (kind.Symbol symbol.Equal) ∷ (t.right ++ (WordOrSymbol (kind.Symbol symbol.Semicolon) ∷ [])) in
@@ -103,7 +103,7 @@ names_after d k labels left ws t i e =
 
 -- Each occurrence that is bound to the constant follows its declaration.
 pub uses_following : (r : Resolution) → (d : ℕ) (labels : List ℕ) (left : List (Terminal ℕ))
-    → (h : Late d 7 labels (indexed_tokens 0 (words_of r.module_read.source)) left (occurrences (tree_of r.module_read)) (map (ordinal_in r.ordinals) (occurrences (tree_of r.module_read))))
+    → (h : Late d 7 labels (indexed_terminals_of_words 0 (words_of r.module_read.source)) left (occurrences (tree_of r.module_read)) (map (ordinal_in r.ordinals) (occurrences (tree_of r.module_read))))
     → (j i : ℕ) → slice_get (occurrences (tree_of r.module_read)) j ≡ Some i → ordinal_in r.ordinals i ≡ Some d → last_token h.taken < i
 uses_following r d labels left h j i e o =
     let joined : map (ordinal_in r.ordinals) h.front ++ map (ordinal_in r.ordinals) h.following ≡ h.front_bound ++ h.following_bound =

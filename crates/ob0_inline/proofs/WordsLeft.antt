@@ -12,9 +12,9 @@ use Rattle.ob0_scan.specs.declared.lexeme.TokenKind.TheVariants as kind
 use Rattle.ob0_scan.specs.TextWithTokens.{TextWithTokens, Word, word_of_token}
 use Rattle.ob0_tree.specs.Lexeme.{Terminal, WordOrSymbol}
 use Rattle.ob0_tree.specs.Lexeme as lexeme
-use Rattle.ob0_tree.specs.Places.{index_terminal}
+use Rattle.ob0_tree.specs.Places.{indexed_terminal}
 use Rattle.ob0_edits_tokens.specs.Changed.{WordChanges, changes_at, changed_words, replacement_or_word, words_of}
-use Rattle.ob0_edits_tokens.specs.OfTrees.{indexed_tokens, word_at}
+use Rattle.ob0_edits_tokens.specs.OfTrees.{indexed_terminals_of_words, word_at}
 use Rattle.ob0_edits_tokens.specs.Removed.{MayBeConstantDeclaration, changes_with_removal}
 use Rattle.ob0_edits_tokens.specs.Replaced as place
 use Rattle.ob0_edits_tokens.specs.Replaced.{AreIdentifierIndexes}
@@ -29,12 +29,12 @@ pub record Cut (k : ℕ) (ws : List Word) (front following : List (Terminal ℕ)
   pub first : List Word
   pub rest : List Word
   pub joined : ws ≡ first ++ rest
-  pub front_is : indexed_tokens k first ≡ front
-  pub following_is : indexed_tokens (k + length first) rest ≡ following
+  pub front_is : indexed_terminals_of_words k first ≡ front
+  pub following_is : indexed_terminals_of_words (k + length first) rest ≡ following
   pub count : length first ≡ length front
 
-pub cut_words : (k : ℕ) (ws : List Word) (front following : List (Terminal ℕ)) → indexed_tokens k ws ≡ front ++ following → Cut k ws front following
-cut_words k ws [] following e = record { first = []; rest = ws; joined = refl; front_is = refl; following_is = ap (λ n. indexed_tokens n ws) (let z : k + 0 ≡ k = omega arith in z) ∙ e; count = refl }
+pub cut_words : (k : ℕ) (ws : List Word) (front following : List (Terminal ℕ)) → indexed_terminals_of_words k ws ≡ front ++ following → Cut k ws front following
+cut_words k ws [] following e = record { first = []; rest = ws; joined = refl; front_is = refl; following_is = ap (λ n. indexed_terminals_of_words n ws) (let z : k + 0 ≡ k = omega arith in z) ∙ e; count = refl }
 cut_words k [] (l ∷ front) following e = absurd (cc)
 cut_words k (w ∷ ws) (l ∷ front) following e =
     let h = heads e in
@@ -44,24 +44,24 @@ cut_words k (w ∷ ws) (l ∷ front) following e =
       rest = r.rest;
       joined = ap (λ l. w ∷ l) r.joined;
       front_is = (λ i. h.0 i ∷ r.front_is i);
-      following_is = ap (λ n. indexed_tokens n r.rest) (let z : k + suc (length r.first) ≡ suc k + length r.first = omega arith in z) ∙ r.following_is;
+      following_is = ap (λ n. indexed_terminals_of_words n r.rest) (let z : k + suc (length r.first) ≡ suc k + length r.first = omega arith in z) ∙ r.following_is;
       count = ap suc r.count;
     }
 
 -- The word at the index of a token is that token's word.
-pub terminal_or_end : (k : ℕ) (ws : List Word) (xs : List (Terminal ℕ)) (l : Terminal ℕ) (ys : List (Terminal ℕ)) → indexed_tokens k ws ≡ xs ++ (l ∷ ys) → (length xs < length ws) × (index_terminal (k + length xs) (word_at ws (length xs)).kind ≡ l)
+pub terminal_or_end : (k : ℕ) (ws : List Word) (xs : List (Terminal ℕ)) (l : Terminal ℕ) (ys : List (Terminal ℕ)) → indexed_terminals_of_words k ws ≡ xs ++ (l ∷ ys) → (length xs < length ws) × (indexed_terminal (k + length xs) (word_at ws (length xs)).kind ≡ l)
 terminal_or_end k [] [] l ys e = absurd (cc)
 terminal_or_end k [] (x ∷ xs) l ys e = absurd (cc)
-terminal_or_end k (w ∷ ws) [] l ys e = (omega arith, ap (λ n. index_terminal n w.kind) (let z : k + 0 ≡ k = omega arith in z) ∙ (heads e).0)
+terminal_or_end k (w ∷ ws) [] l ys e = (omega arith, ap (λ n. indexed_terminal n w.kind) (let z : k + 0 ≡ k = omega arith in z) ∙ (heads e).0)
 terminal_or_end k (w ∷ ws) (x ∷ xs) l ys e =
     let r = terminal_or_end (suc k) ws xs l ys (heads e).1 in
-    (omega (arith, r.0), ap (λ n. index_terminal n (word_at ws (length xs)).kind) (let z : k + suc (length xs) ≡ suc k + length xs = omega arith in z) ∙ r.1)
+    (omega (arith, r.0), ap (λ n. indexed_terminal n (word_at ws (length xs)).kind) (let z : k + suc (length xs) ≡ suc k + length xs = omega arith in z) ∙ r.1)
 
-pub name_kind : (i n : ℕ) (k : TokenKind) → index_terminal i k ≡ lexeme.Name n → (k ≡ kind.Identifier) × (n ≡ i)
+pub name_kind : (i n : ℕ) (k : TokenKind) → indexed_terminal i k ≡ lexeme.Name n → (k ≡ kind.Identifier) × (n ≡ i)
 name_kind i n kind.Identifier e = (refl, cc)
 name_kind i n _ e = absurd (cc)
 
-pub mark_kind : (i : ℕ) (k l : TokenKind) → index_terminal i k ≡ WordOrSymbol l → k ≡ l
+pub mark_kind : (i : ℕ) (k l : TokenKind) → indexed_terminal i k ≡ WordOrSymbol l → k ≡ l
 mark_kind i (kind.ReservedWord r) l e = cc
 mark_kind i (kind.Symbol s) l e = cc
 mark_kind i _ l e = absurd (cc)
@@ -73,7 +73,7 @@ first_bound_token t = length (t.before ++ (WordOrSymbol t.border ∷ []))
 abbrev pub last_token : {d k : ℕ} {labels : List ℕ} {whole left : List (Terminal ℕ)} → Taken d k labels whole left → ℕ
 last_token t = length (t.before ++ (WordOrSymbol t.border ∷ [])) + (2 + length t.right)
 
-module _ (s : TextWithTokens) (d k : ℕ) (labels : List ℕ) (left : List (Terminal ℕ)) (t : Taken d k labels (indexed_tokens 0 (words_of s)) left) where
+module _ (s : TextWithTokens) (d k : ℕ) (labels : List ℕ) (left : List (Terminal ℕ)) (t : Taken d k labels (indexed_terminals_of_words 0 (words_of s)) left) where
   abbrev front : List (Terminal ℕ)
   front = t.before ++ (WordOrSymbol t.border ∷ [])
 
@@ -86,13 +86,13 @@ module _ (s : TextWithTokens) (d k : ℕ) (labels : List ℕ) (left : List (Term
   words_count : length (words_of s) ≡ length s.tokens
   words_count = length-map (word_of_token s.text) s.tokens
 
-  at_border : (length t.before < length (words_of s)) × (index_terminal (0 + length t.before) (word_at (words_of s) (length t.before)).kind ≡ WordOrSymbol t.border)
+  at_border : (length t.before < length (words_of s)) × (indexed_terminal (0 + length t.before) (word_at (words_of s) (length t.before)).kind ≡ WordOrSymbol t.border)
   at_border = terminal_or_end 0 (words_of s) t.before (WordOrSymbol t.border) (declaration ++ t.after) (t.whole_is ∙ append_assoc t.before (WordOrSymbol t.border ∷ []) (declaration ++ t.after))
 
-  at_name : (length front < length (words_of s)) × (index_terminal (0 + length front) (word_at (words_of s) (length front)).kind ≡ lexeme.Name t.name)
+  at_name : (length front < length (words_of s)) × (indexed_terminal (0 + length front) (word_at (words_of s) (length front)).kind ≡ lexeme.Name t.name)
   at_name = terminal_or_end 0 (words_of s) front (lexeme.Name t.name) (WordOrSymbol (kind.Symbol symbol.Equal) ∷ ((t.right ++ (WordOrSymbol (kind.Symbol symbol.Semicolon) ∷ [])) ++ t.after)) t.whole_is
 
-  at_end : (length (front ++ inner) < length (words_of s)) × (index_terminal (0 + length (front ++ inner)) (word_at (words_of s) (length (front ++ inner))).kind ≡ WordOrSymbol (kind.Symbol symbol.Semicolon))
+  at_end : (length (front ++ inner) < length (words_of s)) × (indexed_terminal (0 + length (front ++ inner)) (word_at (words_of s) (length (front ++ inner))).kind ≡ WordOrSymbol (kind.Symbol symbol.Semicolon))
   at_end =
       terminal_or_end 0 (words_of s) (front ++ inner) (WordOrSymbol (kind.Symbol symbol.Semicolon)) t.after
       (t.whole_is ∙ (ap (λ l. front ++ (lexeme.Name t.name ∷ WordOrSymbol (kind.Symbol symbol.Equal) ∷ l)) (append_assoc t.right (WordOrSymbol (kind.Symbol symbol.Semicolon) ∷ []) t.after)
@@ -142,7 +142,7 @@ inside_gone first last ch k (x ∷ xs) g h =
 module _ (s : TextWithTokens) (least : ℕ) (places : List ℕ) (names : AreIdentifierIndexes s.tokens least places) (vs : List Word) where
   -- The words without the declaration, with other words at the places, are the remaining tokens
   -- with the replacements.
-  pub words_left : (d k : ℕ) (labels : List ℕ) (left : List (Terminal ℕ)) (t : Taken d k labels (indexed_tokens 0 (words_of s)) left)
+  pub words_left : (d k : ℕ) (labels : List ℕ) (left : List (Terminal ℕ)) (t : Taken d k labels (indexed_terminals_of_words 0 (words_of s)) left)
       → map terminal_of_word (changed_words (changes_with_removal (first_bound_token t) (last_token t) (changes_at places vs)) 0 (words_of s)) ≡ flat_map (put s places vs) left
   words_left d k labels left t =
       let front : List (Terminal ℕ) = t.before ++ (WordOrSymbol t.border ∷ []) in
@@ -169,7 +169,7 @@ module _ (s : TextWithTokens) (least : ℕ) (places : List ℕ) (names : AreIden
       let done : length (a.first ++ b.first) ≡ suc last = length-append a.first b.first ∙ omega (arith, n1, n2) in
       let ends : words_of s ≡ (a.first ++ b.first) ++ (b.rest ++ []) = all ∙ (sym (append_assoc a.first b.first b.rest) ∙ ap (λ l. (a.first ++ b.first) ++ l) (sym (append-nil b.rest))) in
       let p2 : flat_map put_so t.after ≡ map terminal_of_word (changed_words ch (suc last) b.rest) =
-      ap (flat_map put_so) (sym b.following_is ∙ ap (λ n. indexed_tokens n b.rest) next) ∙ part_put (suc last) (a.first ++ b.first) b.rest [] ends done in
+      ap (flat_map put_so) (sym b.following_is ∙ ap (λ n. indexed_terminals_of_words n b.rest) next) ∙ part_put (suc last) (a.first ++ b.first) b.rest [] ends done in
       ap (map terminal_of_word) split
       ∙ (map-append terminal_of_word (changed_words ch 0 a.first) (changed_words ch (suc last) b.rest)
       ∙ ((λ i. sym p1 i ++ sym p2 i)

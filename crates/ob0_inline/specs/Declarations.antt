@@ -7,9 +7,9 @@ use Rattle.ob0_scan.specs.declared.lexeme.TokenKind.{TokenKind}
 use Rattle.ob0_scan.specs.declared.lexeme.TokenKind.TheVariants as kind
 use Rattle.ob0_scan.specs.declared.lexeme.Symbol.TheVariants as symbol
 
--- Returns whether the span `span` lies within the span `part`. The two may be equal.
+-- Returns whether the span `outer` contains the span `inner`. The two may be equal.
 abbrev pub contains_span : Span → Span → Bool
-contains_span part span = nat_le part.start span.start && nat_le span.end part.end
+contains_span outer inner = nat_le outer.start inner.start && nat_le inner.end outer.end
 
 -- Returns whether a token of this kind is a `;`.
 abbrev pub is_semicolon : TokenKind → Bool

@@ -15,28 +15,28 @@ use Rattle.ob0_tree.specs.Tree.{Tree, identifiers, module_text, occurrences}
 use Rattle.ob0_edits_tokens.specs.Ranges.{range_of}
 use Rattle.ob0_edits_tokens.specs.Removed.{span_of_tokens, text_after_removal}
 use Rattle.ob0_edits_tokens.specs.Replaced.{replacement_at_token, range_and_text}
-use Rattle.ob0_language_names.specs.NonFactorNames.{non_factor_names}
+use Rattle.ob0_language_names.specs.NonFactorNames.{non_factor_occurrences}
 use Rattle.ob0_language_names.specs.Inlining.{inlined_everywhere}
 use Rattle.ob0_language_names.specs.Names.{Name, declared, same_label}
 use Rattle.ob0_language_names.specs.Occurrences.{bindings, ordinal_bound_at}
 use Rattle.ob0_scope_table.specs.Resolution.{declaring_names, declaration_token}
 use Rattle.ob0_language_names.specs.Scopes.{numbered, same_ordinal}
 use Rattle.ob0_language_values.specs.Scalars.{scalar_value}
-use Rattle.ob0_scope.specs.declared.naming.Named as named
+use Rattle.ob0_scope.specs.declared.naming.BoundName as named
 use Rattle.ob0_scope.specs.NamesAtPlaces.{name_at_offset}
 use Rattle.ob0_language_types.specs.ConstantValues.{value_of_constant}
 use Rattle.ob0_language_types.specs.WellTyped.{WellTyped}
 use Rattle.ob0_language_runs.specs.EditLaws.{HaveSameRuns}
-use Rattle.ob0_inline.specs.declared.constants.NamedConstant.{NamedConstant}
+use Rattle.ob0_inline.specs.declared.constants.DeclaredConstant.{DeclaredConstant}
 use Rattle.ob0_inline.specs.Declarations.{contains_span, is_semicolon}
-use Rattle.ob0_inline.specs.Inlined.{EditsGiveModule, first_refusal}
+use Rattle.ob0_inline.specs.Inlined.{EditsGiveModule, size_refusal_or_other}
 use Rattle.ob0_inline.specs.Uses.{value_text_keeps_meaning}
 use Rattle.ob0_inline.specs.Values.{value_factor, value_text}
 
 -- States that `c` is a constant of a CONST section, with its ordinal and value. The token with the
 -- index `c.first` declares the constant, and `c.last` is the index of the first `;` at or after
 -- that token.
-pub record IsConstant (m : ParsedModule) (c : NamedConstant) : Type 0 where
+pub record IsConstant (m : ParsedModule) (c : DeclaredConstant) : Type 0 where
   pub has_value : value_of_constant (named_tree_of m) c.ordinal ≡ Some (scalar_value c.value)
   pub begins : declaration_token (declaring_names (identifiers role.Declaring (tree_of m))) c.ordinal
       ≡ Some c.first
@@ -44,7 +44,7 @@ pub record IsConstant (m : ParsedModule) (c : NamedConstant) : Type 0 where
       ≡ Some c.last
 
 -- States that the byte offset is on a name of the constant `c`: in its declaration or at a use.
-pub record IsConstantAt (m : ParsedModule) (offset : ℕ) (c : NamedConstant) : Type 0 where
+pub record IsConstantAt (m : ParsedModule) (offset : ℕ) (c : DeclaredConstant) : Type 0 where
   pub token : ℕ
   pub named : name_at_offset m offset ≡ Some (record { token = token; ordinal = c.ordinal })
   pub is_constant : IsConstant m c
@@ -53,52 +53,52 @@ pub record IsConstantAt (m : ParsedModule) (offset : ℕ) (c : NamedConstant) : 
 -- declaration isn't a constant with a value.
 abbrev pub HasNoConstantAt : ParsedModule → ℕ → Type 0
 HasNoConstantAt m offset =
-    (n : named.Named)
+    (n : named.BoundName)
     → name_at_offset m offset ≡ Some n
     → value_of_constant (named_tree_of m) n.ordinal ≡ None
 
 -- Returns the token indexes of the occurrences that are bound to the declaration with the ordinal
 -- `d`, in text order.
-abbrev pub uses_of : ParsedModule → ℕ → List ℕ
-uses_of m d =
+abbrev pub use_tokens_of : ParsedModule → ℕ → List ℕ
+use_tokens_of m d =
     map (λ u. u.0) (filter (λ u. same_label u.1 (declared d))
     (zip (occurrences (tree_of m)) (bindings (named_tree_of m))))
 
 -- States that each use of the declaration with the ordinal `d` is a whole factor of an expression:
 -- a name without selectors.
 abbrev pub UsesAreFactors : ParsedModule → ℕ → Type 0
-UsesAreFactors m d = All (λ l. l ≢ declared d) (non_factor_names (numbered (named_tree_of m)))
+UsesAreFactors m d = All (λ l. l ≢ declared d) (non_factor_occurrences (numbered (named_tree_of m)))
 
 -- Returns the tree of the module after the constant `c` is inlined everywhere: the value of `c`
 -- replaces all its uses, and the declaration of `c` is removed.
-abbrev pub tree_inlined_everywhere : ParsedModule → NamedConstant → Tree Name module_text
+abbrev pub tree_inlined_everywhere : ParsedModule → DeclaredConstant → Tree Name module_text
 tree_inlined_everywhere m c = inlined_everywhere (named_tree_of m) c.ordinal (value_factor c.value)
 
 -- Returns the module's text, in bytes, after the constant `c` is inlined everywhere.
-abbrev pub text_after_inlining : ParsedModule → NamedConstant → List ℕ
-text_after_inlining m c = text_after_removal m.source c.first c.last (uses_of m c.ordinal) (value_text c.value)
+abbrev pub text_inlined_everywhere : ParsedModule → DeclaredConstant → List ℕ
+text_inlined_everywhere m c = text_after_removal m.source c.first c.last (use_tokens_of m c.ordinal) (value_text c.value)
 
 -- Returns whether the occurrence with the number `k` is a use of the constant `c` at which TRUE or
 -- FALSE, written for the constant's value, wouldn't mean the predeclared name.
-abbrev pub is_shadowed_use : Tree Name module_text → NamedConstant → ℕ → Bool
+abbrev pub is_shadowed_use : Tree Name module_text → DeclaredConstant → ℕ → Bool
 is_shadowed_use m c k = same_ordinal (ordinal_bound_at m k) c.ordinal && not (value_text_keeps_meaning m k c.value)
 
 -- Returns whether the constant `c` has a use at which TRUE or FALSE, written for the constant's
 -- value, wouldn't mean the predeclared name.
-abbrev pub any_use_shadowed : Tree Name module_text → NamedConstant → Bool
-any_use_shadowed m c = list_any (is_shadowed_use m c) (range_with_len 0 (length (bindings m)))
+abbrev pub has_shadowed_use : Tree Name module_text → DeclaredConstant → Bool
+has_shadowed_use m c = list_any (is_shadowed_use m c) (range_with_len 0 (length (bindings m)))
 
 -- Returns whether a comment lies between the name of the constant in its declaration and the `;` of
 -- that declaration.
-abbrev pub declaration_has_comment : ParsedModule → NamedConstant → Bool
+abbrev pub declaration_has_comment : ParsedModule → DeclaredConstant → Bool
 declaration_has_comment m c = list_any (contains_span (span_of_tokens m.source.tokens c.first c.last)) m.source.comments
 
 -- Returns the first refusal that applies to inlining the constant `c` everywhere, or None if no
 -- refusal applies.
-abbrev pub refusal_everywhere : ParsedModule → NamedConstant → Option EditRefusal
-refusal_everywhere m c =
-    first_refusal (text_after_inlining m c) (tree_inlined_everywhere m c)
-    (if any_use_shadowed (named_tree_of m) c then Some Shadowed
+abbrev pub refusal_of_inlining_everywhere : ParsedModule → DeclaredConstant → Option EditRefusal
+refusal_of_inlining_everywhere m c =
+    size_refusal_or_other (text_inlined_everywhere m c) (tree_inlined_everywhere m c)
+    (if has_shadowed_use (named_tree_of m) c then Some Shadowed
     else if declaration_has_comment m c then Some CommentInside else None)
 
 -- States that the edits inline the constant `c` everywhere. They remove the declaration of `c`,
@@ -106,10 +106,10 @@ refusal_everywhere m c =
 -- character. The edited text is the inlined module, which is well-typed and has the same runs as
 -- the module before.
 pub record InlinesEverywhere (unit : counting.Unit) (text : List ℕ) (m : ParsedModule)
-    (c : NamedConstant) (edits : List Edit) : Type 0 where
+    (c : DeclaredConstant) (edits : List Edit) : Type 0 where
   pub everywhere : map range_and_text edits
       ≡ (range_of (width_of unit) text (span_of_tokens m.source.tokens c.first c.last), [])
-      ∷ map (replacement_at_token unit text m.source.tokens (value_text c.value)) (uses_of m c.ordinal)
+      ∷ map (replacement_at_token unit text m.source.tokens (value_text c.value)) (use_tokens_of m c.ordinal)
   pub leaves : EditsGiveModule unit text edits (tree_inlined_everywhere m c)
   pub well_typed : WellTyped (tree_inlined_everywhere m c)
   pub same_runs : HaveSameRuns (tree_inlined_everywhere m c) (named_tree_of m)
@@ -117,20 +117,20 @@ pub record InlinesEverywhere (unit : counting.Unit) (text : List ℕ) (m : Parse
 -- States that the answer to inlining the constant `c` everywhere is right. If the answer is edits,
 -- they inline the constant everywhere, and no refusal applies. Otherwise the answer is the first
 -- refusal that applies, or `Memory`.
-abbrev pub AnswersForConstant : counting.Unit
+abbrev pub AnswersInliningOfConstant : counting.Unit
     → List ℕ
     → ParsedModule
-    → NamedConstant
+    → DeclaredConstant
     → Result (Vec Edit Global) EditRefusal
     → Type 0
-AnswersForConstant unit text m c (Ok edits) =
-    (refusal_everywhere m c ≡ None) × InlinesEverywhere unit text m c edits.items
-AnswersForConstant unit text m c (Err refusal) =
-    (refusal_everywhere m c ≡ Some refusal) ⊎ (refusal ≡ Memory)
+AnswersInliningOfConstant unit text m c (Ok edits) =
+    (refusal_of_inlining_everywhere m c ≡ None) × InlinesEverywhere unit text m c edits.items
+AnswersInliningOfConstant unit text m c (Err refusal) =
+    (refusal_of_inlining_everywhere m c ≡ Some refusal) ⊎ (refusal ≡ Memory)
 
 -- States that the answer to inlining everywhere is right for the constant whose name is at the byte
--- offset (`AnswersForConstant`). If the offset isn't on the name of a constant, the answer is the
--- refusal `NoName`.
+-- offset (`AnswersInliningOfConstant`). If the offset isn't on the name of a constant, the answer
+-- is the refusal `NoName`.
 abbrev pub AnswersInlineEverywhere : counting.Unit
     → List ℕ
     → ParsedModule
@@ -138,5 +138,5 @@ abbrev pub AnswersInlineEverywhere : counting.Unit
     → Result (Vec Edit Global) EditRefusal
     → Type 0
 AnswersInlineEverywhere unit text m offset answer =
-    ((c : NamedConstant) × IsConstantAt m offset c × AnswersForConstant unit text m c answer)
+    ((c : DeclaredConstant) × IsConstantAt m offset c × AnswersInliningOfConstant unit text m c answer)
     ⊎ ((answer ≡ Err NoName) × HasNoConstantAt m offset)

@@ -24,7 +24,7 @@ use Rattle.ob0_language_types.specs.ConstantValues.{value_of_constant}
 use Rattle.ob0_language_types.specs.WellTyped.{WellTyped}
 use Rattle.ob0_language_runs.specs.EditLaws.{HaveSameRuns}
 use Rattle.ob0_inline.specs.declared.uses.ConstantUse.{ConstantUse}
-use Rattle.ob0_inline.specs.Inlined.{EditsGiveModule, first_refusal}
+use Rattle.ob0_inline.specs.Inlined.{EditsGiveModule, size_refusal_or_other}
 use Rattle.ob0_inline.specs.Values.{value_factor, value_text}
 
 -- States that the byte offset is on a use of a constant of a CONST section, and that `u` is this
@@ -63,9 +63,9 @@ tree_inlined_here m u = inlined (named_tree_of m) (single_occurrence u.occurrenc
 
 -- Returns the first refusal that applies to inlining the constant at the use `u`, or None if no
 -- refusal applies.
-abbrev pub refusal_here : ParsedModule → ConstantUse → Option EditRefusal
-refusal_here m u =
-    first_refusal (text_after_replacement m.source (u.token ∷ []) (value_text u.value)) (tree_inlined_here m u)
+abbrev pub refusal_of_inlining_here : ParsedModule → ConstantUse → Option EditRefusal
+refusal_of_inlining_here m u =
+    size_refusal_or_other (text_after_replacement m.source (u.token ∷ []) (value_text u.value)) (tree_inlined_here m u)
     (if value_text_keeps_meaning (named_tree_of m) u.occurrence u.value then None else Some Shadowed)
 
 -- States that the edits write the constant's value in place of the use `u` and change no other
@@ -81,18 +81,18 @@ pub record InlinesHere (unit : counting.Unit) (text : List ℕ) (m : ParsedModul
 -- States that the answer to inlining the constant at the use `u` is right. If the answer is edits,
 -- they inline the constant at that use, and no refusal applies. Otherwise the answer is the first
 -- refusal that applies, or `Memory`.
-abbrev pub AnswersForUse : counting.Unit
+abbrev pub AnswersInliningOfUse : counting.Unit
     → List ℕ
     → ParsedModule
     → ConstantUse
     → Result (Vec Edit Global) EditRefusal
     → Type 0
-AnswersForUse unit text m u (Ok edits) =
-    (refusal_here m u ≡ None) × InlinesHere unit text m u edits.items
-AnswersForUse unit text m u (Err refusal) = (refusal_here m u ≡ Some refusal) ⊎ (refusal ≡ Memory)
+AnswersInliningOfUse unit text m u (Ok edits) =
+    (refusal_of_inlining_here m u ≡ None) × InlinesHere unit text m u edits.items
+AnswersInliningOfUse unit text m u (Err refusal) = (refusal_of_inlining_here m u ≡ Some refusal) ⊎ (refusal ≡ Memory)
 
 -- States that the answer to inlining at one use is right for the use at the byte offset
--- (`AnswersForUse`). If the offset isn't on a use of a constant, the answer is the refusal
+-- (`AnswersInliningOfUse`). If the offset isn't on a use of a constant, the answer is the refusal
 -- `NoName`.
 abbrev pub AnswersInlineHere : counting.Unit
     → List ℕ
@@ -101,5 +101,5 @@ abbrev pub AnswersInlineHere : counting.Unit
     → Result (Vec Edit Global) EditRefusal
     → Type 0
 AnswersInlineHere unit text m offset answer =
-    ((u : ConstantUse) × IsUseAt m offset u × AnswersForUse unit text m u answer)
+    ((u : ConstantUse) × IsUseAt m offset u × AnswersInliningOfUse unit text m u answer)
     ⊎ ((answer ≡ Err NoName) × ((u : ConstantUse) → IsUseAt m offset u → ⊥))

@@ -20,7 +20,7 @@ use ob0_types::WellTyped;
 /// `first` is the index of the token that declares the name, and `last` is the index of the
 /// declaration's `;`.
 #[derive(Clone, Copy)]
-pub struct NamedConstant {
+pub struct DeclaredConstant {
     pub ordinal: usize,
     pub value: Scalar,
     pub first: usize,
@@ -29,14 +29,14 @@ pub struct NamedConstant {
 
 /// Returns the constant whose name is at a byte offset, in its declaration or at a use. Returns
 /// None if the offset isn't on the name of a constant.
-pub(crate) fn constant_at(module: &WellTyped, offset: usize) -> Option<NamedConstant>
+pub(crate) fn constant_at(module: &WellTyped, offset: usize) -> Option<DeclaredConstant>
     ensures { MatchOption result (HasNoConstantAt «module».now.module_read offset)
         (λ c. IsConstantAt «module».now.module_read offset c) }
 {
     let names = module.resolved();
     match name_at(names, offset) {
         Some(found) => match module.constant(found.ordinal) {
-            Some(value) => named_constant(names, found.ordinal, value),
+            Some(value) => constant_with_tokens(names, found.ordinal, value),
             None => None,
         },
         None => None,
@@ -45,7 +45,7 @@ pub(crate) fn constant_at(module: &WellTyped, offset: usize) -> Option<NamedCons
 
 /// Returns the constant with this ordinal and value, together with the token indexes of its name
 /// and of its declaration's `;`. The contract promises that the result isn't None.
-fn named_constant(names: &Resolved, ordinal: usize, value: Scalar) -> Option<NamedConstant>
+fn constant_with_tokens(names: &Resolved, ordinal: usize, value: Scalar) -> Option<DeclaredConstant>
     requires has_value { value_of_constant (named_tree_of names.now.module_read) ordinal
         ≡ Some (scalar_value value) }
     ensures { IsSomeAnd result (λ c. (c.ordinal ≡ ordinal) × IsConstant names.now.module_read c) }
@@ -54,7 +54,7 @@ fn named_constant(names: &Resolved, ordinal: usize, value: Scalar) -> Option<Nam
     let _module = names.module();
     match names.declaring_token(ordinal) {
         Some(first) => match end_of_declaration(names.tokens().tokens(), first) {
-            Some(last) => Some(NamedConstant {
+            Some(last) => Some(DeclaredConstant {
                 ordinal,
                 value,
                 first,

@@ -4,7 +4,7 @@
 ghost use Rattle.std.specs.Prelude.{◌≡◌, ◌⊎◌, ◌<◌, ◌≤◌, ◌∷◌, [], IfOk, IfErr, IsErrOf, length, map};
 ghost use Rattle.std.specs.List.{list_any};
 ghost use Rattle.std.specs.Str.{chars};
-ghost use Rattle.ob0_scan.specs.TextWithTokens.{max_text};
+ghost use Rattle.ob0_scan.specs.TextWithTokens.{max_text_length};
 ghost use Rattle.ob0_text.specs.declared.refusals.EditRefusal.TheVariants.{Memory, TooDeep, TooLong};
 ghost use Rattle.ob0_text.specs.Texts.{offset_of};
 ghost use Rattle.ob0_text.specs.Units.{width_of};
@@ -14,13 +14,13 @@ ghost use Rattle.ob0_edits_tokens.specs.Ranges.{range_of};
 ghost use Rattle.ob0_edits_tokens.specs.Removed.{span_of_tokens};
 ghost use Rattle.ob0_edits_tokens.specs.Replaced.{replacement_at_token, range_and_text};
 ghost use Rattle.ob0_inline.specs.Declarations.{contains_span};
-ghost use Rattle.ob0_inline.specs.Everywhere.{AnswersForConstant, AnswersInlineEverywhere, IsConstant, UsesAreFactors, tree_inlined_everywhere, text_after_inlining, uses_of};
+ghost use Rattle.ob0_inline.specs.Everywhere.{AnswersInliningOfConstant, AnswersInlineEverywhere, IsConstant, UsesAreFactors, tree_inlined_everywhere, text_inlined_everywhere, use_tokens_of};
 ghost use Rattle.ob0_inline.specs.Inlined.{EditsGiveModule};
 ghost use Rattle.ob0_inline.specs.Values.{value_text};
 
-use crate::constants::{NamedConstant, constant_at};
-use crate::depth::is_too_deep;
-use crate::truth_names::any_use_shadowed;
+use crate::constants::{DeclaredConstant, constant_at};
+use crate::depth::is_edited_text_too_deep;
+use crate::truth_names::has_shadowed_use;
 use crate::written::{value_is_scalar, value_text};
 use ob0_edits_tokens::removal_edits;
 use ob0_language_runs::laws::inlining_everywhere_keeps_typing_and_runs;
@@ -57,20 +57,20 @@ fn inline_constant<T: TextStore>(
     alloc: Global,
     store: &T,
     module: &WellTyped,
-    constant: NamedConstant,
+    constant: DeclaredConstant,
 ) -> Result<Vec<Edit>, EditRefusal>
     requires content { T.content store.now ≡ chars «module».now.module_read.source.text }
     requires is_constant { IsConstant «module».now.module_read constant }
-    ensures { AnswersForConstant (T.unit_of store.now) (T.content store.now) «module».now.module_read
+    ensures { AnswersInliningOfConstant (T.unit_of store.now) (T.content store.now) «module».now.module_read
         constant result }
 {
     constant_uses_are_factors();
     inlining_everywhere_keeps_typing_and_runs();
     value_is_scalar(constant.value);
     let names = module.resolved();
-    match constant_edits(alloc, store, names, constant) {
+    match edits_inlining_everywhere(alloc, store, names, constant) {
         Ok(edits) => {
-            if any_use_shadowed(alloc, names, constant)? {
+            if has_shadowed_use(alloc, names, constant)? {
                 return Err(EditRefusal::Shadowed);
             }
             if declaration_has_comment(names.tokens(), constant) {
@@ -86,11 +86,11 @@ fn inline_constant<T: TextStore>(
 /// declaration. Each further edit writes the value in place of one use, in text order. If the
 /// edited text is too long, the refusal is `TooLong`. If it is nested too deep, the refusal is
 /// `TooDeep`.
-fn constant_edits<T: TextStore>(
+fn edits_inlining_everywhere<T: TextStore>(
     alloc: Global,
     store: &T,
     names: &Resolved,
-    constant: NamedConstant,
+    constant: DeclaredConstant,
 ) -> Result<Vec<Edit>, EditRefusal>
     requires content { T.content store.now ≡ chars names.now.module_read.source.text }
     requires is_constant { IsConstant names.now.module_read constant }
@@ -102,28 +102,28 @@ fn constant_edits<T: TextStore>(
         )
         ∷ map (replacement_at_token (T.unit_of store.now)
         (T.content store.now) names.now.module_read.source.tokens (value_text constant.value))
-        (uses_of names.now.module_read constant.ordinal)) }
+        (use_tokens_of names.now.module_read constant.ordinal)) }
     ensures inlined { UsesAreFactors names.now.module_read constant.ordinal
         → IfOk result (λ edits. EditsGiveModule (T.unit_of store.now) (T.content store.now) edits.items
         (tree_inlined_everywhere names.now.module_read constant)) }
     ensures too_long { IsErrOf result TooLong
-        → max_text < length (text_after_inlining names.now.module_read constant) }
+        → max_text_length < length (text_inlined_everywhere names.now.module_read constant) }
     ensures too_deep { UsesAreFactors names.now.module_read constant.ordinal
         → IsErrOf result TooDeep
         → max_nesting < nesting (tree_inlined_everywhere names.now.module_read constant) }
     ensures short { IfOk result
-        (λ edits. length (text_after_inlining names.now.module_read constant) ≤ max_text) }
+        (λ edits. length (text_inlined_everywhere names.now.module_read constant) ≤ max_text_length) }
     ensures deep_and_short { IsErrOf result TooDeep
-        → length (text_after_inlining names.now.module_read constant) ≤ max_text }
+        → length (text_inlined_everywhere names.now.module_read constant) ≤ max_text_length }
     ensures refusals { IfErr result
         (λ refusal. (refusal ≡ TooLong) ⊎ ((refusal ≡ TooDeep) ⊎ (refusal ≡ Memory))) }
 {
     let read = names.module();
     let text = value_text(alloc, constant.value)?;
-    let uses = uses_of(alloc, names, constant.ordinal)?;
+    let uses = use_tokens_of(alloc, names, constant.ordinal)?;
     let (first, last) = (constant.first, constant.last);
     let edits = removal_edits(alloc, store, names.tokens(), first, last, &uses, &text)?;
-    if is_too_deep(alloc, store, read, &edits)? {
+    if is_edited_text_too_deep(alloc, store, read, &edits)? {
         return Err(EditRefusal::TooDeep);
     }
     Ok(edits)
@@ -131,8 +131,8 @@ fn constant_edits<T: TextStore>(
 
 /// Returns the token indexes of all uses of the constant with the ordinal `constant`, in text
 /// order.
-fn uses_of(alloc: Global, names: &Resolved, constant: usize) -> Result<Vec<usize>, AllocError>
-    ensures { IfOk result (λ uses. uses.items ≡ uses_of names.now.module_read constant) }
+fn use_tokens_of(alloc: Global, names: &Resolved, constant: usize) -> Result<Vec<usize>, AllocError>
+    ensures { IfOk result (λ uses. uses.items ≡ use_tokens_of names.now.module_read constant) }
 {
     // The proof needs the contract of this call.
     let _module = names.module();
@@ -147,7 +147,7 @@ fn uses_of(alloc: Global, names: &Resolved, constant: usize) -> Result<Vec<usize
 
 /// Returns whether a comment lies between the name of the constant in its declaration and the `;`
 /// of that declaration.
-fn declaration_has_comment(tokens: &Tokens, constant: NamedConstant) -> bool
+fn declaration_has_comment(tokens: &Tokens, constant: DeclaredConstant) -> bool
     requires inside { constant.last < length tokens.now.tokens }
     requires order { constant.first < constant.last }
     ensures { result

@@ -12,7 +12,7 @@ mod use_edit;
 mod uses;
 mod written;
 
-pub use constants::NamedConstant;
+pub use constants::DeclaredConstant;
 pub use everywhere::inline_all;
 pub use one_use::inline_here;
 pub use uses::ConstantUse;

@@ -4,11 +4,11 @@ ghost use Rattle.std.specs.Prelude.{◌≡◌};
 ghost use Rattle.std.specs.Str.{chars};
 ghost use Rattle.ob0_text.specs.Texts.{offset_of};
 ghost use Rattle.ob0_text.specs.Units.{width_of};
-ghost use Rattle.ob0_inline.specs.Uses.{AnswersInlineHere, AnswersForUse, IsUse};
+ghost use Rattle.ob0_inline.specs.Uses.{AnswersInlineHere, AnswersInliningOfUse, IsUse};
 
 use crate::truth_names::value_text_keeps_meaning;
-use crate::use_edit::use_edits;
-use crate::uses::{ConstantUse, use_at};
+use crate::use_edit::edits_inlining_here;
+use crate::uses::{ConstantUse, constant_use_at};
 use crate::written::value_is_scalar;
 use ob0_language_runs::laws::inlining_keeps_typing_and_runs;
 use ob0_language_types::laws::constant_uses_are_factors;
@@ -28,7 +28,7 @@ pub fn inline_here<T: TextStore>(
     ensures { AnswersInlineHere (T.unit_of store.now) (T.content store.now) «module».now.module_read
         (offset_of (width_of (T.unit_of store.now)) (T.content store.now) place) result }
 {
-    match use_at(module, store.offset(place)) {
+    match constant_use_at(module, store.offset(place)) {
         Some(found) => inline_use(alloc, store, module, found),
         None => Err(EditRefusal::NoName),
     }
@@ -44,14 +44,14 @@ fn inline_use<T: TextStore>(
 ) -> Result<Vec<Edit>, EditRefusal>
     requires content { T.content store.now ≡ chars «module».now.module_read.source.text }
     requires is_use { IsUse «module».now.module_read found }
-    ensures { AnswersForUse (T.unit_of store.now) (T.content store.now) «module».now.module_read found
+    ensures { AnswersInliningOfUse (T.unit_of store.now) (T.content store.now) «module».now.module_read found
         result }
 {
     constant_uses_are_factors();
     inlining_keeps_typing_and_runs();
     value_is_scalar(found.value);
     let names = module.resolved();
-    match use_edits(alloc, store, names, found) {
+    match edits_inlining_here(alloc, store, names, found) {
         Ok(edits) => {
             if value_text_keeps_meaning(alloc, names, found.occurrence, found.value)? {
                 Ok(edits)

@@ -1,5 +1,5 @@
 //! Tests whether TRUE or FALSE, written in place of an occurrence, would mean the predeclared name.
-//! An occurrence is a name in the text that refers to a declaration.
+//! An occurrence is a name in the text that is looked up to find its declaration.
 
 ghost use Rattle.std.specs.Prelude.{◌≡◌, IfOk, ◌==◌, ◌&&◌, not, length, option_and_then, slice_get};
 ghost use Rattle.std.specs.List.{list_any, range_with_len};
@@ -7,12 +7,12 @@ ghost use Rattle.ob0_tree.specs.ParsedModule.{named_tree_of};
 ghost use Rattle.ob0_language_names.specs.Occurrences.{bindings, ordinal_bound_at};
 ghost use Rattle.ob0_language_names.specs.Scopes.{same_ordinal};
 ghost use Rattle.ob0_language_names.specs.OccurrenceLookup.{resolve_at_occurrence};
-ghost use Rattle.ob0_inline.specs.Everywhere.{any_use_shadowed};
+ghost use Rattle.ob0_inline.specs.Everywhere.{has_shadowed_use};
 ghost use Rattle.ob0_inline.specs.Uses.{value_text_keeps_meaning};
 
-use crate::constants::NamedConstant;
+use crate::constants::DeclaredConstant;
 use ob0_language_values::Scalar;
-use ob0_scope::resolve_at_occurrences;
+use ob0_scope::resolve_name_at_occurrences;
 use ob0_scope_table::{FALSE_ORDINAL, Resolved, TRUE_ORDINAL, same_ordinal};
 use std::alloc::{AllocError, Global};
 
@@ -30,14 +30,27 @@ pub(crate) fn value_text_keeps_meaning(
 {
     match value {
         Scalar::Number(_) => Ok(true),
-        Scalar::Truth(true) => would_bind_to(alloc, names, occurrence, "TRUE", TRUE_ORDINAL),
-        Scalar::Truth(false) => would_bind_to(alloc, names, occurrence, "FALSE", FALSE_ORDINAL),
+        Scalar::Truth(true) => name_would_be_bound_to(
+            alloc,
+            names,
+            occurrence,
+            "TRUE",
+            TRUE_ORDINAL,
+        ),
+        Scalar::Truth(false) => name_would_be_bound_to(
+            alloc,
+            names,
+            occurrence,
+            "FALSE",
+            FALSE_ORDINAL,
+        ),
     }
 }
 
-/// Returns whether `name`, written in place of the occurrence with the number `occurrence` (from 0,
-/// in text order), would be bound to the declaration with the ordinal `ordinal`.
-fn would_bind_to(
+/// Returns whether `name`, written in place of the occurrence with the number `occurrence`, would
+/// be bound to the declaration with the ordinal `ordinal`. Occurrences are numbered from 0 in text
+/// order.
+fn name_would_be_bound_to(
     alloc: Global,
     names: &Resolved,
     occurrence: usize,
@@ -47,7 +60,7 @@ fn would_bind_to(
     ensures { IfOk result (λ is. is
         ≡ same_ordinal (resolve_at_occurrence (named_tree_of names.now.module_read) occurrence name.now) ordinal) }
 {
-    let bound = resolve_at_occurrences(alloc, names, name)?;
+    let bound = resolve_name_at_occurrences(alloc, names, name)?;
     Ok(has_ordinal_at(&bound, occurrence, ordinal))
 }
 
@@ -66,25 +79,25 @@ fn has_ordinal_at(bound: &[Option<usize>], occurrence: usize, ordinal: usize) ->
 
 /// Returns whether the constant has a use at which TRUE or FALSE, written for the constant's value,
 /// wouldn't mean the predeclared name. If the value is a number, the result is false.
-pub(crate) fn any_use_shadowed(
+pub(crate) fn has_shadowed_use(
     alloc: Global,
     names: &Resolved,
-    constant: NamedConstant,
+    constant: DeclaredConstant,
 ) -> Result<bool, AllocError>
     ensures { IfOk result
-        (λ hidden. hidden ≡ any_use_shadowed (named_tree_of names.now.module_read) constant) }
+        (λ hidden. hidden ≡ has_shadowed_use (named_tree_of names.now.module_read) constant) }
 {
     let value = constant.value;
     match value {
         Scalar::Number(_) => Ok(false),
-        Scalar::Truth(true) => any_use_would_bind_elsewhere(
+        Scalar::Truth(true) => any_use_would_be_bound_elsewhere(
             alloc,
             names,
             constant.ordinal,
             "TRUE",
             TRUE_ORDINAL,
         ),
-        Scalar::Truth(false) => any_use_would_bind_elsewhere(
+        Scalar::Truth(false) => any_use_would_be_bound_elsewhere(
             alloc,
             names,
             constant.ordinal,
@@ -94,9 +107,9 @@ pub(crate) fn any_use_shadowed(
     }
 }
 
-/// Returns whether some use of the constant with the ordinal `constant` is at a place where `name`,
-/// written instead, wouldn't be bound to the declaration with the ordinal `ordinal`.
-fn any_use_would_bind_elsewhere(
+/// Returns whether the constant with the ordinal `constant` has a use in place of which `name`
+/// wouldn't be bound to the declaration with the ordinal `ordinal`.
+fn any_use_would_be_bound_elsewhere(
     alloc: Global,
     names: &Resolved,
     constant: usize,
@@ -111,7 +124,7 @@ fn any_use_would_bind_elsewhere(
 {
     // The proof needs the contract of this call.
     let _module = names.module();
-    let bound = resolve_at_occurrences(alloc, names, name)?;
+    let bound = resolve_name_at_occurrences(alloc, names, name)?;
     Ok(any_use_has_other_ordinal(names, &bound, constant, ordinal))
 }
 

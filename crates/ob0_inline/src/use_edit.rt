@@ -2,7 +2,7 @@
 
 ghost use Rattle.std.specs.Prelude.{◌≡◌, ◌⊎◌, ◌<◌, ◌≤◌, ◌∷◌, [], IfOk, IfErr, IsErrOf, length, map};
 ghost use Rattle.std.specs.Str.{chars};
-ghost use Rattle.ob0_scan.specs.TextWithTokens.{max_text};
+ghost use Rattle.ob0_scan.specs.TextWithTokens.{max_text_length};
 ghost use Rattle.ob0_text.specs.declared.refusals.EditRefusal.TheVariants.{Memory, TooDeep, TooLong};
 ghost use Rattle.ob0_tree.specs.Module.{max_nesting};
 ghost use Rattle.ob0_tree.specs.Tree.{nesting};
@@ -12,7 +12,7 @@ ghost use Rattle.ob0_inline.specs.Inlined.{EditsGiveModule};
 ghost use Rattle.ob0_inline.specs.Uses.{IsUse, tree_inlined_here};
 ghost use Rattle.ob0_inline.specs.Values.{value_text};
 
-use crate::depth::is_too_deep;
+use crate::depth::is_edited_text_too_deep;
 use crate::uses::ConstantUse;
 use crate::written::value_text;
 use ob0_edits_tokens::replacement_edits;
@@ -22,7 +22,7 @@ use std::alloc::Global;
 
 /// Returns the edit that writes a constant's value in place of the use `found`. If the edited text
 /// is too long, the refusal is `TooLong`. If it is nested too deep, the refusal is `TooDeep`.
-pub(crate) fn use_edits<T: TextStore>(
+pub(crate) fn edits_inlining_here<T: TextStore>(
     alloc: Global,
     store: &T,
     names: &Resolved,
@@ -37,24 +37,24 @@ pub(crate) fn use_edits<T: TextStore>(
         → IfOk result (λ edits. EditsGiveModule (T.unit_of store.now) (T.content store.now) edits.items
         (tree_inlined_here names.now.module_read found)) }
     ensures too_long { IsErrOf result TooLong
-        → max_text < length (text_after_replacement names.now.module_read.source (found.token ∷ [])
+        → max_text_length < length (text_after_replacement names.now.module_read.source (found.token ∷ [])
         (value_text found.value)) }
     ensures too_deep { UsesAreFactors names.now.module_read found.constant
         → IsErrOf result TooDeep
         → max_nesting < nesting (tree_inlined_here names.now.module_read found) }
     ensures short { IfOk result (λ edits. length
         (text_after_replacement names.now.module_read.source (found.token ∷ []) (value_text found.value))
-        ≤ max_text) }
+        ≤ max_text_length) }
     ensures deep_and_short { IsErrOf result TooDeep
         → length (text_after_replacement names.now.module_read.source (found.token ∷ [])
-        (value_text found.value)) ≤ max_text }
+        (value_text found.value)) ≤ max_text_length }
     ensures refusals { IfErr result
         (λ refusal. (refusal ≡ TooLong) ⊎ ((refusal ≡ TooDeep) ⊎ (refusal ≡ Memory))) }
 {
     let read = names.module();
     let text = value_text(alloc, found.value)?;
     let edits = replacement_edits(alloc, store, names.tokens(), &[found.token], &text)?;
-    if is_too_deep(alloc, store, read, &edits)? {
+    if is_edited_text_too_deep(alloc, store, read, &edits)? {
         return Err(EditRefusal::TooDeep);
     }
     Ok(edits)

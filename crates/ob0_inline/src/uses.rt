@@ -11,8 +11,8 @@ use ob0_types::WellTyped;
 
 /// A use of a constant, with the constant's value. `token` is the index of the use's token.
 /// `occurrence` is the number of the use among all occurrences in the text, counted from 0. An
-/// occurrence is a name that refers to a declaration. `constant` is the ordinal of the constant's
-/// declaration.
+/// occurrence is a name that is looked up to find its declaration. `constant` is the ordinal of the
+/// constant's declaration.
 #[derive(Clone, Copy)]
 pub struct ConstantUse {
     pub token: usize,
@@ -23,7 +23,7 @@ pub struct ConstantUse {
 
 /// Returns the use of a constant at a byte offset, or None if the offset isn't on a use of a
 /// constant.
-pub(crate) fn use_at(module: &WellTyped, offset: usize) -> Option<ConstantUse>
+pub(crate) fn constant_use_at(module: &WellTyped, offset: usize) -> Option<ConstantUse>
     ensures at { MatchOption result ((u : ConstantUse) → IsUseAt «module».now.module_read offset u → ⊥)
         (λ u. IsUseAt «module».now.module_read offset u) }
     ensures is_use { (u : ConstantUse) → result ≡ Some u → IsUse «module».now.module_read u }
@@ -31,7 +31,7 @@ pub(crate) fn use_at(module: &WellTyped, offset: usize) -> Option<ConstantUse>
     let names = module.resolved();
     match name_at(names, offset) {
         Some(found) => match module.constant(found.ordinal) {
-            Some(value) => match occurrence_at(names, found.token) {
+            Some(value) => match occurrence_number_of_token(names, found.token) {
                 Some(occurrence) => Some(ConstantUse {
                     token: found.token,
                     occurrence,
@@ -49,7 +49,7 @@ pub(crate) fn use_at(module: &WellTyped, offset: usize) -> Option<ConstantUse>
 /// Returns the number of the occurrence whose token has the index `token`, counted from 0. Returns
 /// None if that token isn't an occurrence. The function can use a binary search, because the token
 /// indexes of occurrences ascend.
-fn occurrence_at(names: &Resolved, token: usize) -> Option<usize>
+fn occurrence_number_of_token(names: &Resolved, token: usize) -> Option<usize>
     ensures { result ≡ position_from (λ other. other == token) 0 names.now.uses }
 {
     // The proof needs the contract of this call.

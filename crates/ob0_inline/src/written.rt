@@ -1,7 +1,7 @@
 //! Computes the text that an inlining writes for a constant's value.
 
 ghost use Rattle.std.specs.Prelude.{◌≡◌, IfOk, IsTrue, string_bytes};
-ghost use Rattle.ob0_edits_tokens.specs.Replaced.{MayReplaceName};
+ghost use Rattle.ob0_edits_tokens.specs.Replaced.{MayReplaceIdentifier};
 ghost use Rattle.ob0_edits_tokens.specs.Written.{number_text, number_words};
 ghost use Rattle.ob0_language_types.specs.EditLaws.{IsScalar};
 ghost use Rattle.ob0_language_values.specs.Scalars.{scalar_value};
@@ -16,11 +16,11 @@ use std::alloc::{AllocError, Global};
 /// large for an integer literal.
 pub(crate) fn value_text(alloc: Global, value: Scalar) -> Result<String, AllocError>
     ensures text { IfOk result (λ text. string_bytes text ≡ value_text value) }
-    ensures can_replace { MayReplaceName (value_text value) (value_words value) }
+    ensures can_replace { MayReplaceIdentifier (value_text value) (value_words value) }
 {
     match value {
         Scalar::Number(number) => {
-            number_replaces_name(number);
+            number_text_may_replace_name(number);
             number_text(alloc, number)
         }
         Scalar::Truth(true) => String::from_str(alloc, "TRUE"),
@@ -42,10 +42,10 @@ fn number_text(alloc: Global, number: i32) -> Result<String, AllocError>
     format!(in alloc; "{number}")
 }
 
-/// Proves that the text of a 32-bit number may replace any identifier (`MayReplaceName`). The
+/// Proves that the text of a 32-bit number may replace any identifier (`MayReplaceIdentifier`). The
 /// function has no effect.
-fn number_replaces_name(number: i32)
-    ensures { MayReplaceName (number_text number) (number_words number) }
+fn number_text_may_replace_name(number: i32)
+    ensures { MayReplaceIdentifier (number_text number) (number_words number) }
 {}
 
 /// Proves that each `Scalar` is a 32-bit number or a truth value. The function has no effect.

@@ -3,7 +3,7 @@
 use Rattle.std.proofs.Common.{◌≡◌, ◌∙◌, ◌≤◌, ℕ, suc, Bool, true, false, if◌then◌else◌, nat_lt, Option, Some, None, Err, List, [], ◌∷◌, Vec, map, length, inl, inr, refl, sym, ap, subst, arith}
 use Rattle.std.specs.declared.alloc.Global.{Global}
 use Rattle.std.proofs.lemmas.Bool.{ltb-false}
-use Rattle.ob0_scan.specs.TextWithTokens.{TextWithTokens, Word, max_text}
+use Rattle.ob0_scan.specs.TextWithTokens.{TextWithTokens, Word, max_text_length}
 use Rattle.ob0_scope_table.proofs.FewTokens.{few_tokens}
 use Rattle.ob0_text.specs.declared.edits.Edit.{Edit}
 use Rattle.ob0_text.specs.declared.position_types.Unit.{Unit}
@@ -16,10 +16,10 @@ use Rattle.ob0_tree_values.proofs.TreeValues.{vec_of}
 use Rattle.ob0_edits_tokens.specs.Changed.{changes_at, changed_words, words_of}
 use Rattle.ob0_edits_tokens.specs.Ranges.{range_of}
 use Rattle.ob0_edits_tokens.specs.Removed.{MayBeConstantDeclaration, span_of_tokens, changes_with_removal}
-use Rattle.ob0_edits_tokens.specs.Replaced.{AreIdentifierIndexes, LeavesWords, replacement_at_token, range_and_text}
+use Rattle.ob0_edits_tokens.specs.Replaced.{AreIdentifierIndexes, EditsGiveWords, replacement_at_token, range_and_text}
 use Rattle.ob0_edits_tokens.proofs.MadeWithout.{leaves_words_without}
 use Rattle.ob0_scope_table.specs.Resolution.{Resolution}
-use Rattle.ob0_scope.specs.declared.naming.Named as named
+use Rattle.ob0_scope.specs.declared.naming.BoundName as named
 use Rattle.ob0_scope.specs.NamesAtPlaces.{name_at_offset}
 use Rattle.ob0_language_types.specs.ConstantValues.{value_of_constant}
 use Rattle.ob0_language_types.specs.EditLaws.{ConstantUsesAreFactors, IsScalar}
@@ -28,18 +28,18 @@ use Rattle.ob0_language_values.specs.Scalars.{scalar_value}
 use Rattle.ob0_language_values.specs.Values.{Value}
 use Rattle.ob0_analysis.specs.Analysed.{IsResolvedWellTypedModule}
 use Rattle.ob0_analysis.specs.Texts.{utf8}
-use Rattle.ob0_inline.specs.declared.constants.NamedConstant.{NamedConstant}
-use Rattle.ob0_inline.specs.Everywhere.{AnswersInlineEverywhere, IsConstant, IsConstantAt, HasNoConstantAt, any_use_shadowed, declaration_has_comment, tree_inlined_everywhere, refusal_everywhere, text_after_inlining, uses_of}
+use Rattle.ob0_inline.specs.declared.constants.DeclaredConstant.{DeclaredConstant}
+use Rattle.ob0_inline.specs.Everywhere.{AnswersInlineEverywhere, IsConstant, IsConstantAt, HasNoConstantAt, has_shadowed_use, declaration_has_comment, tree_inlined_everywhere, refusal_of_inlining_everywhere, text_inlined_everywhere, use_tokens_of}
 use Rattle.ob0_inline.specs.Values.{value_text, value_words}
 use Rattle.ob0_inline.proofs.AtConstants.{Made, answer_made}
 use Rattle.ob0_inline.proofs.Ended.{are_uses, begins_at, end_token, ends_at, is_taken, left_spelled, name_token}
 use Rattle.ob0_inline.proofs.ModuleTexts.{leaves_module}
 use Rattle.ob0_edits.specs.declared.inlinings.Inlining.TheVariants.{Everywhere}
-use Rattle.ob0_edits.specs.Inlinings.{InlinesIn, IsInliningRefusedIn}
+use Rattle.ob0_edits.specs.Inlinings.{InlinesInText, IsInliningRefusedInText}
 use Rattle.ob0_world_rules.specs.Answers.{position_offset}
 use Rattle.ob0_world_rules.specs.Edited.{replacements}
 use Rattle.ob0_world_rules.specs.Language.{WellTypedText}
-use Rattle.ob0_inline_answers.specs.InlineAnswers.{InliningEverywhereHasAnswers}
+use Rattle.ob0_inline_answers.specs.InlineAnswers.{InliningEverywhereAlwaysHasAnswer}
 use Rattle.ob0_inline_answers.proofs.ModuleNames.{named_module}
 use Rattle.ob0_inline_answers.proofs.ScalarConstants.{constant_scalar, scalar_of}
 use Rattle.ob0_inline_answers.proofs.WrittenValues.{IsWritable, writable}
@@ -48,12 +48,12 @@ use Rattle.ob0_inline_answers.proofs.HereAnswers.{held, inlines_in, none_some, n
 
 -- ---- the edits at the declaration and at the uses
 
-module _ (unit : Unit) (text : List ℕ) (r : Resolution) (module_in : IsResolvedWellTypedModule (utf8 text) r) (c : NamedConstant) (constant : IsConstant r.module_read c) (w : IsWritable c.value) where
+module _ (unit : Unit) (text : List ℕ) (r : Resolution) (module_in : IsResolvedWellTypedModule (utf8 text) r) (c : DeclaredConstant) (constant : IsConstant r.module_read c) (w : IsWritable c.value) where
   abbrev s : TextWithTokens
   s = r.module_read.source
 
   abbrev places : List ℕ
-  places = uses_of r.module_read c.ordinal
+  places = use_tokens_of r.module_read c.ordinal
 
   declaration : MayBeConstantDeclaration s.tokens c.first c.last
   declaration = is_taken r module_in.well_typed.resolved c constant
@@ -78,14 +78,14 @@ module _ (unit : Unit) (text : List ℕ) (r : Resolution) (module_in : IsResolve
       let many = as_many_values unit text s.tokens (value_text c.value) w.utf8 w.short places in
       omega (arith, few, tokens, many)
 
-  all_leave : length (text_after_inlining r.module_read c) ≤ max_text → LeavesWords unit text all_edits all_words
+  all_leave : length (text_inlined_everywhere r.module_read c) ≤ max_text_length → EditsGiveWords unit text all_edits all_words
   all_leave short =
       let held_so = held unit text r module_in in
-      subst (λ t. LeavesWords unit t all_edits all_words) (sym held_so)
+      subst (λ t. EditsGiveWords unit t all_edits all_words) (sym held_so)
       (leaves_words_without unit s module_in.scan.scan (value_text c.value) (value_words c.value) w.replaces w.utf8 c.first c.last declaration places are_names all_edits
       (subst (λ t. map range_and_text all_edits ≡ (range_of (width_of unit) t (span_of_tokens s.tokens c.first c.last), []) ∷ map (replacement_at_token unit t s.tokens (value_text c.value)) places) held_so all_are) short)
 
-  pub all_made : length (text_after_inlining r.module_read c) ≤ max_text → nesting (tree_inlined_everywhere r.module_read c) ≤ 100 → Made r c unit text all_edits
+  pub all_made : length (text_inlined_everywhere r.module_read c) ≤ max_text_length → nesting (tree_inlined_everywhere r.module_read c) ≤ 100 → Made r c unit text all_edits
   all_made short low = record {
     edits_are = all_are;
     make_text = record {
@@ -97,16 +97,16 @@ module _ (unit : Unit) (text : List ℕ) (r : Resolution) (module_in : IsResolve
 -- ---- the cases
 
 module _ (alone : ConstantUsesAreFactors) (keeps : InliningEverywhereKeepsTypingAndRuns) (unit : Unit) (text : List ℕ) (r : Resolution) (module_in : IsResolvedWellTypedModule (utf8 text) r) (offset : ℕ)
-    (refused : IsInliningRefusedIn Everywhere unit text offset → ⊥) (given : (edits : Vec Edit Global) → InlinesIn Everywhere unit text offset edits → ⊥) where
+    (refused : IsInliningRefusedInText Everywhere unit text offset → ⊥) (given : (edits : Vec Edit Global) → InlinesInText Everywhere unit text offset edits → ⊥) where
   refuse : (refusal : EditRefusal) → (refusal ≡ Memory → ⊥) → AnswersInlineEverywhere unit text r.module_read offset (Err refusal) → ⊥
   refuse refusal other h = refused (not_inlined unit text r module_in Everywhere offset (refusal, other, h))
 
   no_name : HasNoConstantAt r.module_read offset → ⊥
   no_name nowhere = refuse NoName (λ e. cc) (inr (refl, nowhere))
 
-  module _ (c : NamedConstant) (at : IsConstantAt r.module_read offset c) (scalar_so : IsScalar (scalar_value c.value)) where
+  module _ (c : DeclaredConstant) (at : IsConstantAt r.module_read offset c) (scalar_so : IsScalar (scalar_value c.value)) where
     abbrev long : ℕ
-    long = length (text_after_inlining r.module_read c)
+    long = length (text_inlined_everywhere r.module_read c)
 
     abbrev deep : ℕ
     deep = nesting (tree_inlined_everywhere r.module_read c)
@@ -114,13 +114,13 @@ module _ (alone : ConstantUsesAreFactors) (keeps : InliningEverywhereKeepsTyping
     abbrev first_of : Bool → Bool → Bool → Bool → Option EditRefusal
     first_of a b h k = if a then Some TooLong else if b then Some TooDeep else if h then Some Shadowed else if k then Some CommentInside else None
 
-    refusal_is : (a b h k : Bool) → nat_lt max_text long ≡ a → nat_lt 100 deep ≡ b → any_use_shadowed (named_tree_of r.module_read) c ≡ h → declaration_has_comment r.module_read c ≡ k → refusal_everywhere r.module_read c ≡ first_of a b h k
+    refusal_is : (a b h k : Bool) → nat_lt max_text_length long ≡ a → nat_lt 100 deep ≡ b → has_shadowed_use (named_tree_of r.module_read) c ≡ h → declaration_has_comment r.module_read c ≡ k → refusal_of_inlining_everywhere r.module_read c ≡ first_of a b h k
     refusal_is a b h k e f g q = λ i. first_of (e i) (f i) (g i) (q i)
 
-    refuse_constant : (refusal : EditRefusal) → (refusal ≡ Memory → ⊥) → refusal_everywhere r.module_read c ≡ Some refusal → ⊥
+    refuse_constant : (refusal : EditRefusal) → (refusal ≡ Memory → ⊥) → refusal_of_inlining_everywhere r.module_read c ≡ Some refusal → ⊥
     refuse_constant refusal other e = refuse refusal other (inl (c, at, inl e))
 
-    cases : (a b h k : Bool) → nat_lt max_text long ≡ a → nat_lt 100 deep ≡ b → any_use_shadowed (named_tree_of r.module_read) c ≡ h → declaration_has_comment r.module_read c ≡ k → ⊥
+    cases : (a b h k : Bool) → nat_lt max_text_length long ≡ a → nat_lt 100 deep ≡ b → has_shadowed_use (named_tree_of r.module_read) c ≡ h → declaration_has_comment r.module_read c ≡ k → ⊥
     cases true b h k e f g q = refuse_constant TooLong (λ z. cc) (refusal_is true b h k e f g q)
     cases false true h k e f g q = refuse_constant TooDeep (λ z. cc) (refusal_is false true h k e f g q)
     cases false false true k e f g q = refuse_constant Shadowed (λ z. cc) (refusal_is false false true k e f g q)
@@ -128,12 +128,12 @@ module _ (alone : ConstantUsesAreFactors) (keeps : InliningEverywhereKeepsTyping
     cases false false false false e f g q =
         let well = module_in.well_typed in
         let w = writable c.value scalar_so in
-        let made = all_made unit text r module_in c at.is_constant w (ltb-false max_text long e) (ltb-false 100 deep f) in
+        let made = all_made unit text r module_in c at.is_constant w (ltb-false max_text_length long e) (ltb-false 100 deep f) in
         let edits : Vec Edit Global = vec_of (all_edits unit text r module_in c at.is_constant w) (few_edits unit text r module_in c at.is_constant w) in
         let answer = answer_made r well c at.is_constant alone scalar_so keeps unit text (all_edits unit text r module_in c at.is_constant w) made g q in
         given edits (inlines_in unit text r module_in Everywhere offset edits (tree_inlined_everywhere r.module_read c) answer.1.leaves answer.1.well_typed answer.1.same_runs (inl (c, at, answer)))
 
-  at_value : (found : named.Named) → name_at_offset r.module_read offset ≡ Some found → (o : Option Value) → value_of_constant (named_tree_of r.module_read) found.ordinal ≡ o → ⊥
+  at_value : (found : named.BoundName) → name_at_offset r.module_read offset ≡ Some found → (o : Option Value) → value_of_constant (named_tree_of r.module_read) found.ordinal ≡ o → ⊥
   at_value found e None q =
       no_name (λ n h. ap (value_of_constant (named_tree_of r.module_read)) (sym (same_ordinal_named found n.token n.ordinal (sym e ∙ h))) ∙ q)
   at_value found e (Some w) q =
@@ -141,16 +141,16 @@ module _ (alone : ConstantUsesAreFactors) (keeps : InliningEverywhereKeepsTyping
       let scalar_w = constant_scalar r.module_read.source module_in.scan.scan (tree_of r.module_read) found.ordinal w q in
       let v = scalar_of w scalar_w in
       let has : value_of_constant (named_tree_of r.module_read) found.ordinal ≡ Some (scalar_value v.0) = q ∙ ap Some (sym v.1) in
-      let c : NamedConstant = record { ordinal = found.ordinal; value = v.0; first = name_token r is found.ordinal (scalar_value v.0) has; last = end_token r is found.ordinal (scalar_value v.0) has } in
+      let c : DeclaredConstant = record { ordinal = found.ordinal; value = v.0; first = name_token r is found.ordinal (scalar_value v.0) has; last = end_token r is found.ordinal (scalar_value v.0) has } in
       let constant : IsConstant r.module_read c = record { has_value = has; begins = begins_at r is found.ordinal (scalar_value v.0) has; ends = ends_at r is found.ordinal (scalar_value v.0) has } in
       cases c (record { token = found.token; named = e; is_constant = constant }) (subst IsScalar (sym v.1) scalar_w) _ _ _ _ refl refl refl refl
 
-  at_name : (o : Option named.Named) → name_at_offset r.module_read offset ≡ o → ⊥
+  at_name : (o : Option named.BoundName) → name_at_offset r.module_read offset ≡ o → ⊥
   at_name None e = no_name (λ n h. absurd (none_some n (sym e ∙ h)))
   at_name (Some found) e = at_value found e (value_of_constant (named_tree_of r.module_read) found.ordinal) refl
 
-pub inlining_everywhere_has_answers : ConstantUsesAreFactors → InliningEverywhereKeepsTypingAndRuns → InliningEverywhereHasAnswers
-inlining_everywhere_has_answers alone keeps each position unit text none = none [] (inr (inr unfit, refl))
+pub inlining_everywhere_always_has_answer : ConstantUsesAreFactors → InliningEverywhereKeepsTypingAndRuns → InliningEverywhereAlwaysHasAnswer
+inlining_everywhere_always_has_answer alone keeps each position unit text none = none [] (inr (inr unfit, refl))
   where
     unfit : WellTypedText text → ⊥
     unfit h =

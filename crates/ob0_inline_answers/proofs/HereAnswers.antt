@@ -6,7 +6,7 @@ use Rattle.std.specs.Str.{chars}
 use Rattle.std.specs.declared.alloc.Global.{Global}
 use Rattle.std.proofs.lemmas.Bool.{ltb-false}
 use Rattle.std.proofs.lemmas.Str.{chars_from_encodes}
-use Rattle.ob0_scan.specs.TextWithTokens.{TextWithTokens, Word, max_text}
+use Rattle.ob0_scan.specs.TextWithTokens.{TextWithTokens, Word, max_text_length}
 use Rattle.ob0_text.specs.declared.edits.Edit.{Edit}
 use Rattle.ob0_text.specs.declared.position_types.Unit.{Unit}
 use Rattle.ob0_text.specs.declared.refusals.EditRefusal.{EditRefusal}
@@ -15,11 +15,11 @@ use Rattle.ob0_tree.specs.ParsedModule.{named_tree_of, tree_of}
 use Rattle.ob0_tree.specs.Tree.{Tree, module_text, nesting}
 use Rattle.ob0_tree_values.proofs.TreeValues.{vec_of}
 use Rattle.ob0_edits_tokens.specs.Changed.{changes_at, changed_words, words_of}
-use Rattle.ob0_edits_tokens.specs.Replaced.{LeavesWords, replacement_at_token, range_and_text, text_after_replacement}
+use Rattle.ob0_edits_tokens.specs.Replaced.{EditsGiveWords, replacement_at_token, range_and_text, text_after_replacement}
 use Rattle.ob0_edits_tokens.proofs.Made.{leaves_words}
 use Rattle.ob0_language_names.specs.Names.{Name}
 use Rattle.ob0_scope_table.specs.Resolution.{Resolution}
-use Rattle.ob0_scope.specs.declared.naming.Named as named
+use Rattle.ob0_scope.specs.declared.naming.BoundName as named
 use Rattle.ob0_scope.specs.NamesAtPlaces.{name_at_offset}
 use Rattle.ob0_language_types.specs.ConstantValues.{value_of_constant}
 use Rattle.ob0_language_types.specs.EditLaws.{ConstantUsesAreFactors, IsScalar}
@@ -29,22 +29,22 @@ use Rattle.ob0_language_values.specs.declared.scalar.Scalar.{Scalar}
 use Rattle.ob0_language_values.specs.Scalars.{scalar_value}
 use Rattle.ob0_language_values.specs.Values.{Value}
 use Rattle.ob0_analysis.specs.Analysed.{IsResolvedWellTypedModule}
-use Rattle.ob0_analysis.specs.Diagnosed.{IsTextOf}
+use Rattle.ob0_analysis.specs.Diagnosed.{IsTextOfTree}
 use Rattle.ob0_analysis.specs.Texts.{utf8}
 use Rattle.ob0_analysis.proofs.Scanning.{is_module, utf8_of}
 use Rattle.ob0_inline.specs.declared.uses.ConstantUse.{ConstantUse}
 use Rattle.ob0_inline.specs.Inlined.{EditsGiveModule}
-use Rattle.ob0_inline.specs.Uses.{AnswersInlineHere, IsUse, IsUseAt, tree_inlined_here, value_text_keeps_meaning, refusal_here}
+use Rattle.ob0_inline.specs.Uses.{AnswersInlineHere, IsUse, IsUseAt, tree_inlined_here, value_text_keeps_meaning, refusal_of_inlining_here}
 use Rattle.ob0_inline.specs.Values.{value_text, value_words}
 use Rattle.ob0_inline.proofs.AtUses.{Made, answer_ok, are_names, here_spelled, no_use, use_found, use_is}
 use Rattle.ob0_inline.proofs.ModuleTexts.{leaves_module}
 use Rattle.ob0_edits.specs.declared.inlinings.Inlining.{Inlining}
 use Rattle.ob0_edits.specs.declared.inlinings.Inlining.TheVariants.{OneUse}
-use Rattle.ob0_edits.specs.Inlinings.{IsInlineResult, InlinesIn, IsInliningRefusedIn}
+use Rattle.ob0_edits.specs.Inlinings.{IsInlineResult, InlinesInText, IsInliningRefusedInText}
 use Rattle.ob0_world_rules.specs.Answers.{position_offset}
 use Rattle.ob0_world_rules.specs.Edited.{replacements}
 use Rattle.ob0_world_rules.specs.Language.{WellTypedText}
-use Rattle.ob0_inline_answers.specs.InlineAnswers.{InliningHereHasAnswers}
+use Rattle.ob0_inline_answers.specs.InlineAnswers.{InliningHereAlwaysHasAnswer}
 use Rattle.ob0_inline_answers.proofs.ModuleNames.{named_module}
 use Rattle.ob0_inline_answers.proofs.ScalarConstants.{constant_scalar, scalar_of}
 use Rattle.ob0_inline_answers.proofs.WrittenValues.{IsWritable, writable}
@@ -58,11 +58,11 @@ module _ (unit : Unit) (text : List ℕ) (r : Resolution) (module_in : IsResolve
 
   -- Edits that leave the text of a module with the same runs inline the constant.
   pub inlines_in : (how : Inlining) (offset : ℕ) (edits : Vec Edit Global) (t : Tree Name module_text) → EditsGiveModule unit text edits.items t → WellTyped t → HaveSameRuns t (named_tree_of r.module_read)
-      → IsInlineResult how unit text r.module_read offset (Some edits) → InlinesIn how unit text offset edits
+      → IsInlineResult how unit text r.module_read offset (Some edits) → InlinesInText how unit text offset edits
   inlines_in how offset edits t leaves well same inlines =
       let after : List ℕ = chars leaves.after.text in
-      let text_of : IsTextOf t (utf8 after) =
-      subst (λ (w : List ℕ). IsTextOf t w) (utf8_of leaves.after.text after leaves.scan.utf8 refl) (record { scanned = leaves.after; scan = record { of = refl; scan = leaves.scan }; module_of = leaves.module_of })
+      let text_of : IsTextOfTree t (utf8 after) =
+      subst (λ (w : List ℕ). IsTextOfTree t w) (utf8_of leaves.after.text after leaves.scan.utf8 refl) (record { scanned = leaves.after; scan = record { of = refl; scan = leaves.scan }; module_of = leaves.module_of })
       in
       record {
         module_read = r.module_read;
@@ -73,7 +73,7 @@ module _ (unit : Unit) (text : List ℕ) (r : Resolution) (module_in : IsResolve
         runs = record { old = is_module (utf8 text) r module_in; new = record { tree = t; text_of = text_of; well_typed = well }; same = same };
       }
 
-  pub not_inlined : (how : Inlining) (offset : ℕ) → IsInlineResult how unit text r.module_read offset None → IsInliningRefusedIn how unit text offset
+  pub not_inlined : (how : Inlining) (offset : ℕ) → IsInlineResult how unit text r.module_read offset None → IsInliningRefusedInText how unit text offset
   not_inlined how offset refused = record {
     module_read = r.module_read;
     read = record { scan = module_in.scan; parsed = module_in.well_typed.resolved.parsed; well_typed = module_in.well_typed.well_typed };
@@ -83,8 +83,8 @@ module _ (unit : Unit) (text : List ℕ) (r : Resolution) (module_in : IsResolve
 pub none_some : {A : Type 0} (a : A) → None ≡ Some a → ⊥
 none_some a e = cc
 
-pub same_ordinal_named : (found : named.Named) (token ordinal : ℕ) → Some found ≡ Some (record { token = token; ordinal = ordinal }) → found.ordinal ≡ ordinal
-same_ordinal_named found token ordinal e = ap (λ (o : Option named.Named). (elim o as (λ _. named.Named) [ Some n ↦ n | None ↦ found ]).ordinal) e
+pub same_ordinal_named : (found : named.BoundName) (token ordinal : ℕ) → Some found ≡ Some (record { token = token; ordinal = ordinal }) → found.ordinal ≡ ordinal
+same_ordinal_named found token ordinal e = ap (λ (o : Option named.BoundName). (elim o as (λ _. named.BoundName) [ Some n ↦ n | None ↦ found ]).ordinal) e
 
 -- ---- the edit at a use
 
@@ -101,14 +101,14 @@ module _ (unit : Unit) (text : List ℕ) (r : Resolution) (module_in : IsResolve
   here_are : map range_and_text here_edits ≡ map (replacement_at_token unit text s.tokens (value_text u.value)) (u.token ∷ [])
   here_are = values_are unit text s.tokens (value_text u.value) w.utf8 w.short (u.token ∷ [])
 
-  here_leave : length (text_after_replacement s (u.token ∷ []) (value_text u.value)) ≤ max_text → LeavesWords unit text here_edits here_words
+  here_leave : length (text_after_replacement s (u.token ∷ []) (value_text u.value)) ≤ max_text_length → EditsGiveWords unit text here_edits here_words
   here_leave short =
       let held_so = held unit text r module_in in
-      subst (λ t. LeavesWords unit t here_edits here_words) (sym held_so)
+      subst (λ t. EditsGiveWords unit t here_edits here_words) (sym held_so)
       (leaves_words unit s module_in.scan.scan (value_text u.value) (value_words u.value) w.replaces w.utf8 (u.token ∷ []) (are_names r module_in.well_typed.resolved u use_so) here_edits
       (subst (λ t. map range_and_text here_edits ≡ map (replacement_at_token unit t s.tokens (value_text u.value)) (u.token ∷ [])) held_so here_are) short)
 
-  pub here_made : length (text_after_replacement s (u.token ∷ []) (value_text u.value)) ≤ max_text → nesting (tree_inlined_here r.module_read u) ≤ 100 → Made r u unit text here_edits
+  pub here_made : length (text_after_replacement s (u.token ∷ []) (value_text u.value)) ≤ max_text_length → nesting (tree_inlined_here r.module_read u) ≤ 100 → Made r u unit text here_edits
   here_made short low = record {
     edits_are = here_are;
     make_text = record {
@@ -120,7 +120,7 @@ module _ (unit : Unit) (text : List ℕ) (r : Resolution) (module_in : IsResolve
 -- ---- the cases
 
 module _ (alone : ConstantUsesAreFactors) (keeps : InliningKeepsTypingAndRuns) (unit : Unit) (text : List ℕ) (r : Resolution) (module_in : IsResolvedWellTypedModule (utf8 text) r) (offset : ℕ)
-    (refused : IsInliningRefusedIn OneUse unit text offset → ⊥) (given : (edits : Vec Edit Global) → InlinesIn OneUse unit text offset edits → ⊥) where
+    (refused : IsInliningRefusedInText OneUse unit text offset → ⊥) (given : (edits : Vec Edit Global) → InlinesInText OneUse unit text offset edits → ⊥) where
   refuse : (refusal : EditRefusal) → (refusal ≡ Memory → ⊥) → AnswersInlineHere unit text r.module_read offset (Err refusal) → ⊥
   refuse refusal other h = refused (not_inlined unit text r module_in OneUse offset (refusal, other, h))
 
@@ -140,13 +140,13 @@ module _ (alone : ConstantUsesAreFactors) (keeps : InliningKeepsTypingAndRuns) (
     abbrev first_of : Bool → Bool → Bool → Option EditRefusal
     first_of a b c = if a then Some TooLong else if b then Some TooDeep else if c then None else Some Shadowed
 
-    refusal_is : (a b c : Bool) → nat_lt max_text long ≡ a → nat_lt 100 deep ≡ b → shown ≡ c → refusal_here r.module_read u ≡ first_of a b c
+    refusal_is : (a b c : Bool) → nat_lt max_text_length long ≡ a → nat_lt 100 deep ≡ b → shown ≡ c → refusal_of_inlining_here r.module_read u ≡ first_of a b c
     refusal_is a b c e f g = λ i. first_of (e i) (f i) (g i)
 
-    refuse_use : (refusal : EditRefusal) → (refusal ≡ Memory → ⊥) → refusal_here r.module_read u ≡ Some refusal → ⊥
+    refuse_use : (refusal : EditRefusal) → (refusal ≡ Memory → ⊥) → refusal_of_inlining_here r.module_read u ≡ Some refusal → ⊥
     refuse_use refusal other e = refuse refusal other (inl (u, at, inl e))
 
-    cases : (a b c : Bool) → nat_lt max_text long ≡ a → nat_lt 100 deep ≡ b → shown ≡ c → ⊥
+    cases : (a b c : Bool) → nat_lt max_text_length long ≡ a → nat_lt 100 deep ≡ b → shown ≡ c → ⊥
     cases true b c e f g = refuse_use TooLong (λ q. cc) (refusal_is true b c e f g)
     cases false true c e f g = refuse_use TooDeep (λ q. cc) (refusal_is false true c e f g)
     cases false false false e f g = refuse_use Shadowed (λ q. cc) (refusal_is false false false e f g)
@@ -154,19 +154,19 @@ module _ (alone : ConstantUsesAreFactors) (keeps : InliningKeepsTypingAndRuns) (
         let well = module_in.well_typed in
         let use_so = use_is r well.resolved offset u at in
         let w = writable u.value scalar_so in
-        let made = here_made unit text r module_in u use_so w (ltb-false max_text long e) (ltb-false 100 deep f) in
+        let made = here_made unit text r module_in u use_so w (ltb-false max_text_length long e) (ltb-false 100 deep f) in
         let edits : Vec Edit Global = vec_of (here_edits unit text r module_in u use_so w) (omega arith) in
         let answer = answer_ok r well u use_so alone scalar_so keeps unit text (here_edits unit text r module_in u use_so w) made g in
         given edits (inlines_in unit text r module_in OneUse offset edits (tree_inlined_here r.module_read u) answer.1.leaves answer.1.well_typed answer.1.same_runs (inl (u, at, answer)))
 
-  at_scalar : (found : named.Named) → name_at_offset r.module_read offset ≡ Some found → (v : Scalar) → IsScalar (scalar_value v) → value_of_constant (named_tree_of r.module_read) found.ordinal ≡ Some (scalar_value v)
+  at_scalar : (found : named.BoundName) → name_at_offset r.module_read offset ≡ Some found → (v : Scalar) → IsScalar (scalar_value v) → value_of_constant (named_tree_of r.module_read) found.ordinal ≡ Some (scalar_value v)
       → (o : Option ℕ) → position_from (λ i. i == found.token) 0 r.uses ≡ o → ⊥
   at_scalar found e v scalar_so has None q = no_name (no_use r module_in.well_typed offset found (sym e) q)
   at_scalar found e v scalar_so has (Some k) q =
       let u : ConstantUse = record { token = found.token; occurrence = k; constant = found.ordinal; value = v } in
       cases u (use_found r module_in.well_typed offset found k v (sym e) q (sym has)) scalar_so _ _ _ refl refl refl
 
-  at_value : (found : named.Named) → name_at_offset r.module_read offset ≡ Some found → (o : Option Value) → value_of_constant (named_tree_of r.module_read) found.ordinal ≡ o → ⊥
+  at_value : (found : named.BoundName) → name_at_offset r.module_read offset ≡ Some found → (o : Option Value) → value_of_constant (named_tree_of r.module_read) found.ordinal ≡ o → ⊥
   at_value found e None q =
       no_name (λ u at. none_some (scalar_value u.value) (sym q ∙ (ap (value_of_constant (named_tree_of r.module_read)) (same_ordinal_named found u.token u.constant (sym e ∙ at.named)) ∙ at.has_value)))
   at_value found e (Some w) q =
@@ -174,12 +174,12 @@ module _ (alone : ConstantUsesAreFactors) (keeps : InliningKeepsTypingAndRuns) (
       let v = scalar_of w scalar_w in
       at_scalar found e v.0 (subst IsScalar (sym v.1) scalar_w) (q ∙ ap Some (sym v.1)) (position_from (λ i. i == found.token) 0 r.uses) refl
 
-  at_name : (o : Option named.Named) → name_at_offset r.module_read offset ≡ o → ⊥
-  at_name None e = no_name (λ u at. none_some (let n : named.Named = record { token = u.token; ordinal = u.constant } in n) (sym e ∙ at.named))
+  at_name : (o : Option named.BoundName) → name_at_offset r.module_read offset ≡ o → ⊥
+  at_name None e = no_name (λ u at. none_some (let n : named.BoundName = record { token = u.token; ordinal = u.constant } in n) (sym e ∙ at.named))
   at_name (Some found) e = at_value found e (value_of_constant (named_tree_of r.module_read) found.ordinal) refl
 
-pub inlining_here_has_answers : ConstantUsesAreFactors → InliningKeepsTypingAndRuns → InliningHereHasAnswers
-inlining_here_has_answers alone keeps each position unit text none = none [] (inr (inr unfit, refl))
+pub inlining_here_always_has_answer : ConstantUsesAreFactors → InliningKeepsTypingAndRuns → InliningHereAlwaysHasAnswer
+inlining_here_always_has_answer alone keeps each position unit text none = none [] (inr (inr unfit, refl))
   where
     unfit : WellTypedText text → ⊥
     unfit h =

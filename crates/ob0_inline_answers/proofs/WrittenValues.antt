@@ -7,7 +7,7 @@ use Rattle.std.specs.Str.{IsAscii, IsUtf8}
 use Rattle.std.proofs.lemmas.Bool.{and_parts, ltb-true}
 use Rattle.std.proofs.lemmas.Fmt.{IsAscii-decimal, length-decimal-le}
 use Rattle.std.proofs.lemmas.Str.{IsAscii-append, IsUtf8-from_ascii}
-use Rattle.ob0_edits_tokens.specs.Replaced.{MayReplaceName}
+use Rattle.ob0_edits_tokens.specs.Replaced.{MayReplaceIdentifier}
 use Rattle.ob0_edits_tokens.specs.Written.{IsInt32, number_text}
 use Rattle.ob0_edits_tokens.proofs.Values.{a_truth, a_value}
 use Rattle.ob0_language_types.specs.EditLaws.{IsScalar}
@@ -21,7 +21,7 @@ use Rattle.ob0_inline.specs.Values.{value_text, value_words}
 pub record IsWritable (v : Scalar) : Type 0 where
   pub utf8 : IsUtf8 (value_text v)
   pub short : length (value_text v) ≤ 1048576
-  pub replaces : MayReplaceName (value_text v) (value_words v)
+  pub replaces : MayReplaceIdentifier (value_text v) (value_words v)
 
 ascii_of : (bytes : List ℕ) → list_all (λ b. nat_lt b 128) bytes ≡ true → IsAscii bytes
 ascii_of [] h i = omega (arith)

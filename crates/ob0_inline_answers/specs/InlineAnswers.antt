@@ -1,6 +1,6 @@
 -- States that a request to inline a constant always has an answer: for each text, some list of
 -- edits is right. The statement rests on an assumption about well-typed texts
--- (`WellTypedTextsAreRead`).
+-- (`WellTypedTextsCanBeParsed`).
 -- Rule: docs/PROTOCOL.md, Requests on documents 9.
 use Rattle.std.specs.Prelude.{ℕ, List}
 use Rattle.ob0_text.specs.declared.position_types.Position.{Position}
@@ -9,20 +9,20 @@ use Rattle.ob0_analysis.specs.Analysed.{IsParsedWellTypedModule}
 use Rattle.ob0_analysis.specs.Texts.{utf8}
 use Rattle.ob0_world_rules.specs.Asks.{inline_here, inline_all}
 use Rattle.ob0_world_rules.specs.Language.{WellTypedText}
-use Rattle.ob0_world_rules.specs.Laws.{HasAnswers}
+use Rattle.ob0_world_rules.specs.Laws.{AlwaysHasAnswer}
 
 -- States that the parser accepts each well-typed text: the text is read as some parsed module.
-abbrev pub WellTypedTextsAreRead : Type 0
-WellTypedTextsAreRead = (text : List ℕ) → WellTypedText text → (m : ParsedModule) × IsParsedWellTypedModule (utf8 text) m
+abbrev pub WellTypedTextsCanBeParsed : Type 0
+WellTypedTextsCanBeParsed = (text : List ℕ) → WellTypedText text → (m : ParsedModule) × IsParsedWellTypedModule (utf8 text) m
 
 -- States that a request to inline a constant at a use has an answer for each text, unit and
--- position, on the assumption (`WellTypedTextsAreRead`) that the parser accepts each well-typed text.
--- `HasAnswers` is a double negation: it says that an answer can't be missing.
-abbrev pub InliningHereHasAnswers : Type 0
-InliningHereHasAnswers = WellTypedTextsAreRead → (position : Position) → HasAnswers (inline_here position)
+-- position, if the parser accepts each well-typed text (`WellTypedTextsCanBeParsed`).
+-- `AlwaysHasAnswer` is a double negation: it says that an answer can't be missing.
+abbrev pub InliningHereAlwaysHasAnswer : Type 0
+InliningHereAlwaysHasAnswer = WellTypedTextsCanBeParsed → (position : Position) → AlwaysHasAnswer (inline_here position)
 
 -- States that a request to inline a constant everywhere has an answer for each text, unit and
--- position, on the assumption (`WellTypedTextsAreRead`) that the parser accepts each well-typed text.
--- `HasAnswers` is a double negation: it says that an answer can't be missing.
-abbrev pub InliningEverywhereHasAnswers : Type 0
-InliningEverywhereHasAnswers = WellTypedTextsAreRead → (position : Position) → HasAnswers (inline_all position)
+-- position, if the parser accepts each well-typed text (`WellTypedTextsCanBeParsed`).
+-- `AlwaysHasAnswer` is a double negation: it says that an answer can't be missing.
+abbrev pub InliningEverywhereAlwaysHasAnswer : Type 0
+InliningEverywhereAlwaysHasAnswer = WellTypedTextsCanBeParsed → (position : Position) → AlwaysHasAnswer (inline_all position)

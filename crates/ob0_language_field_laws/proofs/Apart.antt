@@ -10,7 +10,7 @@ use Rattle.ob0_tree.specs.declared.tree.MultiplyOperator.{MultiplyOperator}
 use Rattle.ob0_tree.specs.declared.tree.MultiplyOperator.TheVariants as multiply_operator
 use Rattle.ob0_language_names.specs.Names.{Name, same_name}
 use Rattle.ob0_language_types.specs.Expressions.{Object, a_constant, a_procedure, a_standard, a_type, a_variable, read_procedure}
-use Rattle.ob0_language_types.specs.Typing.{addition_type, negation_type, constant_of, depth, field_depth, field_scalars, field_type, multiplication_type, type_of_variable_or_constant, relation_type, scalars, shape_of_field, sign_type, type_of_name, value_type, prepend_fields, type_within_limits}
+use Rattle.ob0_language_types.specs.Typing.{addition_type, negation_type, constant_of, depth, field_depth, field_scalars, field_type, multiplication_type, type_of_variable_or_constant, relation_type, scalars, shape_of_field, sign_type, type_of_type_object, value_type, prepend_fields, type_within_limits}
 use Rattle.ob0_language_types.specs.WellTyped.{FormalParameter, Signature, TypeMeanings, same_known_shape, same_fields, same_shape, signature_of}
 use Rattle.ob0_language_values.specs.Values.{FieldShapes, Shape, Value, array_shape, boolean_shape, integer_shape, next_field_shape, no_field_shape, number, record_shape}
 use Rattle.ob0_language_fields.specs.Fields.{FieldRenaming, record_ordinal}
@@ -173,9 +173,9 @@ pub constant_of-by : (l : FieldRenaming) (o : Option (Object Shape Signature)) �
 constant_of-by l (Some (a_type s)) = refl
 constant_of-by l _ = refl
 
-pub type_of_name-by : (l : FieldRenaming) (o : Option (Object Shape Signature)) → type_of_name (option_map (object_by l) o) ≡ option_map (shape_by l) (type_of_name o)
-type_of_name-by l (Some (a_type s)) = refl
-type_of_name-by l _ = refl
+pub type_of_type_object-by : (l : FieldRenaming) (o : Option (Object Shape Signature)) → type_of_type_object (option_map (object_by l) o) ≡ option_map (shape_by l) (type_of_type_object o)
+type_of_type_object-by l (Some (a_type s)) = refl
+type_of_type_object-by l _ = refl
 
 pub signature_of-by : (l : FieldRenaming) (o : Option (Object Shape Signature)) → signature_of (option_map (object_by l) o) ≡ option_map (map (formal_by l)) (signature_of o)
 signature_of-by l (Some (a_standard read_procedure)) = refl

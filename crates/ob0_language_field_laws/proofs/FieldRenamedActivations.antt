@@ -3,11 +3,11 @@ use Rattle.std.proofs.Common.{◌≡◌, ℕ, zero, suc, ◌+◌, true, false, L
 use Rattle.std.proofs.lemmas.List.{length-map, map-append}
 use Rattle.ob0_tree.specs.Tree.{Tree, block, body, constant, constants, declares, declares_constant, declares_type, declares_variable, end, expression, further_section, forms_block, item, items, maybe, more, procedure, then_section, type_definition, type_definitions, variable, variables, written_type}
 use Rattle.ob0_language_names.specs.Names.{Name, naming_by_spelling, same_name}
-use Rattle.ob0_language_names.specs.Parts.{names_in_list, procedure_formals, procedure_name, section_constants, section_type, section_types, section_variables}
+use Rattle.ob0_language_names.specs.Parts.{names_in_list, procedure_formals, procedure_name, section_constants, parameter_section_type, section_types, section_variables}
 use Rattle.ob0_language_types.specs.Declarations.{constructors_before_variables, constructors_before_procedures, declare_constants, declare_types, procedure_constructor_count}
 use Rattle.ob0_language_types.specs.Environments.{environment_from_binding, meanings, newest_object}
 use Rattle.ob0_language_types.specs.Expressions.{Object, a_constant, a_procedure, a_standard, a_type, a_variable}
-use Rattle.ob0_language_types.specs.Typing.{constant_of, constant_value, constructor_count, denoted_type, type_of_name}
+use Rattle.ob0_language_types.specs.Typing.{constant_of, constant_value, constructor_count, denoted_type, type_of_type_object}
 use Rattle.ob0_language_types.specs.WellTyped.{Mode, TypeEnvironment, bind_typed_parameters, by_place, by_value}
 use Rattle.ob0_language_values.specs.Values.{FieldShapes, Shape, Store, Value, array_shape, copies, elements, initial_value, initial_members, members, next_field_shape, next_member, next_value, no_field_shape, record_shape}
 use Rattle.ob0_language_runs.specs.Runs.{Activation, ProcedureText, Frame, Parameter, allocate, bind_parameter, bind_parameters, declare_block, declare_procedures, declare_variables, formal_modes, parameters, object_for_statements, meanings_for_statements, declare_procedures_in_frame}
@@ -16,7 +16,7 @@ use Rattle.ob0_language_fields.proofs.MeaningsByName.{named}
 use Rattle.ob0_language_field_laws.proofs.Apart.{fields_by, shape_by}
 use Rattle.ob0_language_field_laws.proofs.FieldRenamedExecution.{Given, Modes, argument_by, place_given, value_given}
 use Rattle.ob0_language_field_laws.proofs.FieldRenamedExpressions.{Scalar, Thing, Things, active, constant_thing, procedure_thing, scalar_value, standard_thing, thing_by, type_thing, variable_thing}
-use Rattle.ob0_language_field_laws.proofs.FieldRenamedModules.{procedure_constructor_count-rename_fields, procedure_formals-rename_fields, procedure_name-rename_fields, section_mode-rename_fields, section_names-rename_fields, section_types-rename_fields, section_variables-rename_fields, types_count-rename_fields, variables_count-rename_fields}
+use Rattle.ob0_language_field_laws.proofs.FieldRenamedModules.{procedure_constructor_count-rename_fields, procedure_formals-rename_fields, procedure_name-rename_fields, section_mode-rename_fields, parameter_section_names-rename_fields, section_types-rename_fields, section_variables-rename_fields, types_count-rename_fields, variables_count-rename_fields}
 use Rattle.ob0_language_field_laws.proofs.FieldRenamedTypes.{constant_value-alike, constructor_count-rename_fields, denoted_type-rename_fields}
 use Rattle.ob0_language_field_laws.proofs.ScalarConstants.{constant_value-scalar}
 use Rattle.ob0_language_field_laws.proofs.Values.{Spot, members_by, store_by, tagged, value_by, values_by}
@@ -64,7 +64,7 @@ object-as l scene x = ap newest_object (environment_from_binding-as l scene x) �
 
 pub formal_modes-rename_fields : (l : FieldRenaming) (k : ℕ) (fs : Tree Name (items further_section)) → formal_modes (rename_fields_in_sections l k fs) ≡ formal_modes fs
 formal_modes-rename_fields l k end = refl
-formal_modes-rename_fields l k (more (then_section f) fs) = λ i. map (λ x. section_mode-rename_fields l k f i) (section_names-rename_fields l k f i) ++ formal_modes-rename_fields l (k + constructor_count (section_type f)) fs i
+formal_modes-rename_fields l k (more (then_section f) fs) = λ i. map (λ x. section_mode-rename_fields l k f i) (parameter_section_names-rename_fields l k f i) ++ formal_modes-rename_fields l (k + constructor_count (parameter_section_type f)) fs i
 
 abbrev pub thing_modes : Thing Text → Thing Modes
 thing_modes (type_thing s) = type_thing s
@@ -99,15 +99,15 @@ constant-as : (l : FieldRenaming) (o : Option (Thing Text)) → constant_of (opt
 constant-as l (Some (type_thing s)) = refl
 constant-as l _ = refl
 
-type-as : (l : FieldRenaming) (o : Option (Thing Text)) → type_of_name (option_map (thing_by l (code_by l)) o) ≡ option_map (shape_by l) (type_of_name (option_map bare_object o))
+type-as : (l : FieldRenaming) (o : Option (Thing Text)) → type_of_type_object (option_map (thing_by l (code_by l)) o) ≡ option_map (shape_by l) (type_of_type_object (option_map bare_object o))
 type-as l (Some (type_thing s)) = refl
 type-as l _ = refl
 
 pub constants-as : (l : FieldRenaming) (scene : Scene) (x : Name) → constant_of (newest_object (environment_from_binding naming_by_spelling (env_as l scene) x)) ≡ constant_of (objects_in scene x)
 constants-as l scene x = ap constant_of (object-as l scene x) ∙ constant-as l (newest_thing (scene_from scene x))
 
-pub types-as : (l : FieldRenaming) (scene : Scene) (x : Name) → type_of_name (newest_object (environment_from_binding naming_by_spelling (env_as l scene) x)) ≡ option_map (shape_by l) (type_of_name (objects_in scene x))
-types-as l scene x = ap type_of_name (object-as l scene x) ∙ type-as l (newest_thing (scene_from scene x))
+pub types-as : (l : FieldRenaming) (scene : Scene) (x : Name) → type_of_type_object (newest_object (environment_from_binding naming_by_spelling (env_as l scene) x)) ≡ option_map (shape_by l) (type_of_type_object (objects_in scene x))
+types-as l scene x = ap type_of_type_object (object-as l scene x) ∙ type-as l (newest_thing (scene_from scene x))
 
 pub value-as : (l : FieldRenaming) (scene : Scene) (e : Tree Name expression) → constant_value (meanings naming_by_spelling (env_as l scene)) e ≡ constant_value (named (objects_in scene)) e
 value-as l scene e = constant_value-alike (λ x. newest_object (environment_from_binding naming_by_spelling (env_as l scene) x)) (objects_in scene) (constants-as l scene) e
@@ -283,7 +283,7 @@ declare_block-both l checked k (forms_block (declares cs ts vs ps) statements) f
 
 pub parameters-rename_fields : (l : FieldRenaming) (k : ℕ) (fs : Tree Name (items further_section)) → parameters (rename_fields_in_sections l k fs) ≡ parameters fs
 parameters-rename_fields l k end = refl
-parameters-rename_fields l k (more (then_section f) fs) = λ i. map (λ x. record { mode = section_mode-rename_fields l k f i; name = x }) (section_names-rename_fields l k f i) ++ parameters-rename_fields l (k + constructor_count (section_type f)) fs i
+parameters-rename_fields l k (more (then_section f) fs) = λ i. map (λ x. record { mode = section_mode-rename_fields l k f i; name = x }) (parameter_section_names-rename_fields l k f i) ++ parameters-rename_fields l (k + constructor_count (parameter_section_type f)) fs i
 
 bind_parameter-both : (l : FieldRenaming) (m : Mode) (x : Name) (a : Given) (f : Stage) → FramesBoth l (bind_parameter m x (argument_by tagged a) (frame_by tagged f)) (bind_parameter m x (argument_by l a) (frame_by l f))
 bind_parameter-both l by_place x (place_given p) f = (Some record { scene = (x, variable_thing p) ∷ f.scene; store = f.store }, refl, refl)

@@ -2,12 +2,12 @@
 use Rattle.std.proofs.Common.{◌≡◌, ℕ, zero, suc, ◌-◌, List, [], ◌∷◌, map, ℤ, ◌⊎◌, inl, inr, true, false, Some, None, Option, option_map, sym, refl, ap, subst₂}
 use Rattle.ob0_tree.specs.Tree.{Tree, assigns, branches, calls, else_branch, else_part, elsif_branch, elsif_part, empty, end, expression, further_statement, items, maybe, more, none, one, repeat_loop, runs, selector, sequence, statement, then_statement, while_loop}
 use Rattle.ob0_language_names.specs.Names.{Name}
-use Rattle.ob0_language_types.specs.Arguments.{arguments_listed}
+use Rattle.ob0_language_types.specs.Arguments.{call_arguments}
 use Rattle.ob0_language_types.specs.Expressions.{designated_place, evaluate, read_procedure, write_procedure, write_line_procedure}
 use Rattle.ob0_language_types.specs.Typing.{lone_designator, type_of_variable_or_constant}
 use Rattle.ob0_language_types.specs.WellTyped.{Mode, TypeMeanings, by_place, by_value}
 use Rattle.ob0_language_values.specs.Values.{Outcome, Store, Stuck, TurnBound, Value, ends_run_with, succeeds_with, number, or_stuck, truth, write_place, ◌>>=◌}
-use Rattle.ob0_language_runs.specs.Runs.{Argument, CallFunction, Progress, State, choose_by_truth, evaluate_argument, evaluate_arguments, execute, execute_sequence, execute_else, execute_elsifs, execute_further_statements, continue_with, line_out, modes_of, number_out, perform_call, place_argument, append_output, read_number, running, stopped, store_at, execute_while, execute_repeat, use_result, value_argument}
+use Rattle.ob0_language_runs.specs.Runs.{Argument, CallFunction, Progress, State, choose_by_truth, evaluate_argument, evaluate_arguments, execute, execute_sequence, execute_else, execute_elsifs, execute_further_statements, continue_with, line_out, argument_modes_of, number_out, perform_call, place_argument, append_output, read_number, running, stopped, store_at, execute_while, execute_repeat, continue_with_result, value_argument}
 use Rattle.ob0_language_fields.specs.Fields.{FieldRenaming, rename_fields}
 use Rattle.ob0_language_field_laws.specs.FieldLaws.{KeepsFieldsDistinct}
 use Rattle.ob0_language_field_laws.proofs.Outcomes.{Follows, ValuesFollow, follows-then, or_stuck-follows}
@@ -27,15 +27,15 @@ Goes l (stopped e out) p = (e ≡ Stuck) ⊎ (p ≡ stopped e out)
 abbrev pub Alike : FieldRenaming → (State → Progress) → (State → Progress) → Type 0
 Alike l n₁ n₂ = (s : State) → Goes l (n₁ (state_by tagged s)) (n₂ (state_by l s))
 
-pub use_result-goes : {A X Y : Type 0} (l : FieldRenaming) (f : A → X) (g : A → Y) (s : State) (o₁ : Outcome X) (o₂ : Outcome Y) (n₁ : X → Progress) (n₂ : Y → Progress)
-    → Follows f g o₁ o₂ → ((a : A) → Goes l (n₁ (f a)) (n₂ (g a))) → Goes l (use_result (state_by tagged s) o₁ n₁) (use_result (state_by l s) o₂ n₂)
-use_result-goes l f g s (succeeds_with x) (succeeds_with y) n₁ n₂ h each = subst₂ (λ x y. Goes l (n₁ x) (n₂ y)) (sym h.1) (sym h.2) (each h.0)
-use_result-goes l f g s (succeeds_with x) (ends_run_with e) n₁ n₂ h each = absurd h
-use_result-goes l f g s (ends_run_with e) o₂ n₁ n₂ h each = go h
+pub continue_with_result-goes : {A X Y : Type 0} (l : FieldRenaming) (f : A → X) (g : A → Y) (s : State) (o₁ : Outcome X) (o₂ : Outcome Y) (n₁ : X → Progress) (n₂ : Y → Progress)
+    → Follows f g o₁ o₂ → ((a : A) → Goes l (n₁ (f a)) (n₂ (g a))) → Goes l (continue_with_result (state_by tagged s) o₁ n₁) (continue_with_result (state_by l s) o₂ n₂)
+continue_with_result-goes l f g s (succeeds_with x) (succeeds_with y) n₁ n₂ h each = subst₂ (λ x y. Goes l (n₁ x) (n₂ y)) (sym h.1) (sym h.2) (each h.0)
+continue_with_result-goes l f g s (succeeds_with x) (ends_run_with e) n₁ n₂ h each = absurd h
+continue_with_result-goes l f g s (ends_run_with e) o₂ n₁ n₂ h each = go h
   where
-    go : (e ≡ Stuck) ⊎ (o₂ ≡ ends_run_with e) → (e ≡ Stuck) ⊎ (use_result (state_by l s) o₂ n₂ ≡ stopped e s.output)
+    go : (e ≡ Stuck) ⊎ (o₂ ≡ ends_run_with e) → (e ≡ Stuck) ⊎ (continue_with_result (state_by l s) o₂ n₂ ≡ stopped e s.output)
     go (inl p) = inl p
-    go (inr q) = inr (ap (λ o. use_result (state_by l s) o n₂) q)
+    go (inr q) = inr (ap (λ o. continue_with_result (state_by l s) o n₂) q)
 
 pub go_on-goes : (l : FieldRenaming) (p₁ p₂ : Progress) (n₁ n₂ : State → Progress) → Goes l p₁ p₂ → Alike l n₁ n₂ → Goes l (continue_with p₁ n₁) (continue_with p₂ n₂)
 go_on-goes l (running s₁) (running s₂) n₁ n₂ h alike = subst₂ (λ x y. Goes l (n₁ x) (n₂ y)) (sym h.1) (sym h.2) (alike h.0)
@@ -61,28 +61,28 @@ Conditions l c₁ c₂ = (s : State) → ValuesFollow l (c₁ (state_by tagged s
 
 pub execute_while-alike : (l : FieldRenaming) (t : ℕ) (c₁ c₂ : State → Outcome Value) (n₁ n₂ : State → Progress) → Conditions l c₁ c₂ → Alike l n₁ n₂ → Alike l (execute_while t c₁ n₁) (execute_while t c₂ n₂)
 execute_while-alike l zero c₁ c₂ n₁ n₂ conditions alike s =
-    use_result-goes l (value_by tagged) (value_by l) s (c₁ (state_by tagged s)) (c₂ (state_by l s)) (λ v. choose_by_truth (state_by tagged s) v (λ s'. stopped TurnBound s'.output) running) (λ v. choose_by_truth (state_by l s) v (λ s'. stopped TurnBound s'.output) running) (conditions s)
+    continue_with_result-goes l (value_by tagged) (value_by l) s (c₁ (state_by tagged s)) (c₂ (state_by l s)) (λ v. choose_by_truth (state_by tagged s) v (λ s'. stopped TurnBound s'.output) running) (λ v. choose_by_truth (state_by l s) v (λ s'. stopped TurnBound s'.output) running) (conditions s)
     (λ v. choose_by_truth-goes l s v (λ s'. stopped TurnBound s'.output) (λ s'. stopped TurnBound s'.output) running running (λ s'. inr refl) (runs-on l))
 execute_while-alike l (suc t) c₁ c₂ n₁ n₂ conditions alike s =
-    use_result-goes l (value_by tagged) (value_by l) s (c₁ (state_by tagged s)) (c₂ (state_by l s)) (λ v. choose_by_truth (state_by tagged s) v (λ s'. continue_with (n₁ s') (execute_while t c₁ n₁)) running) (λ v. choose_by_truth (state_by l s) v (λ s'. continue_with (n₂ s') (execute_while t c₂ n₂)) running) (conditions s)
+    continue_with_result-goes l (value_by tagged) (value_by l) s (c₁ (state_by tagged s)) (c₂ (state_by l s)) (λ v. choose_by_truth (state_by tagged s) v (λ s'. continue_with (n₁ s') (execute_while t c₁ n₁)) running) (λ v. choose_by_truth (state_by l s) v (λ s'. continue_with (n₂ s') (execute_while t c₂ n₂)) running) (conditions s)
     (λ v. choose_by_truth-goes l s v (λ s'. continue_with (n₁ s') (execute_while t c₁ n₁)) (λ s'. continue_with (n₂ s') (execute_while t c₂ n₂)) running running
     (λ s'. go_on-goes l (n₁ (state_by tagged s')) (n₂ (state_by l s')) (execute_while t c₁ n₁) (execute_while t c₂ n₂) (alike s') (execute_while-alike l t c₁ c₂ n₁ n₂ conditions alike)) (runs-on l))
 
 pub execute_repeat-alike : (l : FieldRenaming) (t : ℕ) (c₁ c₂ : State → Outcome Value) (n₁ n₂ : State → Progress) → Conditions l c₁ c₂ → Alike l n₁ n₂ → Alike l (execute_repeat t c₁ n₁) (execute_repeat t c₂ n₂)
 execute_repeat-alike l zero c₁ c₂ n₁ n₂ conditions alike s =
-    go_on-goes l (n₁ (state_by tagged s)) (n₂ (state_by l s)) (λ s'. use_result s' (c₁ s') (λ v. choose_by_truth s' v running (λ s''. stopped TurnBound s''.output))) (λ s'. use_result s' (c₂ s') (λ v. choose_by_truth s' v running (λ s''. stopped TurnBound s''.output))) (alike s)
-    (λ s'. use_result-goes l (value_by tagged) (value_by l) s' (c₁ (state_by tagged s')) (c₂ (state_by l s')) (λ v. choose_by_truth (state_by tagged s') v running (λ s''. stopped TurnBound s''.output)) (λ v. choose_by_truth (state_by l s') v running (λ s''. stopped TurnBound s''.output)) (conditions s')
+    go_on-goes l (n₁ (state_by tagged s)) (n₂ (state_by l s)) (λ s'. continue_with_result s' (c₁ s') (λ v. choose_by_truth s' v running (λ s''. stopped TurnBound s''.output))) (λ s'. continue_with_result s' (c₂ s') (λ v. choose_by_truth s' v running (λ s''. stopped TurnBound s''.output))) (alike s)
+    (λ s'. continue_with_result-goes l (value_by tagged) (value_by l) s' (c₁ (state_by tagged s')) (c₂ (state_by l s')) (λ v. choose_by_truth (state_by tagged s') v running (λ s''. stopped TurnBound s''.output)) (λ v. choose_by_truth (state_by l s') v running (λ s''. stopped TurnBound s''.output)) (conditions s')
     (λ v. choose_by_truth-goes l s' v running running (λ s''. stopped TurnBound s''.output) (λ s''. stopped TurnBound s''.output) (runs-on l) (λ s''. inr refl)))
 execute_repeat-alike l (suc t) c₁ c₂ n₁ n₂ conditions alike s =
-    go_on-goes l (n₁ (state_by tagged s)) (n₂ (state_by l s)) (λ s'. use_result s' (c₁ s') (λ v. choose_by_truth s' v running (execute_repeat t c₁ n₁))) (λ s'. use_result s' (c₂ s') (λ v. choose_by_truth s' v running (execute_repeat t c₂ n₂))) (alike s)
-    (λ s'. use_result-goes l (value_by tagged) (value_by l) s' (c₁ (state_by tagged s')) (c₂ (state_by l s')) (λ v. choose_by_truth (state_by tagged s') v running (execute_repeat t c₁ n₁)) (λ v. choose_by_truth (state_by l s') v running (execute_repeat t c₂ n₂)) (conditions s')
+    go_on-goes l (n₁ (state_by tagged s)) (n₂ (state_by l s)) (λ s'. continue_with_result s' (c₁ s') (λ v. choose_by_truth s' v running (execute_repeat t c₁ n₁))) (λ s'. continue_with_result s' (c₂ s') (λ v. choose_by_truth s' v running (execute_repeat t c₂ n₂))) (alike s)
+    (λ s'. continue_with_result-goes l (value_by tagged) (value_by l) s' (c₁ (state_by tagged s')) (c₂ (state_by l s')) (λ v. choose_by_truth (state_by tagged s') v running (execute_repeat t c₁ n₁)) (λ v. choose_by_truth (state_by l s') v running (execute_repeat t c₂ n₂)) (conditions s')
     (λ v. choose_by_truth-goes l s' v running running (execute_repeat t c₁ n₁) (execute_repeat t c₂ n₂) (runs-on l) (execute_repeat-alike l t c₁ c₂ n₁ n₂ conditions alike)))
 
 -- Storing a value at a place does the same in both runs.
 
 pub store_at-goes : (l : FieldRenaming) → KeepsFieldsDistinct l → (s : State) (p : Spot) (v : Value) → Goes l (store_at (state_by tagged s) (place_by tagged p) (value_by tagged v)) (store_at (state_by l s) (place_by l p) (value_by l v))
 store_at-goes l apart s p v =
-    use_result-goes l (store_by tagged) (store_by l) s (or_stuck (write_place (store_by tagged s.store) (place_by tagged p) (value_by tagged v))) (or_stuck (write_place (store_by l s.store) (place_by l p) (value_by l v)))
+    continue_with_result-goes l (store_by tagged) (store_by l) s (or_stuck (write_place (store_by tagged s.store) (place_by tagged p) (value_by tagged v))) (or_stuck (write_place (store_by l s.store) (place_by l p) (value_by l v)))
     (λ store. running record { store = store; input = s.input; output = s.output }) (λ store. running record { store = store; input = s.input; output = s.output })
     (or_stuck-follows (store_by tagged) (store_by l) (write_place (store_by tagged s.store) (place_by tagged p) (value_by tagged v)) (write_place (store_by l s.store) (place_by l p) (value_by l v)) (write_place-finds l apart s.store p v))
     (λ store. (record { store = store; input = s.input; output = s.output }, refl, refl))
@@ -128,12 +128,12 @@ evaluate_arguments-follows l apart things checked store _ _ = inl refl
 abbrev pub Modes : Type 0
 Modes = List Mode
 
-modes_of-follows : (l : FieldRenaming) (o : Option (Thing Modes)) → Follows (λ ms. ms) (λ ms. ms) (modes_of (option_map (thing_by tagged (λ p. p)) o)) (modes_of (option_map (thing_by l (λ p. p)) o))
-modes_of-follows l (Some (procedure_thing ms)) = (ms, refl, refl)
-modes_of-follows l (Some (standard_thing read_procedure)) = (by_place ∷ [], refl, refl)
-modes_of-follows l (Some (standard_thing write_procedure)) = (by_value ∷ [], refl, refl)
-modes_of-follows l (Some (standard_thing write_line_procedure)) = ([], refl, refl)
-modes_of-follows l _ = inl refl
+argument_modes_of-follows : (l : FieldRenaming) (o : Option (Thing Modes)) → Follows (λ ms. ms) (λ ms. ms) (argument_modes_of (option_map (thing_by tagged (λ p. p)) o)) (argument_modes_of (option_map (thing_by l (λ p. p)) o))
+argument_modes_of-follows l (Some (procedure_thing ms)) = (ms, refl, refl)
+argument_modes_of-follows l (Some (standard_thing read_procedure)) = (by_place ∷ [], refl, refl)
+argument_modes_of-follows l (Some (standard_thing write_procedure)) = (by_value ∷ [], refl, refl)
+argument_modes_of-follows l (Some (standard_thing write_line_procedure)) = ([], refl, refl)
+argument_modes_of-follows l _ = inl refl
 
 read_number-goes : (l : FieldRenaming) → KeepsFieldsDistinct l → (s : State) (p : Spot) (input : List ℤ) → Goes l (read_number (state_by tagged s) (place_by tagged p) input) (read_number (state_by l s) (place_by l p) input)
 read_number-goes l apart s p [] = inr refl
@@ -173,23 +173,23 @@ mutual
       → Alike l (execute (active tagged things) e₁ t (rename_fields tagged checked None a)) (execute (active l things) e₂ t (rename_fields l checked None a))
   execute-alike l apart things checked e₁ e₂ calls-alike t empty s = (s, refl, refl)
   execute-alike l apart things checked e₁ e₂ calls-alike t (assigns x path e) s =
-      use_result-goes l (place_by tagged) (place_by l) s _ _
-      (λ p. use_result (state_by tagged s) (evaluate (active tagged things) (store_by tagged s.store) (rename_fields tagged checked None e)) (store_at (state_by tagged s) p)) (λ p. use_result (state_by l s) (evaluate (active l things) (store_by l s.store) (rename_fields l checked None e)) (store_at (state_by l s) p))
+      continue_with_result-goes l (place_by tagged) (place_by l) s _ _
+      (λ p. continue_with_result (state_by tagged s) (evaluate (active tagged things) (store_by tagged s.store) (rename_fields tagged checked None e)) (store_at (state_by tagged s) p)) (λ p. continue_with_result (state_by l s) (evaluate (active l things) (store_by l s.store) (rename_fields l checked None e)) (store_at (state_by l s) p))
       (designated_place-follows l apart things checked s.store (type_of_variable_or_constant (checked.object_for x)) x path)
-      (λ p. use_result-goes l (value_by tagged) (value_by l) s _ _ (store_at (state_by tagged s) (place_by tagged p)) (store_at (state_by l s) (place_by l p)) (evaluate-follows l apart things checked s.store e) (store_at-goes l apart s p))
+      (λ p. continue_with_result-goes l (value_by tagged) (value_by l) s _ _ (store_at (state_by tagged s) (place_by tagged p)) (store_at (state_by l s) (place_by l p)) (evaluate-follows l apart things checked s.store e) (store_at-goes l apart s p))
   execute-alike l apart things checked e₁ e₂ calls-alike t (calls x es) s =
-      use_result-goes l (map (argument_by tagged)) (map (argument_by l)) s
-      (modes_of (option_map (thing_by tagged (λ p. p)) (things x)) >>= (λ modes. evaluate_arguments (active tagged things) (store_by tagged s.store) modes (arguments_listed (rename_fields tagged checked None es))))
-      (modes_of (option_map (thing_by l (λ p. p)) (things x)) >>= (λ modes. evaluate_arguments (active l things) (store_by l s.store) modes (arguments_listed (rename_fields l checked None es))))
+      continue_with_result-goes l (map (argument_by tagged)) (map (argument_by l)) s
+      (argument_modes_of (option_map (thing_by tagged (λ p. p)) (things x)) >>= (λ modes. evaluate_arguments (active tagged things) (store_by tagged s.store) modes (call_arguments (rename_fields tagged checked None es))))
+      (argument_modes_of (option_map (thing_by l (λ p. p)) (things x)) >>= (λ modes. evaluate_arguments (active l things) (store_by l s.store) modes (call_arguments (rename_fields l checked None es))))
       (λ args. perform_call (option_map (thing_by tagged (λ p. p)) (things x)) (e₁ x) args (state_by tagged s)) (λ args. perform_call (option_map (thing_by l (λ p. p)) (things x)) (e₂ x) args (state_by l s))
-      (follows-then (λ ms. ms) (λ ms. ms) (map (argument_by tagged)) (map (argument_by l)) (modes_of (option_map (thing_by tagged (λ p. p)) (things x))) (modes_of (option_map (thing_by l (λ p. p)) (things x)))
-      (λ modes. evaluate_arguments (active tagged things) (store_by tagged s.store) modes (arguments_listed (rename_fields tagged checked None es))) (λ modes. evaluate_arguments (active l things) (store_by l s.store) modes (arguments_listed (rename_fields l checked None es)))
-      (modes_of-follows l (things x))
+      (follows-then (λ ms. ms) (λ ms. ms) (map (argument_by tagged)) (map (argument_by l)) (argument_modes_of (option_map (thing_by tagged (λ p. p)) (things x))) (argument_modes_of (option_map (thing_by l (λ p. p)) (things x)))
+      (λ modes. evaluate_arguments (active tagged things) (store_by tagged s.store) modes (call_arguments (rename_fields tagged checked None es))) (λ modes. evaluate_arguments (active l things) (store_by l s.store) modes (call_arguments (rename_fields l checked None es)))
+      (argument_modes_of-follows l (things x))
       (λ modes. subst₂ (λ a b. Follows (map (argument_by tagged)) (map (argument_by l)) (evaluate_arguments (active tagged things) (store_by tagged s.store) modes a) (evaluate_arguments (active l things) (store_by l s.store) modes b))
-      (sym (arguments-rename_fields tagged checked es)) (sym (arguments-rename_fields l checked es)) (evaluate_arguments-follows l apart things checked s.store modes (arguments_listed es))))
+      (sym (arguments-rename_fields tagged checked es)) (sym (arguments-rename_fields l checked es)) (evaluate_arguments-follows l apart things checked s.store modes (call_arguments es))))
       (λ args. perform_call-goes l apart (things x) (e₁ x) (e₂ x) (calls-alike x) args s)
   execute-alike l apart things checked e₁ e₂ calls-alike t (branches e statements rest last) s =
-      use_result-goes l (value_by tagged) (value_by l) s _ _
+      continue_with_result-goes l (value_by tagged) (value_by l) s _ _
       (λ v. choose_by_truth (state_by tagged s) v (execute_sequence (active tagged things) e₁ t (rename_fields tagged checked None statements)) (execute_elsifs (active tagged things) e₁ t (rename_fields tagged checked None rest) (execute_else (active tagged things) e₁ t (rename_fields tagged checked None last))))
       (λ v. choose_by_truth (state_by l s) v (execute_sequence (active l things) e₂ t (rename_fields l checked None statements)) (execute_elsifs (active l things) e₂ t (rename_fields l checked None rest) (execute_else (active l things) e₂ t (rename_fields l checked None last))))
       (evaluate-follows l apart things checked s.store e)
@@ -217,7 +217,7 @@ mutual
       → Alike l (execute_elsifs (active tagged things) e₁ t (rename_fields tagged checked None a) n₁) (execute_elsifs (active l things) e₂ t (rename_fields l checked None a) n₂)
   execute_elsifs-alike l apart things checked e₁ e₂ calls-alike t end n₁ n₂ alike s = alike s
   execute_elsifs-alike l apart things checked e₁ e₂ calls-alike t (more (elsif_branch e statements) rest) n₁ n₂ alike s =
-      use_result-goes l (value_by tagged) (value_by l) s _ _
+      continue_with_result-goes l (value_by tagged) (value_by l) s _ _
       (λ v. choose_by_truth (state_by tagged s) v (execute_sequence (active tagged things) e₁ t (rename_fields tagged checked None statements)) (execute_elsifs (active tagged things) e₁ t (rename_fields tagged checked None rest) n₁))
       (λ v. choose_by_truth (state_by l s) v (execute_sequence (active l things) e₂ t (rename_fields l checked None statements)) (execute_elsifs (active l things) e₂ t (rename_fields l checked None rest) n₂))
       (evaluate-follows l apart things checked s.store e)

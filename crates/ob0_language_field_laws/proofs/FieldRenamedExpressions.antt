@@ -6,13 +6,13 @@ use Rattle.ob0_language_names.specs.Names.{Name}
 use Rattle.ob0_language_types.specs.Expressions.{Meanings, Object, StandardProcedure, a_constant, a_procedure, a_standard, a_type, a_variable, designated_place, element_step, evaluate, evaluate_addends, evaluate_factor, evaluate_multipliers, evaluate_simple, evaluate_term, evaluate_selectors, object_place, object_value}
 use Rattle.ob0_language_types.specs.Typing.{type_of_variable_or_constant}
 use Rattle.ob0_language_types.specs.WellTyped.{TypeMeanings}
-use Rattle.ob0_language_values.specs.Values.{Outcome, Place, Shape, Step, Store, Value, add, add_short_circuits, value_at_path, succeeds_with, multiply, multiply_short_circuits, negate, number, or_stuck, part, read_place, apply_relation, apply_sign, truth, ◌>>=◌}
+use Rattle.ob0_language_values.specs.Values.{Outcome, Place, Shape, Step, Store, Value, add, add_short_circuits, value_at_path, succeeds_with, multiply, multiply_short_circuits, negate, number, or_stuck, value_at_step, read_place, apply_relation, apply_sign, truth, ◌>>=◌}
 use Rattle.ob0_language_fields.specs.Fields.{FieldRenaming, type_including_selector, record_ordinal, rename_fields}
 use Rattle.ob0_language_fields.proofs.MeaningsByName.{named}
 use Rattle.ob0_language_field_laws.specs.FieldLaws.{KeepsFieldsDistinct}
 use Rattle.ob0_language_field_laws.proofs.Apart.{shape_by}
 use Rattle.ob0_language_field_laws.proofs.Outcomes.{Follows, ValuesFollow, add-follows, add_short_circuits-by, element_step-follows, follows-then, multiply-follows, multiply_short_circuits-by, negate-follows, or_stuck-follows, apply_relation-follows, settled-follows, apply_sign-follows}
-use Rattle.ob0_language_field_laws.proofs.Values.{Move, Spot, value_at_path-finds, part-finds, place_by, read_place-finds, step_by, store_by, tagged, to_field, value_by}
+use Rattle.ob0_language_field_laws.proofs.Values.{Move, Spot, value_at_path-finds, value_at_step-finds, place_by, read_place-finds, step_by, store_by, tagged, to_field, value_by}
 
 -- the value of a constant: a number or a truth value
 pub data Scalar : Type 0 where
@@ -59,16 +59,16 @@ object_value-follows l apart store _ = inl refl
 abbrev pub PathsFollow : FieldRenaming → Outcome (List Step) → Outcome (List Step) → Type 0
 PathsFollow l = Follows (map (step_by tagged)) (map (step_by l))
 
--- makes a step, and then follows the path that continues from the selected part
+-- makes a step, and then follows the path that continues from the selected element or member
 abbrev pub follow_on : (Value → Outcome (List Step)) → Value → Step → Outcome (List Step)
-follow_on next v s = or_stuck (part v s) >>= (λ w. next w >>= (λ steps. succeeds_with (s ∷ steps)))
+follow_on next v s = or_stuck (value_at_step v s) >>= (λ w. next w >>= (λ steps. succeeds_with (s ∷ steps)))
 
 follow_on-follows : (l : FieldRenaming) → KeepsFieldsDistinct l → (n₁ n₂ : Value → Outcome (List Step)) → ((w : Value) → PathsFollow l (n₁ (value_by tagged w)) (n₂ (value_by l w))) → (v : Value) (m : Move)
     → PathsFollow l (follow_on n₁ (value_by tagged v) (step_by tagged m)) (follow_on n₂ (value_by l v) (step_by l m))
 follow_on-follows l apart n₁ n₂ next v m =
-    follows-then (value_by tagged) (value_by l) (map (step_by tagged)) (map (step_by l)) (or_stuck (part (value_by tagged v) (step_by tagged m))) (or_stuck (part (value_by l v) (step_by l m)))
+    follows-then (value_by tagged) (value_by l) (map (step_by tagged)) (map (step_by l)) (or_stuck (value_at_step (value_by tagged v) (step_by tagged m))) (or_stuck (value_at_step (value_by l v) (step_by l m)))
     (λ w. n₁ w >>= (λ steps. succeeds_with (step_by tagged m ∷ steps))) (λ w. n₂ w >>= (λ steps. succeeds_with (step_by l m ∷ steps)))
-    (or_stuck-follows (value_by tagged) (value_by l) (part (value_by tagged v) (step_by tagged m)) (part (value_by l v) (step_by l m)) (part-finds l apart v m))
+    (or_stuck-follows (value_by tagged) (value_by l) (value_at_step (value_by tagged v) (step_by tagged m)) (value_at_step (value_by l v) (step_by l m)) (value_at_step-finds l apart v m))
     (λ w. follows-then (map (step_by tagged)) (map (step_by l)) (map (step_by tagged)) (map (step_by l)) (n₁ (value_by tagged w)) (n₂ (value_by l w)) (λ steps. succeeds_with (step_by tagged m ∷ steps)) (λ steps. succeeds_with (step_by l m ∷ steps)) (next w)
     (λ moves. (m ∷ moves, refl, refl)))
 

@@ -2,17 +2,17 @@
 use Rattle.std.proofs.Common.{◌≡◌, ℕ, ◌+◌, true, false, ◌&&◌, List, [], ◌∷◌, ◌++◌, map, Some, None, Option, option_map, option_and_then, unwrap_or, refl, ap, ◌∙◌}
 use Rattle.ob0_tree.specs.Tree.{Tree, begins, block, body, constant, declares, declares_constant, declares_procedure, declares_type, declares_types, declares_variable, declares_variables, end, formals, further_section, forms_block, is_module, item, items, maybe, more, no_formals, none, one, procedure, section, then_section, type_definition, type_definitions, value_section, variable, variable_section, variables, written_type}
 use Rattle.ob0_language_names.specs.Names.{Name, naming_by_spelling, same_name}
-use Rattle.ob0_language_names.specs.Parts.{formal_sections, names_in_list, procedure_formals, procedure_name, section_constants, section_names, section_type, section_types, section_variables}
+use Rattle.ob0_language_names.specs.Parts.{formal_sections, names_in_list, procedure_formals, procedure_name, section_constants, parameter_section_names, parameter_section_type, section_types, section_variables}
 use Rattle.ob0_language_types.specs.Declarations.{constructors_before_procedure_block, constructors_before_variables, constructors_before_procedures, block_constructor_count, declare_constants, declare_constants_and_types, declare_types, formals_constructor_count, procedure_constructor_count, procedures_constructor_count, types_constructor_count, variables_constructor_count}
 use Rattle.ob0_language_types.specs.Environments.{environment_from_binding, meanings, newest_object, outermost_environment}
 use Rattle.ob0_language_types.specs.Expressions.{Object, a_constant, a_procedure, a_type, a_variable}
-use Rattle.ob0_language_types.specs.Typing.{constant_of, constant_value, constructor_count, denoted_type, type_of_name}
+use Rattle.ob0_language_types.specs.Typing.{constant_of, constant_value, constructor_count, denoted_type, type_of_type_object}
 use Rattle.ob0_language_types.specs.WellTyped.{Mode, Signature, TypeEnvironment, TypedParameter, bind_names, bind_typed_parameters, block_is_well_typed, body_is_well_typed, declare_typed_variables, passes_type_check, bind_procedure, option_satisfies, procedure_is_well_typed, procedures_are_well_typed, section_mode, sequence_is_well_typed, typed_parameters}
 use Rattle.ob0_language_values.specs.Values.{Shape}
 use Rattle.ob0_language_fields.specs.Fields.{FieldRenaming, environment_after_heading, environment_after_procedures, environment_after_variables, parameters_of, rename_fields, rename_fields_in_block, rename_fields_in_formals, rename_fields_in_procedure, rename_fields_in_procedures, rename_fields_in_section, rename_fields_in_sections, rename_fields_in_type, rename_fields_in_type_section, rename_fields_in_types, rename_fields_in_variable_section, rename_fields_in_variables}
 use Rattle.ob0_language_fields.proofs.MeaningsByName.{named, parameter_of, object_in}
 use Rattle.ob0_language_field_laws.specs.FieldLaws.{KeepsFieldsDistinct, FieldRenamingKeepsTypeCheck}
-use Rattle.ob0_language_field_laws.proofs.Apart.{constant_of-by, each-then, formal_by, map-then, object_by, shape_by, type_of_name-by}
+use Rattle.ob0_language_field_laws.proofs.Apart.{constant_of-by, each-then, formal_by, map-then, object_by, shape_by, type_of_type_object-by}
 use Rattle.ob0_language_field_laws.proofs.FieldRenamedTypes.{constant_value-alike, constructor_count-rename_fields, denoted_type-rename_fields}
 use Rattle.ob0_language_field_laws.proofs.FieldRenamedStatements.{sequence_is_well_typed-rename_fields}
 
@@ -31,8 +31,8 @@ newest_object-by l (b ∷ env) x =
 pub constants-by : (l : FieldRenaming) (env : TypeEnvironment Name) (x : Name) → constant_of (object_in (env_by l env) x) ≡ constant_of (object_in env x)
 constants-by l env x = ap constant_of (newest_object-by l env x) ∙ constant_of-by l (object_in env x)
 
-pub types-by : (l : FieldRenaming) (env : TypeEnvironment Name) (x : Name) → type_of_name (object_in (env_by l env) x) ≡ option_map (shape_by l) (type_of_name (object_in env x))
-types-by l env x = ap type_of_name (newest_object-by l env x) ∙ type_of_name-by l (object_in env x)
+pub types-by : (l : FieldRenaming) (env : TypeEnvironment Name) (x : Name) → type_of_type_object (object_in (env_by l env) x) ≡ option_map (shape_by l) (type_of_type_object (object_in env x))
+types-by l env x = ap type_of_type_object (newest_object-by l env x) ∙ type_of_type_object-by l (object_in env x)
 
 pub denoted_type-by : (l : FieldRenaming) (env : TypeEnvironment Name) (k : ℕ) (t : Tree Name written_type) → denoted_type (meanings naming_by_spelling (env_by l env)) k (rename_fields_in_type l k t) ≡ option_map (shape_by l) (denoted_type (meanings naming_by_spelling env) k t)
 denoted_type-by l env k t = denoted_type-rename_fields l (object_in (env_by l env)) (object_in env) (constants-by l env) (types-by l env) k t
@@ -69,13 +69,13 @@ pub formal_sections-rename_fields : (l : FieldRenaming) (k : ℕ) (fs : Tree Nam
 formal_sections-rename_fields l k (one no_formals) = refl
 formal_sections-rename_fields l k _ = refl
 
-pub section_type-rename_fields : (l : FieldRenaming) (k : ℕ) (f : Tree Name section) → section_type (rename_fields_in_section l k f) ≡ rename_fields_in_type l k (section_type f)
-section_type-rename_fields l k (value_section ns u) = refl
-section_type-rename_fields l k (variable_section ns u) = refl
+pub parameter_section_type-rename_fields : (l : FieldRenaming) (k : ℕ) (f : Tree Name section) → parameter_section_type (rename_fields_in_section l k f) ≡ rename_fields_in_type l k (parameter_section_type f)
+parameter_section_type-rename_fields l k (value_section ns u) = refl
+parameter_section_type-rename_fields l k (variable_section ns u) = refl
 
-pub section_names-rename_fields : (l : FieldRenaming) (k : ℕ) (f : Tree Name section) → section_names (rename_fields_in_section l k f) ≡ section_names f
-section_names-rename_fields l k (value_section ns u) = refl
-section_names-rename_fields l k (variable_section ns u) = refl
+pub parameter_section_names-rename_fields : (l : FieldRenaming) (k : ℕ) (f : Tree Name section) → parameter_section_names (rename_fields_in_section l k f) ≡ parameter_section_names f
+parameter_section_names-rename_fields l k (value_section ns u) = refl
+parameter_section_names-rename_fields l k (variable_section ns u) = refl
 
 pub section_mode-rename_fields : (l : FieldRenaming) (k : ℕ) (f : Tree Name section) → section_mode (rename_fields_in_section l k f) ≡ section_mode f
 section_mode-rename_fields l k (value_section ns u) = refl
@@ -89,8 +89,8 @@ procedure_name-rename_fields l env k (declares_procedure x fs b closing) = refl
 
 -- The number of words ARRAY and RECORD is the same if fields have other names.
 
-pub section_constructors-rename_fields : (l : FieldRenaming) (k : ℕ) (f : Tree Name section) → constructor_count (section_type (rename_fields_in_section l k f)) ≡ constructor_count (section_type f)
-section_constructors-rename_fields l k f = ap constructor_count (section_type-rename_fields l k f) ∙ constructor_count-rename_fields l k (section_type f)
+pub section_constructors-rename_fields : (l : FieldRenaming) (k : ℕ) (f : Tree Name section) → constructor_count (parameter_section_type (rename_fields_in_section l k f)) ≡ constructor_count (parameter_section_type f)
+section_constructors-rename_fields l k f = ap constructor_count (parameter_section_type-rename_fields l k f) ∙ constructor_count-rename_fields l k (parameter_section_type f)
 
 pub types_constructor_count-rename_fields : (l : FieldRenaming) (k : ℕ) (ds : Tree Name (items type_definition)) → types_constructor_count (rename_fields_in_types l k ds) ≡ types_constructor_count ds
 types_constructor_count-rename_fields l k end = refl
@@ -102,7 +102,7 @@ variables_constructor_count-rename_fields l k (more (declares_variable ns u) gs)
 
 pub sections_constructors-rename_fields : (l : FieldRenaming) (k : ℕ) (fs : Tree Name (items further_section)) → formals_constructor_count (rename_fields_in_sections l k fs) ≡ formals_constructor_count fs
 sections_constructors-rename_fields l k end = refl
-sections_constructors-rename_fields l k (more (then_section f) fs) = λ i. section_constructors-rename_fields l k f i + sections_constructors-rename_fields l (k + constructor_count (section_type f)) fs i
+sections_constructors-rename_fields l k (more (then_section f) fs) = λ i. section_constructors-rename_fields l k f i + sections_constructors-rename_fields l (k + constructor_count (parameter_section_type f)) fs i
 
 pub types_count-rename_fields : (l : FieldRenaming) (k : ℕ) (ts : Tree Name (maybe type_definitions)) → types_constructor_count (section_types (rename_fields_in_type_section l k ts)) ≡ types_constructor_count (section_types ts)
 types_count-rename_fields l k ts = ap types_constructor_count (section_types-rename_fields l k ts) ∙ types_constructor_count-rename_fields l k (section_types ts)
@@ -167,17 +167,17 @@ pub typed_parameters-by : (l : FieldRenaming) (env : TypeEnvironment Name) (k : 
 unfolding typed_parameters
 typed_parameters-by l env k end = refl
 typed_parameters-by l env k (more (then_section f) fs) =
-    (λ i. option_and_then (λ s. option_and_then (λ rest. Some (map (parameter_of (section_mode-rename_fields l k f i) s) (section_names-rename_fields l k f i) ++ rest))
-    (typed_parameters naming_by_spelling (bind_names (section_names-rename_fields l k f i) (a_variable s) (env_by l env)) (k + section_constructors-rename_fields l k f i) (rename_fields_in_sections l (k + constructor_count (section_type f)) fs))) (denoted_type (meanings naming_by_spelling (env_by l env)) k (section_type-rename_fields l k f i)))
-    ∙ map-then (shape_by l) (map (parameter_by l)) (denoted_type (meanings naming_by_spelling env) k (section_type f)) (denoted_type (meanings naming_by_spelling (env_by l env)) k (rename_fields_in_type l k (section_type f)))
-    (λ s. option_and_then (λ rest. Some (map (parameter_of (section_mode f) s) (section_names f) ++ rest)) (typed_parameters naming_by_spelling (bind_names (section_names f) (a_variable s) env) (k + constructor_count (section_type f)) fs))
-    (λ s. option_and_then (λ rest. Some (map (parameter_of (section_mode f) s) (section_names f) ++ rest)) (typed_parameters naming_by_spelling (bind_names (section_names f) (a_variable s) (env_by l env)) (k + constructor_count (section_type f)) (rename_fields_in_sections l (k + constructor_count (section_type f)) fs)))
-    (denoted_type-by l env k (section_type f))
-    (λ s. map-then (map (parameter_by l)) (map (parameter_by l)) (typed_parameters naming_by_spelling (bind_names (section_names f) (a_variable s) env) (k + constructor_count (section_type f)) fs)
-    (typed_parameters naming_by_spelling (bind_names (section_names f) (a_variable (shape_by l s)) (env_by l env)) (k + constructor_count (section_type f)) (rename_fields_in_sections l (k + constructor_count (section_type f)) fs))
-    (λ rest. Some (map (parameter_of (section_mode f) s) (section_names f) ++ rest)) (λ rest. Some (map (parameter_of (section_mode f) (shape_by l s)) (section_names f) ++ rest))
-    (ap (λ inner. typed_parameters naming_by_spelling inner (k + constructor_count (section_type f)) (rename_fields_in_sections l (k + constructor_count (section_type f)) fs)) (bind_names-by l (section_names f) (a_variable s) env) ∙ typed_parameters-by l (bind_names (section_names f) (a_variable s) env) (k + constructor_count (section_type f)) fs)
-    (λ rest i. Some (parameters-by l (section_mode f) s (section_names f) rest i)))
+    (λ i. option_and_then (λ s. option_and_then (λ rest. Some (map (parameter_of (section_mode-rename_fields l k f i) s) (parameter_section_names-rename_fields l k f i) ++ rest))
+    (typed_parameters naming_by_spelling (bind_names (parameter_section_names-rename_fields l k f i) (a_variable s) (env_by l env)) (k + section_constructors-rename_fields l k f i) (rename_fields_in_sections l (k + constructor_count (parameter_section_type f)) fs))) (denoted_type (meanings naming_by_spelling (env_by l env)) k (parameter_section_type-rename_fields l k f i)))
+    ∙ map-then (shape_by l) (map (parameter_by l)) (denoted_type (meanings naming_by_spelling env) k (parameter_section_type f)) (denoted_type (meanings naming_by_spelling (env_by l env)) k (rename_fields_in_type l k (parameter_section_type f)))
+    (λ s. option_and_then (λ rest. Some (map (parameter_of (section_mode f) s) (parameter_section_names f) ++ rest)) (typed_parameters naming_by_spelling (bind_names (parameter_section_names f) (a_variable s) env) (k + constructor_count (parameter_section_type f)) fs))
+    (λ s. option_and_then (λ rest. Some (map (parameter_of (section_mode f) s) (parameter_section_names f) ++ rest)) (typed_parameters naming_by_spelling (bind_names (parameter_section_names f) (a_variable s) (env_by l env)) (k + constructor_count (parameter_section_type f)) (rename_fields_in_sections l (k + constructor_count (parameter_section_type f)) fs)))
+    (denoted_type-by l env k (parameter_section_type f))
+    (λ s. map-then (map (parameter_by l)) (map (parameter_by l)) (typed_parameters naming_by_spelling (bind_names (parameter_section_names f) (a_variable s) env) (k + constructor_count (parameter_section_type f)) fs)
+    (typed_parameters naming_by_spelling (bind_names (parameter_section_names f) (a_variable (shape_by l s)) (env_by l env)) (k + constructor_count (parameter_section_type f)) (rename_fields_in_sections l (k + constructor_count (parameter_section_type f)) fs))
+    (λ rest. Some (map (parameter_of (section_mode f) s) (parameter_section_names f) ++ rest)) (λ rest. Some (map (parameter_of (section_mode f) (shape_by l s)) (parameter_section_names f) ++ rest))
+    (ap (λ inner. typed_parameters naming_by_spelling inner (k + constructor_count (parameter_section_type f)) (rename_fields_in_sections l (k + constructor_count (parameter_section_type f)) fs)) (bind_names-by l (parameter_section_names f) (a_variable s) env) ∙ typed_parameters-by l (bind_names (parameter_section_names f) (a_variable s) env) (k + constructor_count (parameter_section_type f)) fs)
+    (λ rest i. Some (parameters-by l (section_mode f) s (parameter_section_names f) rest i)))
 
 -- A block is well-typed exactly if it is with its fields under other names.
 

@@ -6,14 +6,14 @@ use Rattle.ob0_tree.specs.Tree.{Tree, array_type, block, declares, declares_proc
 use Rattle.ob0_language_names.specs.ConsistentNames.{are_distinct, block_has_consistent_names, has_consistent_names, has_distinct_fields, formals_have_distinct_fields, group_field_names, group_has_distinct_fields, further_field_names, groups_have_distinct_fields, is_among, procedure_names, procedure_has_consistent_names, procedures_have_consistent_names, types_have_distinct_fields, variables_have_distinct_fields}
 use Rattle.ob0_language_names.specs.Mapping.{map_names}
 use Rattle.ob0_language_names.specs.Names.{Name, naming_by_spelling, same_name}
-use Rattle.ob0_language_names.specs.Parts.{constant_names, formal_names, formal_sections, further_names, declared_type_names, names_in_list, section_constants, section_type, section_types, section_variables, variable_names}
+use Rattle.ob0_language_names.specs.Parts.{constant_names, formal_names, formal_sections, further_names, declared_type_names, names_in_list, section_constants, parameter_section_type, section_types, section_variables, variable_names}
 use Rattle.ob0_language_types.specs.Declarations.{constructors_before_procedure_block, constructors_before_variables, constructors_before_procedures, procedure_constructor_count}
 use Rattle.ob0_language_types.specs.Environments.{outermost_environment}
 use Rattle.ob0_language_types.specs.Typing.{constructor_count, group_constructor_count}
 use Rattle.ob0_language_types.specs.WellTyped.{TypeEnvironment, bind_typed_parameters}
 use Rattle.ob0_language_fields.specs.Fields.{FieldRenaming, environment_after_heading, environment_after_variables, parameters_of, rename_fields_in_block, rename_fields_in_group, rename_fields_in_groups, rename_fields_in_procedure, rename_fields_in_procedures, rename_fields_in_sections, rename_fields_in_type, rename_fields_in_types, rename_fields_in_variables, rename_fields_in_module}
 use Rattle.ob0_language_field_laws.specs.FieldLaws.{KeepsFieldsDistinct}
-use Rattle.ob0_language_field_laws.proofs.FieldRenamedModules.{formal_sections-rename_fields, procedure_name-rename_fields, section_names-rename_fields, section_type-rename_fields, section_types-rename_fields, section_variables-rename_fields}
+use Rattle.ob0_language_field_laws.proofs.FieldRenamedModules.{formal_sections-rename_fields, procedure_name-rename_fields, parameter_section_names-rename_fields, parameter_section_type-rename_fields, section_types-rename_fields, section_variables-rename_fields}
 
 -- The fields of a record under other names are its fields with their new names.
 
@@ -70,7 +70,7 @@ variables_have_distinct_fields-rename_fields l apart k (more (declares_variable 
 formals_have_distinct_fields-rename_fields : (l : FieldRenaming) → KeepsFieldsDistinct l → (k : ℕ) (fs : Tree Name (items further_section)) → formals_have_distinct_fields (rename_fields_in_sections l k fs) ≡ formals_have_distinct_fields fs
 formals_have_distinct_fields-rename_fields l apart k end = refl
 formals_have_distinct_fields-rename_fields l apart k (more (then_section f) fs) = λ i.
-    (ap has_distinct_fields (section_type-rename_fields l k f) ∙ has_distinct_fields-rename_fields l apart k (section_type f)) i && formals_have_distinct_fields-rename_fields l apart (k + constructor_count (section_type f)) fs i
+    (ap has_distinct_fields (parameter_section_type-rename_fields l k f) ∙ has_distinct_fields-rename_fields l apart k (parameter_section_type f)) i && formals_have_distinct_fields-rename_fields l apart (k + constructor_count (parameter_section_type f)) fs i
 
 declared_type_names-rename_fields : (l : FieldRenaming) (k : ℕ) (ds : Tree Name (items type_definition)) → declared_type_names (rename_fields_in_types l k ds) ≡ declared_type_names ds
 declared_type_names-rename_fields l k end = refl
@@ -82,7 +82,7 @@ variable_names-rename_fields l k (more (declares_variable ns u) gs) = λ i. name
 
 formal_names-rename_fields : (l : FieldRenaming) (k : ℕ) (fs : Tree Name (items further_section)) → formal_names (rename_fields_in_sections l k fs) ≡ formal_names fs
 formal_names-rename_fields l k end = refl
-formal_names-rename_fields l k (more (then_section f) fs) = λ i. section_names-rename_fields l k f i ++ formal_names-rename_fields l (k + constructor_count (section_type f)) fs i
+formal_names-rename_fields l k (more (then_section f) fs) = λ i. parameter_section_names-rename_fields l k f i ++ formal_names-rename_fields l (k + constructor_count (parameter_section_type f)) fs i
 
 procedure_names-rename_fields : (l : FieldRenaming) (env : TypeEnvironment Name) (k : ℕ) (ps : Tree Name (items procedure)) → procedure_names (rename_fields_in_procedures l env k ps) ≡ procedure_names ps
 procedure_names-rename_fields l env k end = refl

@@ -2,7 +2,7 @@
 use Rattle.std.proofs.Common.{◌≡◌, ◌&&◌, List, [], ◌∷◌, map, Some, None, Option, option_map, refl, ap, ◌∙◌}
 use Rattle.ob0_tree.specs.Tree.{Tree, arguments, assigns, branches, calls, compares, designator, else_branch, else_part, elsif_branch, elsif_part, empty, end, expression, further_argument, further_statement, items, maybe, more, none, one, product, repeat_loop, runs, selector, sequence, some_arguments, statement, sum, then_argument, then_statement, while_loop}
 use Rattle.ob0_language_names.specs.Names.{Name}
-use Rattle.ob0_language_types.specs.Arguments.{arguments_listed, further_arguments}
+use Rattle.ob0_language_types.specs.Arguments.{call_arguments, further_arguments}
 use Rattle.ob0_language_types.specs.Expressions.{Object, a_constant, a_procedure, a_standard, a_type, a_variable}
 use Rattle.ob0_language_types.specs.Typing.{lone_designator, type_of_variable_or_constant, type_after_selectors, type_of}
 use Rattle.ob0_language_types.specs.WellTyped.{FormalParameter, Mode, Signature, TypeMeanings, same_known_shape, argument_matches, arguments_match, by_place, by_value, call_is_well_typed, condition_is_boolean, else_is_well_typed, elsifs_are_well_typed, sequence_is_well_typed, signature_of, statement_is_well_typed, further_statements_are_well_typed, variable_type}
@@ -24,7 +24,7 @@ pub further_arguments-rename_fields : (l : FieldRenaming) (meaning : TypeMeaning
 further_arguments-rename_fields l meaning end = refl
 further_arguments-rename_fields l meaning (more (then_argument e) es) = λ i. rename_fields l meaning None e ∷ further_arguments-rename_fields l meaning es i
 
-pub arguments-rename_fields : (l : FieldRenaming) (meaning : TypeMeanings Name) (es : Tree Name (maybe arguments)) → arguments_listed (rename_fields l meaning None es) ≡ map (rename_fields l meaning None) (arguments_listed es)
+pub arguments-rename_fields : (l : FieldRenaming) (meaning : TypeMeanings Name) (es : Tree Name (maybe arguments)) → call_arguments (rename_fields l meaning None es) ≡ map (rename_fields l meaning None) (call_arguments es)
 arguments-rename_fields l meaning (one (some_arguments e es)) = λ i. rename_fields l meaning None e ∷ further_arguments-rename_fields l meaning es i
 arguments-rename_fields l meaning _ = refl
 
@@ -63,10 +63,10 @@ arguments_match-rename_fields l apart objects (f ∷ fs) (e ∷ es) = λ i. argu
 arguments_match-rename_fields l apart objects _ _ = refl
 
 pub call_is_well_typed-rename_fields : (l : FieldRenaming) → KeepsFieldsDistinct l → (objects : Name → Option (Object Shape Signature)) (signature : Option Signature) (es : Tree Name (maybe arguments))
-    → call_is_well_typed (named_by l objects) (option_map (map (formal_by l)) signature) (arguments_listed (rename_fields l (named objects) None es)) ≡ call_is_well_typed (named objects) signature (arguments_listed es)
+    → call_is_well_typed (named_by l objects) (option_map (map (formal_by l)) signature) (call_arguments (rename_fields l (named objects) None es)) ≡ call_is_well_typed (named objects) signature (call_arguments es)
 unfolding call_is_well_typed
 call_is_well_typed-rename_fields l apart objects None es = refl
-call_is_well_typed-rename_fields l apart objects (Some fs) es = ap (arguments_match (named_by l objects) (map (formal_by l) fs)) (arguments-rename_fields l (named objects) es) ∙ arguments_match-rename_fields l apart objects fs (arguments_listed es)
+call_is_well_typed-rename_fields l apart objects (Some fs) es = ap (arguments_match (named_by l objects) (map (formal_by l) fs)) (arguments-rename_fields l (named objects) es) ∙ arguments_match-rename_fields l apart objects fs (call_arguments es)
 
 pub condition_is_boolean-rename_fields : (l : FieldRenaming) → KeepsFieldsDistinct l → (objects : Name → Option (Object Shape Signature)) (e : Tree Name expression) → condition_is_boolean (named_by l objects) (rename_fields l (named objects) None e) ≡ condition_is_boolean (named objects) e
 unfolding condition_is_boolean
@@ -80,7 +80,7 @@ mutual
   statement_is_well_typed-rename_fields l apart objects (assigns x path e) =
       (λ i. same_known_shape (variable_type-rename_fields l apart objects (Some (x, path)) i) (type_of-rename_fields l apart objects e i)) ∙ same_known_shape-by l apart (variable_type (named objects) (Some (x, path))) (type_of (named objects) e)
   statement_is_well_typed-rename_fields l apart objects (calls x es) =
-      ap (λ o. call_is_well_typed (named_by l objects) o (arguments_listed (rename_fields l (named objects) None es))) (signature_of-by l (objects x)) ∙ call_is_well_typed-rename_fields l apart objects (signature_of (objects x)) es
+      ap (λ o. call_is_well_typed (named_by l objects) o (call_arguments (rename_fields l (named objects) None es))) (signature_of-by l (objects x)) ∙ call_is_well_typed-rename_fields l apart objects (signature_of (objects x)) es
   statement_is_well_typed-rename_fields l apart objects (branches e statements rest last) = λ i.
       condition_is_boolean-rename_fields l apart objects e i && (sequence_is_well_typed-rename_fields l apart objects statements i && (elsifs_are_well_typed-rename_fields l apart objects rest i && else_is_well_typed-rename_fields l apart objects last i))
   statement_is_well_typed-rename_fields l apart objects (while_loop e statements) = λ i. condition_is_boolean-rename_fields l apart objects e i && sequence_is_well_typed-rename_fields l apart objects statements i

@@ -7,7 +7,7 @@ use Rattle.ob0_language_names.specs.Names.{Name}
 use Rattle.ob0_language_names.specs.Parts.{further_names, names_in_list}
 use Rattle.ob0_language_names.proofs.SameNames.{map_names-id}
 use Rattle.ob0_language_types.specs.Expressions.{Object}
-use Rattle.ob0_language_types.specs.Typing.{addition_type, array_length, negation_type, constant_of, constant_value, constructor_count, denoted_type, denoted_group_fields, denoted_further_fields, element_type, field_type, group_constructor_count, groups_constructor_count, multiplication_type, type_of_variable_or_constant, relation_type, sign_type, type_after_selectors, type_of, type_of_addends, type_of_factor, type_of_multipliers, type_of_name, type_of_simple, type_of_term, prepend_fields, type_within_limits}
+use Rattle.ob0_language_types.specs.Typing.{addition_type, array_length, negation_type, constant_of, constant_value, constructor_count, denoted_type, denoted_group_fields, denoted_further_fields, element_type, field_type, group_constructor_count, groups_constructor_count, multiplication_type, type_of_variable_or_constant, relation_type, sign_type, type_after_selectors, type_of, type_of_addends, type_of_factor, type_of_multipliers, type_of_type_object, type_of_simple, type_of_term, prepend_fields, type_within_limits}
 use Rattle.ob0_language_types.specs.WellTyped.{Signature}
 use Rattle.ob0_language_types.proofs.TypeNaturality.{constant_value-map}
 use Rattle.ob0_language_values.specs.Values.{FieldShapes, Shape, array_shape, integer_shape, record_shape}
@@ -104,7 +104,7 @@ mutual
   unfolding denoted_type
 
   pub denoted_type-rename_fields : {V P W Q : Type 0} (l : FieldRenaming) (there : Name → Option (Object V P)) (here : Name → Option (Object W Q))
-      → ((x : Name) → constant_of (there x) ≡ constant_of (here x)) → ((x : Name) → type_of_name (there x) ≡ option_map (shape_by l) (type_of_name (here x)))
+      → ((x : Name) → constant_of (there x) ≡ constant_of (here x)) → ((x : Name) → type_of_type_object (there x) ≡ option_map (shape_by l) (type_of_type_object (here x)))
       → (k : ℕ) (t : Tree Name written_type) → denoted_type (named there) k (rename_fields_in_type l k t) ≡ option_map (shape_by l) (denoted_type (named here) k t)
   denoted_type-rename_fields l there here hc ht k (named_type x) = ht x
   denoted_type-rename_fields l there here hc ht k (array_type e t) =
@@ -122,7 +122,7 @@ mutual
       (denoted_group_fields-rename_fields l there here hc ht k (suc k) later g) (λ fs. type_within_limits-by l (record_shape k fs)))
 
   pub denoted_group_fields-rename_fields : {V P W Q : Type 0} (l : FieldRenaming) (there : Name → Option (Object V P)) (here : Name → Option (Object W Q))
-      → ((x : Name) → constant_of (there x) ≡ constant_of (here x)) → ((x : Name) → type_of_name (there x) ≡ option_map (shape_by l) (type_of_name (here x)))
+      → ((x : Name) → constant_of (there x) ≡ constant_of (here x)) → ((x : Name) → type_of_type_object (there x) ≡ option_map (shape_by l) (type_of_type_object (here x)))
       → (r k : ℕ) (later : FieldShapes) (g : Tree Name fields) → denoted_group_fields (named there) k (fields_by l r later) (rename_fields_in_group l r k g) ≡ option_map (fields_by l r) (denoted_group_fields (named here) k later g)
   denoted_group_fields-rename_fields l there here hc ht r k later no_fields = refl
   denoted_group_fields-rename_fields l there here hc ht r k later (some_fields ns t) =
@@ -131,7 +131,7 @@ mutual
       (λ s i. Some (((λ j. prepend_fields (names-rename_fields (l (Some r)) ns j) (shape_by l s) (fields_by l r later)) ∙ prepend_fields-by l r (map (λ x. x) (names_in_list ns)) s later) i))
 
   pub denoted_further_fields-rename_fields : {V P W Q : Type 0} (l : FieldRenaming) (there : Name → Option (Object V P)) (here : Name → Option (Object W Q))
-      → ((x : Name) → constant_of (there x) ≡ constant_of (here x)) → ((x : Name) → type_of_name (there x) ≡ option_map (shape_by l) (type_of_name (here x)))
+      → ((x : Name) → constant_of (there x) ≡ constant_of (here x)) → ((x : Name) → type_of_type_object (there x) ≡ option_map (shape_by l) (type_of_type_object (here x)))
       → (r k : ℕ) (gs : Tree Name (items further_fields)) → denoted_further_fields (named there) k (rename_fields_in_groups l r k gs) ≡ option_map (fields_by l r) (denoted_further_fields (named here) k gs)
   denoted_further_fields-rename_fields l there here hc ht r k end = refl
   denoted_further_fields-rename_fields l there here hc ht r k (more (then_fields g) rest) =

@@ -10,7 +10,7 @@ use Rattle.std.proofs.Math.Dec.{eqb-suc-suc, eqb-zero-suc}
 use Rattle.std.proofs.lemmas.Bool.{eqb-true}
 use Rattle.std.proofs.lemmas.Option.{slice_get-map}
 use Rattle.ob0_language_names.specs.Names.{Name, same_name}
-use Rattle.ob0_language_values.specs.Values.{Members, Place, Step, Store, Value, Values, at_field, at_index, value_at_path, count_values, elements, members, named_member, next_member, next_value, no_member, no_value, nth_value, number, part, read_place, truth, with_value_at_path, with_named_member, with_nth_value, with_part, write_place}
+use Rattle.ob0_language_values.specs.Values.{Members, Place, Step, Store, Value, Values, at_field, at_index, value_at_path, count_values, elements, members, named_member, next_member, next_value, no_member, no_value, nth_value, number, value_at_step, read_place, truth, with_value_at_path, with_named_member, with_nth_value, with_value_at_step, write_place}
 use Rattle.ob0_language_fields.specs.Fields.{FieldRenaming}
 use Rattle.ob0_language_fields.proofs.Bare.{bare}
 use Rattle.ob0_language_field_laws.specs.FieldLaws.{KeepsFieldsDistinct}
@@ -116,10 +116,11 @@ other-tag k no_member o x differs = refl
 other-tag k (next_member y v rest) o x differs =
     ap (λ b. if b then Some (value_by tagged v) else named_member (members_by tagged k rest) (tagged o x)) (differs y) ∙ other-tag k rest o x differs
 
--- holds if a step selects and replaces the same part of a value when its fields have other names
+-- holds if a step selects and replaces the same element or member of a value when its fields have
+-- other names
 pub record Moved (l : FieldRenaming) (v : Value) (m : Move) : Type 0 where
-  pub reached : part (value_by l v) (step_by l m) ≡ option_map (value_by l) (part v (step_by bare m))
-  pub written : (new : Value) → with_part (value_by l v) (step_by l m) (value_by l new) ≡ value_by l (with_part v (step_by bare m) new)
+  pub reached : value_at_step (value_by l v) (step_by l m) ≡ option_map (value_by l) (value_at_step v (step_by bare m))
+  pub written : (new : Value) → with_value_at_step (value_by l v) (step_by l m) (value_by l new) ≡ value_by l (with_value_at_step v (step_by bare m) new)
 
 pub moved-index : (l : FieldRenaming) (vs : Values) (i : ℕ) → Moved l (elements vs) (to_index i)
 moved-index l vs i = record { reached = nth_value-by l vs i; written = λ new. ap elements (with_nth_value-by l vs i new) }
@@ -129,7 +130,7 @@ moved-field l apart k ms x = record { reached = named_member-by l apart k ms x; 
 
 -- holds if the first run finds nothing, or both runs make the step
 abbrev pub Reaches : FieldRenaming → Value → Move → Type 0
-Reaches l v m = (part (value_by tagged v) (step_by tagged m) ≡ None) ⊎ (Moved tagged v m × Moved l v m)
+Reaches l v m = (value_at_step (value_by tagged v) (step_by tagged m) ≡ None) ⊎ (Moved tagged v m × Moved l v m)
 
 pub reaches : (l : FieldRenaming) → KeepsFieldsDistinct l → (v : Value) (m : Move) → Reaches l v m
 reaches l apart (elements vs) (to_index i) = inr (moved-index tagged vs i, moved-index l vs i)
@@ -141,41 +142,41 @@ reaches l apart (members k ms) (to_field (Some j) x) =
     ]) refl
 reaches l apart _ _ = inl refl
 
-pub part-finds : (l : FieldRenaming) → KeepsFieldsDistinct l → (v : Value) (m : Move) → Finds (value_by tagged) (value_by l) (part (value_by tagged v) (step_by tagged m)) (part (value_by l v) (step_by l m))
-part-finds l apart v m = go (reaches l apart v m)
+pub value_at_step-finds : (l : FieldRenaming) → KeepsFieldsDistinct l → (v : Value) (m : Move) → Finds (value_by tagged) (value_by l) (value_at_step (value_by tagged v) (step_by tagged m)) (value_at_step (value_by l v) (step_by l m))
+value_at_step-finds l apart v m = go (reaches l apart v m)
   where
-    go : Reaches l v m → Finds (value_by tagged) (value_by l) (part (value_by tagged v) (step_by tagged m)) (part (value_by l v) (step_by l m))
-    go (inl e) = subst (λ o. Finds (value_by tagged) (value_by l) o (part (value_by l v) (step_by l m))) (sym e) tt
-    go (inr h) = subst₂ (λ o p. Finds (value_by tagged) (value_by l) o p) (sym h.0.reached) (sym h.1.reached) (finds-map (value_by tagged) (value_by l) (part v (step_by bare m)))
+    go : Reaches l v m → Finds (value_by tagged) (value_by l) (value_at_step (value_by tagged v) (step_by tagged m)) (value_at_step (value_by l v) (step_by l m))
+    go (inl e) = subst (λ o. Finds (value_by tagged) (value_by l) o (value_at_step (value_by l v) (step_by l m))) (sym e) tt
+    go (inr h) = subst₂ (λ o p. Finds (value_by tagged) (value_by l) o p) (sym h.0.reached) (sym h.1.reached) (finds-map (value_by tagged) (value_by l) (value_at_step v (step_by bare m)))
 
--- The second run finds a part at a path if the first run finds one.
+-- The second run finds a value at a path if the first run finds one.
 
 pub value_at_path-finds : (l : FieldRenaming) → KeepsFieldsDistinct l → (moves : List Move) (v : Value) → Finds (value_by tagged) (value_by l) (value_at_path (map (step_by tagged) moves) (value_by tagged v)) (value_at_path (map (step_by l) moves) (value_by l v))
 value_at_path-finds l apart [] v = (v, refl, refl)
 value_at_path-finds l apart (m ∷ moves) v =
-    finds-then (value_by tagged) (value_by l) (value_by tagged) (value_by l) (part (value_by tagged v) (step_by tagged m)) (part (value_by l v) (step_by l m)) (value_at_path (map (step_by tagged) moves)) (value_at_path (map (step_by l) moves)) (part-finds l apart v m)
+    finds-then (value_by tagged) (value_by l) (value_by tagged) (value_by l) (value_at_step (value_by tagged v) (step_by tagged m)) (value_at_step (value_by l v) (step_by l m)) (value_at_path (map (step_by tagged) moves)) (value_at_path (map (step_by l) moves)) (value_at_step-finds l apart v m)
     (λ w. value_at_path-finds l apart moves w)
 
--- replaces the rest of a path within one part of a value
+-- replaces the value at the rest of a path within one element or member of a value
 abbrev pub following_part : FieldRenaming → List Move → Value → Value → Move → Option Value → Option Value
-following_part l moves new v m o = option_and_then (λ old. option_map (with_part (value_by l v) (step_by l m)) (with_value_at_path (map (step_by l) moves) (value_by l new) old)) o
+following_part l moves new v m o = option_and_then (λ old. option_map (with_value_at_step (value_by l v) (step_by l m)) (with_value_at_path (map (step_by l) moves) (value_by l new) old)) o
 
 pub with_value_at_path-finds : (l : FieldRenaming) → KeepsFieldsDistinct l → (moves : List Move) (new v : Value)
     → Finds (value_by tagged) (value_by l) (with_value_at_path (map (step_by tagged) moves) (value_by tagged new) (value_by tagged v)) (with_value_at_path (map (step_by l) moves) (value_by l new) (value_by l v))
 with_value_at_path-finds l apart [] new v = (new, refl, refl)
 with_value_at_path-finds l apart (m ∷ moves) new v =
-    go (reaches l apart v m) (part v (step_by bare m)) refl (λ old. with_value_at_path-finds l apart moves new old)
+    go (reaches l apart v m) (value_at_step v (step_by bare m)) refl (λ old. with_value_at_path-finds l apart moves new old)
   where
-    go : Reaches l v m → (o : Option Value) → part v (step_by bare m) ≡ o
+    go : Reaches l v m → (o : Option Value) → value_at_step v (step_by bare m) ≡ o
         → ((old : Value) → Finds (value_by tagged) (value_by l) (with_value_at_path (map (step_by tagged) moves) (value_by tagged new) (value_by tagged old)) (with_value_at_path (map (step_by l) moves) (value_by l new) (value_by l old)))
-        → Finds (value_by tagged) (value_by l) (following_part tagged moves new v m (part (value_by tagged v) (step_by tagged m))) (following_part l moves new v m (part (value_by l v) (step_by l m)))
-    go (inl e) o eo below = subst (λ p. Finds (value_by tagged) (value_by l) (following_part tagged moves new v m p) (following_part l moves new v m (part (value_by l v) (step_by l m)))) (sym e) tt
+        → Finds (value_by tagged) (value_by l) (following_part tagged moves new v m (value_at_step (value_by tagged v) (step_by tagged m))) (following_part l moves new v m (value_at_step (value_by l v) (step_by l m)))
+    go (inl e) o eo below = subst (λ p. Finds (value_by tagged) (value_by l) (following_part tagged moves new v m p) (following_part l moves new v m (value_at_step (value_by l v) (step_by l m)))) (sym e) tt
     go (inr h) None eo below =
-        subst (λ p. Finds (value_by tagged) (value_by l) (following_part tagged moves new v m p) (following_part l moves new v m (part (value_by l v) (step_by l m)))) (sym (h.0.reached ∙ ap (option_map (value_by tagged)) eo)) tt
+        subst (λ p. Finds (value_by tagged) (value_by l) (following_part tagged moves new v m p) (following_part l moves new v m (value_at_step (value_by l v) (step_by l m)))) (sym (h.0.reached ∙ ap (option_map (value_by tagged)) eo)) tt
     go (inr h) (Some old) eo below =
         subst₂ (λ p q. Finds (value_by tagged) (value_by l) (following_part tagged moves new v m p) (following_part l moves new v m q)) (sym (h.0.reached ∙ ap (option_map (value_by tagged)) eo)) (sym (h.1.reached ∙ ap (option_map (value_by l)) eo))
         (finds-made (value_by tagged) (value_by l) (value_by tagged) (value_by l) (with_value_at_path (map (step_by tagged) moves) (value_by tagged new) (value_by tagged old)) (with_value_at_path (map (step_by l) moves) (value_by l new) (value_by l old))
-        (with_part (value_by tagged v) (step_by tagged m)) (with_part (value_by l v) (step_by l m)) (with_part v (step_by bare m)) (below old) h.0.written h.1.written)
+        (with_value_at_step (value_by tagged v) (step_by tagged m)) (with_value_at_step (value_by l v) (step_by l m)) (with_value_at_step v (step_by bare m)) (below old) h.0.written h.1.written)
 
 -- Looking up and replacing variables of the store does the same in both runs.
 

@@ -6,9 +6,9 @@ use Rattle.ob0_language_names.specs.ConsistentNames.{group_field_names, further_
 use Rattle.ob0_language_names.specs.Mapping.{map_names}
 use Rattle.ob0_language_names.specs.Names.{Name, same_name}
 use Rattle.ob0_language_names.specs.Parts.{further_names, names_in_list}
-use Rattle.ob0_language_types.specs.Arguments.{arguments_listed, further_arguments}
+use Rattle.ob0_language_types.specs.Arguments.{call_arguments, further_arguments}
 use Rattle.ob0_language_types.specs.Expressions.{Object, a_constant, a_procedure, a_standard, a_type, a_variable}
-use Rattle.ob0_language_types.specs.Typing.{addition_type, array_length, negation_type, constant_value, denoted_type, denoted_group_fields, denoted_further_fields, depth, lone_designator, element_type, field_type, group_constructor_count, multiplication_type, type_of_variable_or_constant, relation_type, scalars, shape_of_field, sign_type, type_after_selectors, type_of, type_of_addends, type_of_factor, type_of_multipliers, type_of_name, type_of_simple, type_of_term, value_type, prepend_fields, type_within_limits}
+use Rattle.ob0_language_types.specs.Typing.{addition_type, array_length, negation_type, constant_value, denoted_type, denoted_group_fields, denoted_further_fields, depth, lone_designator, element_type, field_type, group_constructor_count, multiplication_type, type_of_variable_or_constant, relation_type, scalars, shape_of_field, sign_type, type_after_selectors, type_of, type_of_addends, type_of_factor, type_of_multipliers, type_of_type_object, type_of_simple, type_of_term, value_type, prepend_fields, type_within_limits}
 use Rattle.ob0_language_types.specs.WellTyped.{FormalParameter, Mode, Signature, TypeMeanings, same_known_shape, argument_matches, arguments_match, by_place, by_value, condition_is_boolean, else_is_well_typed, elsifs_are_well_typed, sequence_is_well_typed, signature_of, statement_is_well_typed, further_statements_are_well_typed, variable_type}
 use Rattle.ob0_language_types.proofs.Conditions.{same_known_shape-true, both_true, call-typed, of_some, same_name-true, variable-typed}
 use Rattle.ob0_language_types.proofs.Literals.{some_inverse}
@@ -98,13 +98,13 @@ type_of_variable_or_constant-agrees p q (Some (a_type t)) s agrees h = absurd (c
 type_of_variable_or_constant-agrees p q (Some (a_procedure t)) s agrees h = absurd (cc)
 type_of_variable_or_constant-agrees p q (Some (a_standard t)) s agrees h = absurd (cc)
 
-pub type_of_name-agrees : (p q : FieldRenaming) (o : Option (Object Shape Signature)) (s : Shape) → OptionAgrees p q o → type_of_name o ≡ Some s → ShapeAgrees p q s
-type_of_name-agrees p q (Some (a_type t)) s agrees h = of_some (ShapeAgrees p q) h agrees
-type_of_name-agrees p q None s agrees h = absurd (cc)
-type_of_name-agrees p q (Some (a_constant t)) s agrees h = absurd (cc)
-type_of_name-agrees p q (Some (a_variable t)) s agrees h = absurd (cc)
-type_of_name-agrees p q (Some (a_procedure t)) s agrees h = absurd (cc)
-type_of_name-agrees p q (Some (a_standard t)) s agrees h = absurd (cc)
+pub type_of_type_object-agrees : (p q : FieldRenaming) (o : Option (Object Shape Signature)) (s : Shape) → OptionAgrees p q o → type_of_type_object o ≡ Some s → ShapeAgrees p q s
+type_of_type_object-agrees p q (Some (a_type t)) s agrees h = of_some (ShapeAgrees p q) h agrees
+type_of_type_object-agrees p q None s agrees h = absurd (cc)
+type_of_type_object-agrees p q (Some (a_constant t)) s agrees h = absurd (cc)
+type_of_type_object-agrees p q (Some (a_variable t)) s agrees h = absurd (cc)
+type_of_type_object-agrees p q (Some (a_procedure t)) s agrees h = absurd (cc)
+type_of_type_object-agrees p q (Some (a_standard t)) s agrees h = absurd (cc)
 
 -- An expression that has a type is the same under two functions that agree on the meanings of its names.
 
@@ -199,7 +199,7 @@ further-alike : (p q : FieldRenaming) (meaning : TypeMeanings Name) (es : Tree N
 further-alike p q meaning end h = refl
 further-alike p q meaning (more (then_argument e) es) h = λ i. more (then_argument (h.0 i)) (further-alike p q meaning es h.1 i)
 
-arguments-alike : (p q : FieldRenaming) (meaning : TypeMeanings Name) (es : Tree Name (maybe arguments)) → EachAlike p q meaning (arguments_listed es) → rename_fields p meaning None es ≡ rename_fields q meaning None es
+arguments-alike : (p q : FieldRenaming) (meaning : TypeMeanings Name) (es : Tree Name (maybe arguments)) → EachAlike p q meaning (call_arguments es) → rename_fields p meaning None es ≡ rename_fields q meaning None es
 arguments-alike p q meaning none h = refl
 arguments-alike p q meaning (one no_arguments) h = refl
 arguments-alike p q meaning (one (some_arguments e es)) h = λ i. one (some_arguments (h.0 i) (further-alike p q meaning es h.1 i))
@@ -221,8 +221,8 @@ mutual
       λ i. assigns x (subst (λ o. rename_fields p (named objects) (type_of_variable_or_constant o) path ≡ rename_fields q (named objects) (type_of_variable_or_constant o) path) (sym ev) (path-alike p q objects known t path s (subst (λ o. OptionAgrees p q o) ev (known x)) h₁) i)
       (expression-alike p q objects known e s et i)
   statement-alike p q objects known (calls x es) h =
-      let (signature, sig, fit) = call-typed (named objects) (signature_of (objects x)) (arguments_listed es) h in
-      λ i. calls x (arguments-alike p q (named objects) es (each-alike p q objects known signature (arguments_listed es) fit) i)
+      let (signature, sig, fit) = call-typed (named objects) (signature_of (objects x)) (call_arguments es) h in
+      λ i. calls x (arguments-alike p q (named objects) es (each-alike p q objects known signature (call_arguments es) fit) i)
   statement-alike p q objects known (branches e statements rest last) h =
       let h₁ = both_true (condition_is_boolean (named objects) e) (sequence_is_well_typed (named objects) statements && (elsifs_are_well_typed (named objects) rest && else_is_well_typed (named objects) last)) h in
       let h₂ = both_true (sequence_is_well_typed (named objects) statements) (elsifs_are_well_typed (named objects) rest && else_is_well_typed (named objects) last) h₁.1 in
@@ -295,7 +295,7 @@ mutual
   unfolding denoted_type
 
   pub denoted_type-agrees : (p q : FieldRenaming) (objects : Name → Option (Object Shape Signature)) → ObjectsAgree p q objects → (k : ℕ) (t : Tree Name written_type) (s : Shape) → RecordsAgree p q (records_in_type k t) → denoted_type (named objects) k t ≡ Some s → ShapeAgrees p q s
-  denoted_type-agrees p q objects known k (named_type x) s h e = type_of_name-agrees p q (objects x) s (known x) e
+  denoted_type-agrees p q objects known k (named_type x) s h e = type_of_type_object-agrees p q (objects x) s (known x) e
   denoted_type-agrees p q objects known k (array_type c t) s h e =
       let (v, ev, e₁) = then_some (constant_value (named objects) c) (λ v. option_and_then (λ n. option_and_then (λ u. type_within_limits (array_shape k n u)) (denoted_type (named objects) (suc k) t)) (array_length v)) s e in
       let (n, en, e₂) = then_some (array_length v) (λ n. option_and_then (λ u. type_within_limits (array_shape k n u)) (denoted_type (named objects) (suc k) t)) s e₁ in

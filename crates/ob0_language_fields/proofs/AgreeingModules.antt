@@ -3,7 +3,7 @@
 use Rattle.std.proofs.Common.{◌≡◌, ℕ, ◌+◌, true, false, ◌&&◌, List, [], ◌∷◌, ◌++◌, map, Some, None, option_and_then, unwrap_or, sym, refl, ap, subst}
 use Rattle.ob0_tree.specs.Tree.{Tree, begins, block, body, constant, declares, declares_constant, declares_procedure, declares_type, declares_types, declares_variable, declares_variables, end, formals, further_section, forms_block, is_module, item, items, maybe, module_text, more, no_formals, none, one, procedure, section, some_formals, then_section, type_definition, type_definitions, value_section, variable, variable_section, variables}
 use Rattle.ob0_language_names.specs.Names.{Name, naming_by_spelling, same_name}
-use Rattle.ob0_language_names.specs.Parts.{formal_sections, names_in_list, procedure_formals, procedure_name, section_constants, section_names, section_type, section_types, section_variables}
+use Rattle.ob0_language_names.specs.Parts.{formal_sections, names_in_list, procedure_formals, procedure_name, section_constants, parameter_section_names, parameter_section_type, section_types, section_variables}
 use Rattle.ob0_language_types.specs.Declarations.{constructors_before_procedure_block, constructors_before_variables, constructors_before_procedures, declare_constants, declare_constants_and_types, declare_types, formals_constructor_count, procedure_constructor_count}
 use Rattle.ob0_language_types.specs.Environments.{environment_from_binding, meanings, newest_object, outermost_environment}
 use Rattle.ob0_language_types.specs.Expressions.{Object, a_constant, a_type, a_variable}
@@ -75,13 +75,13 @@ parameters-agree : (p q : FieldRenaming) (env : TypeEnvironment Name) (k : ℕ) 
 unfolding typed_parameters
 parameters-agree p q env k end ps h r e = subst (ParametersAgree p q) (some_inverse {a = []} {b = ps} e) tt
 parameters-agree p q env k (more (then_section f) fs) ps h r e =
-    let r₁ = records-split p q (records_in_type k (section_type f)) (records_in_sections (k + constructor_count (section_type f)) fs) r in
-    let (s, es, e₁) = then_some (denoted_type (meanings naming_by_spelling env) k (section_type f)) (λ s. option_and_then (λ rest. Some (map (parameter_of (section_mode f) s) (section_names f) ++ rest)) (typed_parameters naming_by_spelling (bind_names (section_names f) (a_variable s) env) (k + constructor_count (section_type f)) fs)) ps e in
-    let (rest, er, e₂) = then_some (typed_parameters naming_by_spelling (bind_names (section_names f) (a_variable s) env) (k + constructor_count (section_type f)) fs) (λ rest. Some (map (parameter_of (section_mode f) s) (section_names f) ++ rest)) ps e₁ in
-    let agrees : ShapeAgrees p q s = denoted_type-agrees p q (object_in env) (objects-agree p q env h) k (section_type f) s r₁.0 es in
-    subst (ParametersAgree p q) (some_inverse {a = map (parameter_of (section_mode f) s) (section_names f) ++ rest} {b = ps} e₂)
-    (parameters-join p q (section_mode f) s (section_names f) rest agrees
-    (parameters-agree p q (bind_names (section_names f) (a_variable s) env) (k + constructor_count (section_type f)) fs rest (bind_names-agree p q (section_names f) (a_variable s) env agrees h) r₁.1 er))
+    let r₁ = records-split p q (records_in_type k (parameter_section_type f)) (records_in_sections (k + constructor_count (parameter_section_type f)) fs) r in
+    let (s, es, e₁) = then_some (denoted_type (meanings naming_by_spelling env) k (parameter_section_type f)) (λ s. option_and_then (λ rest. Some (map (parameter_of (section_mode f) s) (parameter_section_names f) ++ rest)) (typed_parameters naming_by_spelling (bind_names (parameter_section_names f) (a_variable s) env) (k + constructor_count (parameter_section_type f)) fs)) ps e in
+    let (rest, er, e₂) = then_some (typed_parameters naming_by_spelling (bind_names (parameter_section_names f) (a_variable s) env) (k + constructor_count (parameter_section_type f)) fs) (λ rest. Some (map (parameter_of (section_mode f) s) (parameter_section_names f) ++ rest)) ps e₁ in
+    let agrees : ShapeAgrees p q s = denoted_type-agrees p q (object_in env) (objects-agree p q env h) k (parameter_section_type f) s r₁.0 es in
+    subst (ParametersAgree p q) (some_inverse {a = map (parameter_of (section_mode f) s) (parameter_section_names f) ++ rest} {b = ps} e₂)
+    (parameters-join p q (section_mode f) s (parameter_section_names f) rest agrees
+    (parameters-agree p q (bind_names (parameter_section_names f) (a_variable s) env) (k + constructor_count (parameter_section_type f)) fs rest (bind_names-agree p q (parameter_section_names f) (a_variable s) env agrees h) r₁.1 er))
 
 -- The texts of declarations are the same under two functions that agree on their records.
 
@@ -103,22 +103,22 @@ variable_section-alike : (p q : FieldRenaming) (k : ℕ) (vs : Tree Name (maybe 
 variable_section-alike p q k none r = refl
 variable_section-alike p q k (one (declares_variables vs)) r = λ i. one (declares_variables (variables-alike p q k vs r i))
 
-section-alike : (p q : FieldRenaming) (k : ℕ) (f : Tree Name section) → RecordsAgree p q (records_in_type k (section_type f)) → rename_fields_in_section p k f ≡ rename_fields_in_section q k f
+section-alike : (p q : FieldRenaming) (k : ℕ) (f : Tree Name section) → RecordsAgree p q (records_in_type k (parameter_section_type f)) → rename_fields_in_section p k f ≡ rename_fields_in_section q k f
 section-alike p q k (value_section ns u) r = λ i. value_section ns (type-alike p q k u r i)
 section-alike p q k (variable_section ns u) r = λ i. variable_section ns (type-alike p q k u r i)
 
 sections-alike : (p q : FieldRenaming) (k : ℕ) (fs : Tree Name (items further_section)) → RecordsAgree p q (records_in_sections k fs) → rename_fields_in_sections p k fs ≡ rename_fields_in_sections q k fs
 sections-alike p q k end r = refl
 sections-alike p q k (more (then_section f) fs) r =
-    let r₁ = records-split p q (records_in_type k (section_type f)) (records_in_sections (k + constructor_count (section_type f)) fs) r in
-    λ i. more (then_section (section-alike p q k f r₁.0 i)) (sections-alike p q (k + constructor_count (section_type f)) fs r₁.1 i)
+    let r₁ = records-split p q (records_in_type k (parameter_section_type f)) (records_in_sections (k + constructor_count (parameter_section_type f)) fs) r in
+    λ i. more (then_section (section-alike p q k f r₁.0 i)) (sections-alike p q (k + constructor_count (parameter_section_type f)) fs r₁.1 i)
 
 formals-alike : (p q : FieldRenaming) (k : ℕ) (fs : Tree Name (maybe formals)) → RecordsAgree p q (records_in_sections k (formal_sections fs)) → rename_fields_in_formals p k fs ≡ rename_fields_in_formals q k fs
 formals-alike p q k none r = refl
 formals-alike p q k (one no_formals) r = refl
 formals-alike p q k (one (some_formals f fs)) r =
-    let r₁ = records-split p q (records_in_type k (section_type f)) (records_in_sections (k + constructor_count (section_type f)) fs) r in
-    λ i. one (some_formals (section-alike p q k f r₁.0 i) (sections-alike p q (k + constructor_count (section_type f)) fs r₁.1 i))
+    let r₁ = records-split p q (records_in_type k (parameter_section_type f)) (records_in_sections (k + constructor_count (parameter_section_type f)) fs) r in
+    λ i. one (some_formals (section-alike p q k f r₁.0 i) (sections-alike p q (k + constructor_count (parameter_section_type f)) fs r₁.1 i))
 
 procedure-records : (p q : FieldRenaming) (k : ℕ) (a : Tree Name (item procedure)) → RecordsAgree p q (records_in_procedure k a) → RecordsAgree p q (records_in_sections k (procedure_formals a))
 procedure-records p q k (declares_procedure x fs b closing) r = (records-split p q (records_in_sections k (formal_sections fs)) (records_in_block (constructors_before_procedure_block k (declares_procedure x fs b closing)) b) r).0

@@ -2,7 +2,7 @@
 use Rattle.std.proofs.Common.{◌≡◌, ℕ, suc, ◌+◌, None, Option, refl}
 use Rattle.ob0_tree.specs.Tree.{Sort, Tree, adds, array_type, assigns, begins, block, branches, calls, compares, declares, declares_procedure, declares_type, declares_types, declares_variable, declares_variables, designator, else_branch, elsif_branch, end, field, fields, formals, further_fields, further_section, forms_block, index, is_module, item, items, maybe, module_text, more, multiplies, named_type, negation, no_fields, no_formals, none, one, parenthesised, procedure, product, record_type, relates, repeat_loop, runs, section, some_arguments, some_fields, some_formals, sum, then_argument, then_fields, then_section, then_statement, type_definition, type_definitions, value_section, variable, variable_section, variables, while_loop, written_type}
 use Rattle.ob0_language_names.specs.Names.{Name, naming_by_spelling}
-use Rattle.ob0_language_names.specs.Parts.{section_type}
+use Rattle.ob0_language_names.specs.Parts.{parameter_section_type}
 use Rattle.ob0_language_names.proofs.SameNames.{map_names-id}
 use Rattle.ob0_language_types.specs.Declarations.{constructors_before_procedure_block, constructors_before_variables, constructors_before_procedures, procedure_constructor_count}
 use Rattle.ob0_language_types.specs.Environments.{meanings, outermost_environment}
@@ -80,12 +80,12 @@ rename_fields_in_section-bare k (variable_section ns u) = λ i. variable_section
 
 rename_fields_in_sections-bare : (k : ℕ) (fs : Tree Name (items further_section)) → rename_fields_in_sections bare k fs ≡ fs
 rename_fields_in_sections-bare k end = refl
-rename_fields_in_sections-bare k (more (then_section f) fs) = λ i. more (then_section (rename_fields_in_section-bare k f i)) (rename_fields_in_sections-bare (k + constructor_count (section_type f)) fs i)
+rename_fields_in_sections-bare k (more (then_section f) fs) = λ i. more (then_section (rename_fields_in_section-bare k f i)) (rename_fields_in_sections-bare (k + constructor_count (parameter_section_type f)) fs i)
 
 rename_fields_in_formals-bare : (k : ℕ) (fs : Tree Name (maybe formals)) → rename_fields_in_formals bare k fs ≡ fs
 rename_fields_in_formals-bare k none = refl
 rename_fields_in_formals-bare k (one no_formals) = refl
-rename_fields_in_formals-bare k (one (some_formals f fs)) = λ i. one (some_formals (rename_fields_in_section-bare k f i) (rename_fields_in_sections-bare (k + constructor_count (section_type f)) fs i))
+rename_fields_in_formals-bare k (one (some_formals f fs)) = λ i. one (some_formals (rename_fields_in_section-bare k f i) (rename_fields_in_sections-bare (k + constructor_count (parameter_section_type f)) fs i))
 
 mutual
   rename_fields_in_block-bare : (env : TypeEnvironment Name) (k : ℕ) (b : Tree Name block) → rename_fields_in_block bare env k b ≡ b

@@ -5,7 +5,7 @@ use Rattle.std.specs.Prelude.{ℕ, suc, ◌+◌, List, [], Some, None, Option, o
 use Rattle.ob0_tree.specs.Tree.{Item, Sort, Tree, adds, array_type, assigns, begins, block, branches, calls, compares, declares, declares_procedure, declares_type, declares_types, declares_variable, declares_variables, designator, else_branch, elsif_branch, end, field, fields, formals, further_fields, further_section, forms_block, index, is_module, item, items, maybe, module_text, more, multiplies, named_type, negation, no_fields, no_formals, none, one, parenthesised, procedure, product, record_type, relates, repeat_loop, runs, section, some_arguments, some_fields, some_formals, sum, then_argument, then_fields, then_section, then_statement, type_definition, type_definitions, value_section, variable, variable_section, variables, while_loop, written_type}
 use Rattle.ob0_language_names.specs.Mapping.{map_names}
 use Rattle.ob0_language_names.specs.Names.{Name, naming_by_spelling}
-use Rattle.ob0_language_names.specs.Parts.{block_variables, procedure_formals, procedure_name, section_type}
+use Rattle.ob0_language_names.specs.Parts.{block_variables, procedure_formals, procedure_name, parameter_section_type}
 use Rattle.ob0_language_types.specs.Declarations.{constructors_before_procedure_block, constructors_before_variables, constructors_before_procedures, declare_constants_and_types, procedure_constructor_count}
 use Rattle.ob0_language_types.specs.Environments.{meanings, outermost_environment}
 use Rattle.ob0_language_types.specs.Typing.{constructor_count, element_type, field_type, group_constructor_count, type_of_variable_or_constant}
@@ -35,9 +35,9 @@ type_including_selector s (field x) = option_and_then (λ t. field_type t x) s
 type_including_selector s (index e) = option_and_then (λ t. element_type t integer_shape) s
 type_including_selector s _ = s
 
--- Returns a statement or a part of a statement with the selected fields renamed by `l`. A field
--- belongs to the record from which it is selected. If the part is a selector or a list of
--- selectors, `s` is the type of the designator before this part.
+-- Returns a statement, or a construct within a statement, with the selected fields renamed by `l`.
+-- A field belongs to the record from which it is selected. If the construct is a selector or a list
+-- of selectors, `s` is the type of the designator before it.
 abbrev pub rename_fields : {s : Sort} → FieldRenaming → TypeMeanings Name → Option Shape → Tree Name s → Tree Name s
 rename_fields l meaning s (more t ts) =
     more (rename_fields l meaning s t) (rename_fields l meaning (type_including_selector s t) ts)
@@ -80,9 +80,10 @@ rename_fields l meaning s (else_branch a) = else_branch (rename_fields l meaning
 rename_fields l meaning s (begins a) = begins (rename_fields l meaning None a)
 rename_fields l meaning s t = t
 
--- Renames the fields that a written type or a part of it declares. `k` is the number of words ARRAY
--- and RECORD before this part. `r` is the ordinal of the record to which a group of fields belongs.
--- The length of an array is unchanged, because a constant expression has no selectors.
+-- Renames the fields that a written type, a group of fields or several groups declare. `k` is the
+-- number of words ARRAY and RECORD before them. `r` is the ordinal of the record to which a group
+-- of fields belongs. The length of an array is unchanged, because a constant expression has no
+-- selectors.
 abbrev mutual
   -- returns a written type with its fields renamed; `k` is the number of words ARRAY and RECORD
   -- before the written type
@@ -166,7 +167,7 @@ abbrev pub rename_fields_in_sections : FieldRenaming
 rename_fields_in_sections l k end = end
 rename_fields_in_sections l k (more (then_section f) fs) =
     more (then_section (rename_fields_in_section l k f))
-    (rename_fields_in_sections l (k + constructor_count (section_type f)) fs)
+    (rename_fields_in_sections l (k + constructor_count (parameter_section_type f)) fs)
 
 -- returns formal parameters with the fields in their types renamed; `k` is the number of words
 -- ARRAY and RECORD before the parameters
@@ -175,7 +176,7 @@ rename_fields_in_formals l k none = none
 rename_fields_in_formals l k (one no_formals) = one no_formals
 rename_fields_in_formals l k (one (some_formals f fs)) =
     one (some_formals (rename_fields_in_section l k f)
-    (rename_fields_in_sections l (k + constructor_count (section_type f)) fs))
+    (rename_fields_in_sections l (k + constructor_count (parameter_section_type f)) fs))
 
 -- Returns the environment `env` with a block's constants, types and variables added. Returns `env`
 -- unchanged if one of these declarations has an error. `k` is the number of words ARRAY and RECORD
@@ -212,8 +213,8 @@ environment_after_procedures env k (more p rest) =
     environment_after_procedures (environment_after_heading env k p) (k + procedure_constructor_count p) rest
 
 -- Returns a block, its procedures or one procedure, with all fields renamed by `l`. `k` is the
--- number of words ARRAY and RECORD before this part. Declarations of constants are unchanged,
--- because they contain no fields.
+-- number of words ARRAY and RECORD before it. Declarations of constants are unchanged, because they
+-- contain no fields.
 abbrev mutual
   -- returns a block with the fields in its types, variables, procedures and statements renamed;
   -- `env` is the environment around the block, and `k` is the number of words ARRAY and RECORD

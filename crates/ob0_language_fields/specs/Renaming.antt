@@ -6,7 +6,7 @@ use Rattle.std.specs.List.{list_any}
 use Rattle.ob0_tree.specs.Tree.{Tree, array_type, block, declares_procedure, declares_type, declares_variable, end, fields, further_fields, further_section, forms_block, declares, item, items, module_text, more, named_type, no_fields, procedure, record_type, some_fields, then_fields, then_section, type_definition, variable, written_type}
 use Rattle.ob0_language_names.specs.ConsistentNames.{group_field_names, further_field_names}
 use Rattle.ob0_language_names.specs.Names.{Name, same_name}
-use Rattle.ob0_language_names.specs.Parts.{formal_sections, module_block, section_type, section_types, section_variables}
+use Rattle.ob0_language_names.specs.Parts.{formal_sections, module_block, parameter_section_type, section_types, section_variables}
 use Rattle.ob0_language_names.specs.Scopes.{same_ordinal}
 use Rattle.ob0_language_types.specs.Declarations.{constructors_before_procedure_block, constructors_before_variables, constructors_before_procedures, procedure_constructor_count}
 use Rattle.ob0_language_types.specs.Typing.{constructor_count, group_constructor_count}
@@ -28,7 +28,8 @@ pub record RecordFields : Type 0 where
   pub ordinal : ℕ
   pub declared : List Name
 
--- Returns the records in a written type or a part of it. `k` is the number of words ARRAY and RECORD before this part.
+-- Returns the records in a written type, in a group of fields or in several groups. `k` is the
+-- number of words ARRAY and RECORD before it.
 abbrev mutual
   -- returns the records in a written type, in the order of their words RECORD in the text; `k` is the number of words
   -- ARRAY and RECORD before the written type
@@ -71,10 +72,10 @@ records_in_variables k (more (declares_variable ns u) gs) =
 abbrev pub records_in_sections : ℕ → Tree Name (items further_section) → List RecordFields
 records_in_sections k end = []
 records_in_sections k (more (then_section f) fs) =
-    records_in_type k (section_type f) ++ records_in_sections (k + constructor_count (section_type f)) fs
+    records_in_type k (parameter_section_type f) ++ records_in_sections (k + constructor_count (parameter_section_type f)) fs
 
--- Returns the records in a block or in its procedures, in text order. `k` is the number of words ARRAY and RECORD
--- before this part.
+-- Returns the records in a block or in its procedures, in text order. `k` is the number of words
+-- ARRAY and RECORD before it.
 abbrev mutual
   -- returns the records in the types, the variables and the procedures of a block; `k` is the number of words ARRAY and
   -- RECORD before the block

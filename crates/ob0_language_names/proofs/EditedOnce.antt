@@ -49,9 +49,9 @@ constant_names-edited edit j k (more (declares_constant x e) cs) =
     elim (edit.gone && (k == edit.constant)) as (λ v. SomeOf (constant_names (if v then edited_constants edit (j + length (occurrences e)) (suc k) cs else more (declares_constant x (leaf edit j e)) (edited_constants edit (j + length (occurrences e)) (suc k) cs))) (x ∷ constant_names cs))
     [ true ↦ skipped x (constant_names-edited edit (j + length (occurrences e)) (suc k) cs) | false ↦ kept x (constant_names-edited edit (j + length (occurrences e)) (suc k) cs) ]
 
-pub section_names-edited : (edit : Edit) (j k : ℕ) (cs : Tree Name (maybe constants)) → SomeOf (constant_names (section_constants (edited_section edit j k cs))) (constant_names (section_constants cs))
-section_names-edited edit j k none = none_of
-section_names-edited edit j k (one (declares_constants cs)) = constant_names-edited edit j k cs
+pub parameter_section_names-edited : (edit : Edit) (j k : ℕ) (cs : Tree Name (maybe constants)) → SomeOf (constant_names (section_constants (edited_section edit j k cs))) (constant_names (section_constants cs))
+parameter_section_names-edited edit j k none = none_of
+parameter_section_names-edited edit j k (one (declares_constants cs)) = constant_names-edited edit j k cs
 
 type_definitions-listed : (edit : Edit) (j : ℕ) (ds : Tree Name (items type_definition)) → declared_type_names (leaf edit j ds) ≡ declared_type_names ds
 type_definitions-listed edit j end = refl
@@ -151,7 +151,7 @@ mutual
       (λ i. type_definitions-leaf edit jt ts i ++ (variable_names-leaf edit jv vs i ++ procedure_names-edited edit jp (first_procedure_ordinal k b) ps i))
       ∙ some-distinct (own ++ (constant_names (section_constants (edited_section edit j k cs)) ++ following)) (own ++ (constant_names (section_constants cs) ++ following))
       (some_of-append own own (constant_names (section_constants (edited_section edit j k cs)) ++ following) (constant_names (section_constants cs) ++ following) (some_of-all own)
-      (some_of-append (constant_names (section_constants (edited_section edit j k cs))) (constant_names (section_constants cs)) following following (section_names-edited edit j k cs) (some_of-all following))) parts.0)
+      (some_of-append (constant_names (section_constants (edited_section edit j k cs))) (constant_names (section_constants cs)) following following (parameter_section_names-edited edit j k cs) (some_of-all following))) parts.0)
       (and_from _ _ (types_have_distinct_fields-leaf edit jt ts ∙ parts₁.0)
       (and_from _ _ (variables_have_distinct_fields-leaf edit jv vs ∙ parts₂.0) (procedures_have_consistent_names-edited edit jp (first_procedure_ordinal k b) ps parts₂.1)))
 

@@ -3,7 +3,7 @@
 -- or neither.
 use Rattle.std.proofs.Common.{Bool, List, [], add-zero, ap, arith, eqb-true, false, if◌then◌else◌, length, ne_eqb, refl, subst, suc, sym, true, ℕ, ◌&&◌, ◌++◌, ◌+◌, ◌<◌, ◌==◌, ◌∙◌, ◌∷◌, ◌≡◌}
 use Rattle.ob0_tree.specs.Tree.{Sort, Tree, adds, array_type, assigns, begins, block, branches, calls, compares, constant, constants, declares, declares_constant, declares_constants, declares_procedure, declares_type, declares_types, declares_variable, declares_variables, designator, else_branch, elsif_branch, empty, end, factor, field, further_name, forms_block, index, integer, is_module, item, items, listed, maybe, module_text, more, multiplies, named_type, names, negation, no_arguments, no_fields, no_formals, none, occurrences, one, parenthesised, procedure, product, record_type, relates, repeat_loop, runs, some_arguments, some_fields, some_formals, sum, then_argument, then_fields, then_name, then_section, then_statement, value_section, variable_section, while_loop}
-use Rattle.ob0_language_names.specs.Inlining.{OccurrenceSet, block_without, inline_in, inlined, module_without, procedure_without, procedures_without, section_without, constants_without}
+use Rattle.ob0_language_names.specs.Inlining.{OccurrenceSet, block_without_constant, inline_in_tree, inlined, module_without_constant, procedure_without_constant, procedures_without_constant, section_without_constant, constants_without}
 use Rattle.ob0_language_names.specs.Mapping.{map_names}
 use Rattle.ob0_language_names.specs.Names.{Name}
 use Rattle.ob0_language_names.specs.Parts.{formal_names, formal_sections}
@@ -20,11 +20,11 @@ none-split uses k (x ∷ xs) ys h =
     let e : suc k + length xs ≡ k + suc (length xs) = omega arith in
     ((h.0, g.0), subst (λ n. UsesNone uses n ys) e g.1)
 
-further-nothing : (uses : OccurrenceSet) (v : Tree Name factor) (k : ℕ) (ns : Tree Name (items further_name)) → inline_in uses v k ns ≡ ns
+further-nothing : (uses : OccurrenceSet) (v : Tree Name factor) (k : ℕ) (ns : Tree Name (items further_name)) → inline_in_tree uses v k ns ≡ ns
 further-nothing uses v k end = refl
 further-nothing uses v k (more (then_name x) ns) = λ i. more (then_name x) (further-nothing uses v (k + 0) ns i)
 
-pub inline-nothing : {s : Sort} (uses : OccurrenceSet) (v : Tree Name factor) (k : ℕ) (t : Tree Name s) → UsesNone uses k (occurrences t) → inline_in uses v k t ≡ t
+pub inline-nothing : {s : Sort} (uses : OccurrenceSet) (v : Tree Name factor) (k : ℕ) (t : Tree Name s) → UsesNone uses k (occurrences t) → inline_in_tree uses v k t ≡ t
 inline-nothing uses v k none u = refl
 inline-nothing uses v k (one t) u = λ i. one (inline-nothing uses v k t u i)
 inline-nothing uses v k end u = refl
@@ -159,7 +159,7 @@ pub record Edit : Type 0 where
   pub gone : Bool
 
 abbrev pub leaf : {s : Sort} → Edit → ℕ → Tree Name s → Tree Name s
-leaf edit j t = inline_in edit.uses edit.literal j t
+leaf edit j t = inline_in_tree edit.uses edit.literal j t
 
 abbrev pub edited_constants : Edit → ℕ → ℕ → Tree Name (items constant) → Tree Name (items constant)
 edited_constants edit j k end = end
@@ -192,30 +192,30 @@ abbrev mutual
 abbrev pub writing : OccurrenceSet → Tree Name factor → ℕ → Edit
 writing uses v d = record { uses = uses; literal = v; constant = d; gone = false }
 
-written-constants : (uses : OccurrenceSet) (v : Tree Name factor) (d j k : ℕ) (cs : Tree Name (items constant)) → edited_constants (writing uses v d) j k cs ≡ inline_in uses v j cs
+written-constants : (uses : OccurrenceSet) (v : Tree Name factor) (d j k : ℕ) (cs : Tree Name (items constant)) → edited_constants (writing uses v d) j k cs ≡ inline_in_tree uses v j cs
 written-constants uses v d j k end = refl
-written-constants uses v d j k (more (declares_constant x e) cs) = λ i. more (declares_constant x (inline_in uses v j e)) (written-constants uses v d (j + length (occurrences e)) (suc k) cs i)
+written-constants uses v d j k (more (declares_constant x e) cs) = λ i. more (declares_constant x (inline_in_tree uses v j e)) (written-constants uses v d (j + length (occurrences e)) (suc k) cs i)
 
-written-section : (uses : OccurrenceSet) (v : Tree Name factor) (d j k : ℕ) (cs : Tree Name (maybe constants)) → edited_section (writing uses v d) j k cs ≡ inline_in uses v j cs
+written-section : (uses : OccurrenceSet) (v : Tree Name factor) (d j k : ℕ) (cs : Tree Name (maybe constants)) → edited_section (writing uses v d) j k cs ≡ inline_in_tree uses v j cs
 written-section uses v d j k none = refl
 written-section uses v d j k (one (declares_constants cs)) = λ i. one (declares_constants (written-constants uses v d j k cs i))
 
 mutual
-  pub written-block : (uses : OccurrenceSet) (v : Tree Name factor) (d j k : ℕ) (b : Tree Name block) → edited_block (writing uses v d) j k b ≡ inline_in uses v j b
+  pub written-block : (uses : OccurrenceSet) (v : Tree Name factor) (d j k : ℕ) (b : Tree Name block) → edited_block (writing uses v d) j k b ≡ inline_in_tree uses v j b
   written-block uses v d j k (forms_block (declares cs ts vs ps) statements) = λ i.
       forms_block
-      (declares (written-section uses v d j k cs i) (inline_in uses v (j + length (occurrences cs)) ts) (inline_in uses v (j + length (occurrences cs) + length (occurrences ts)) vs)
+      (declares (written-section uses v d j k cs i) (inline_in_tree uses v (j + length (occurrences cs)) ts) (inline_in_tree uses v (j + length (occurrences cs) + length (occurrences ts)) vs)
       (written-procedures uses v d (j + length (occurrences cs) + length (occurrences ts) + length (occurrences vs)) (first_procedure_ordinal k (forms_block (declares cs ts vs ps) statements)) ps i))
-      (inline_in uses v (j + length (occurrences (declares cs ts vs ps))) statements)
+      (inline_in_tree uses v (j + length (occurrences (declares cs ts vs ps))) statements)
 
-  written-procedures : (uses : OccurrenceSet) (v : Tree Name factor) (d j k : ℕ) (ps : Tree Name (items procedure)) → edited_procedures (writing uses v d) j k ps ≡ inline_in uses v j ps
+  written-procedures : (uses : OccurrenceSet) (v : Tree Name factor) (d j k : ℕ) (ps : Tree Name (items procedure)) → edited_procedures (writing uses v d) j k ps ≡ inline_in_tree uses v j ps
   written-procedures uses v d j k end = refl
   written-procedures uses v d j k (more p rest) = λ i.
       more (written-procedure uses v d j (suc k) p i) (written-procedures uses v d (j + length (occurrences p)) (ordinal_after_procedure (suc k) p) rest i)
 
-  written-procedure : (uses : OccurrenceSet) (v : Tree Name factor) (d j k : ℕ) (p : Tree Name (item procedure)) → edited_procedure (writing uses v d) j k p ≡ inline_in uses v j p
+  written-procedure : (uses : OccurrenceSet) (v : Tree Name factor) (d j k : ℕ) (p : Tree Name (item procedure)) → edited_procedure (writing uses v d) j k p ≡ inline_in_tree uses v j p
   written-procedure uses v d j k (declares_procedure x fs b closing) = λ i.
-      declares_procedure x (inline_in uses v j fs) (written-block uses v d (j + length (occurrences fs)) (ordinal_after_names k (formal_names (formal_sections fs))) b i) closing
+      declares_procedure x (inline_in_tree uses v j fs) (written-block uses v d (j + length (occurrences fs)) (ordinal_after_names k (formal_names (formal_sections fs))) b i) closing
 
 -- If there are no uses, an edited block is the block without the declaration.
 
@@ -226,7 +226,7 @@ uses-none : (k : ℕ) (xs : List Name) → UsesNone no_uses k xs
 uses-none k [] = tt
 uses-none k (x ∷ xs) = (refl, uses-none (suc k) xs)
 
-pub leaf-kept : {s : Sort} (v : Tree Name factor) (k : ℕ) (t : Tree Name s) → inline_in no_uses v k t ≡ t
+pub leaf-kept : {s : Sort} (v : Tree Name factor) (k : ℕ) (t : Tree Name s) → inline_in_tree no_uses v k t ≡ t
 leaf-kept v k t = inline-nothing no_uses v k t (uses-none k (occurrences t))
 
 abbrev pub leaving_out : Tree Name factor → ℕ → Edit
@@ -248,24 +248,24 @@ left-constants v d j k (more (declares_constant x e) cs) =
       | false ↦ λ h i. more (declares_constant x (leaf-kept v j e i)) (left-constants v d (j + length (occurrences e)) (suc k) cs i)
     ]) refl
 
-left-section : (v : Tree Name factor) (d j k : ℕ) (cs : Tree Name (maybe constants)) → edited_section (leaving_out v d) j k cs ≡ section_without d k cs
+left-section : (v : Tree Name factor) (d j k : ℕ) (cs : Tree Name (maybe constants)) → edited_section (leaving_out v d) j k cs ≡ section_without_constant d k cs
 left-section v d j k none = refl
 left-section v d j k (one (declares_constants cs)) = λ i. one (declares_constants (left-constants v d j k cs i))
 
 mutual
-  pub left-block : (v : Tree Name factor) (d j k : ℕ) (b : Tree Name block) → edited_block (leaving_out v d) j k b ≡ block_without d k b
+  pub left-block : (v : Tree Name factor) (d j k : ℕ) (b : Tree Name block) → edited_block (leaving_out v d) j k b ≡ block_without_constant d k b
   left-block v d j k (forms_block (declares cs ts vs ps) statements) = λ i.
       forms_block
       (declares (left-section v d j k cs i) (leaf-kept v (j + length (occurrences cs)) ts i) (leaf-kept v (j + length (occurrences cs) + length (occurrences ts)) vs i)
       (left-procedures v d (j + length (occurrences cs) + length (occurrences ts) + length (occurrences vs)) (first_procedure_ordinal k (forms_block (declares cs ts vs ps) statements)) ps i))
       (leaf-kept v (j + length (occurrences (declares cs ts vs ps))) statements i)
 
-  left-procedures : (v : Tree Name factor) (d j k : ℕ) (ps : Tree Name (items procedure)) → edited_procedures (leaving_out v d) j k ps ≡ procedures_without d k ps
+  left-procedures : (v : Tree Name factor) (d j k : ℕ) (ps : Tree Name (items procedure)) → edited_procedures (leaving_out v d) j k ps ≡ procedures_without_constant d k ps
   left-procedures v d j k end = refl
   left-procedures v d j k (more p rest) = λ i.
       more (left-procedure v d j (suc k) p i) (left-procedures v d (j + length (occurrences p)) (ordinal_after_procedure (suc k) p) rest i)
 
-  left-procedure : (v : Tree Name factor) (d j k : ℕ) (p : Tree Name (item procedure)) → edited_procedure (leaving_out v d) j k p ≡ procedure_without d k p
+  left-procedure : (v : Tree Name factor) (d j k : ℕ) (p : Tree Name (item procedure)) → edited_procedure (leaving_out v d) j k p ≡ procedure_without_constant d k p
   left-procedure v d j k (declares_procedure x fs b closing) = λ i.
       declares_procedure x (leaf-kept v j fs i) (left-block v d (j + length (occurrences fs)) (ordinal_after_names k (formal_names (formal_sections fs))) b i) closing
 
@@ -275,5 +275,5 @@ edited edit (is_module x b closing) = is_module x (edited_block edit 0 7 b) clos
 pub written-module : (uses : OccurrenceSet) (v : Tree Name factor) (d : ℕ) (m : Tree Name module_text) → edited (writing uses v d) m ≡ inlined m uses v
 written-module uses v d (is_module x b closing) = λ i. is_module x (written-block uses v d 0 7 b i) closing
 
-pub left-module : (v : Tree Name factor) (d : ℕ) (m : Tree Name module_text) → edited (leaving_out v d) m ≡ module_without d m
+pub left-module : (v : Tree Name factor) (d : ℕ) (m : Tree Name module_text) → edited (leaving_out v d) m ≡ module_without_constant d m
 left-module v d (is_module x b closing) = λ i. is_module x (left-block v d 0 7 b i) closing

@@ -4,8 +4,8 @@ use Rattle.std.proofs.Common.{List, None, [], ap, length, length-append, map, re
 use Rattle.ob0_tree.specs.Tree.{Sort, Tree, adds, array_type, assigns, begins, block, branches, calls, compares, constant, constants, declares, declares_constant, declares_constants, declares_procedure, declares_type, declares_types, declares_variable, declares_variables, designator, else_branch, elsif_branch, empty, end, field, formals, further_section, forms_block, index, integer, is_module, item, items, listed, maybe, module_text, more, multiplies, named_type, negation, no_arguments, no_fields, no_formals, none, occurrences, one, parenthesised, procedure, product, record_type, relates, repeat_loop, runs, section, some_arguments, some_fields, some_formals, sum, then_argument, then_fields, then_name, then_section, then_statement, type_definition, type_definitions, value_section, variable, variable_section, variables, while_loop}
 use Rattle.ob0_language_names.specs.Mapping.{map_names}
 use Rattle.ob0_language_names.specs.Names.{Naming}
-use Rattle.ob0_language_names.specs.Parts.{formal_names, formal_sections, names_in_list, procedure_name, section_names}
-use Rattle.ob0_language_names.specs.Scopes.{relabel_module, Labelling, Scope, ordinal_after_names, ordinal_after_procedure, body_scope, declare_names, first_procedure_ordinal, first_type_ordinal, first_variable_ordinal, label_of, predeclared_scope, procedures_scope, relabel_block, relabel_constant_section, relabel_constants, relabel_formals, relabel_procedure, relabel_procedures, relabel_section, relabel_sections, relabel_type_section, relabel_types, relabel_uses, relabel_variable_section, relabel_variables, types_scope, variables_scope}
+use Rattle.ob0_language_names.specs.Parts.{formal_names, formal_sections, names_in_list, procedure_name, parameter_section_names}
+use Rattle.ob0_language_names.specs.Scopes.{relabel_module, Labelling, Scope, ordinal_after_names, ordinal_after_procedure, body_scope, declare_names, first_procedure_ordinal, first_type_ordinal, first_variable_ordinal, label_of, predeclared_scope, scope_before_procedures, relabel_block, relabel_constant_section, relabel_constants, relabel_formals, relabel_procedure, relabel_procedures, relabel_section, relabel_sections, relabel_type_section, relabel_types, relabel_uses, relabel_variable_section, relabel_variables, scope_before_types, scope_before_variables}
 use Rattle.std.proofs.lemmas.List.{map-append}
 
 pub joined : {N M : Type 0} {xs' ys' : List M} (look : N → M) (xs ys : List N) → xs' ≡ map look xs → ys' ≡ map look ys → xs' ++ ys' ≡ map look (xs ++ ys)
@@ -103,13 +103,13 @@ as_many-section naming label scope k (variable_section ns t) = as_many-uses nami
 pub as_many-sections : {N M : Type 0} (naming : Naming N) (label : Labelling N M) (scope : Scope N) (k : ℕ) (fs : Tree N (items further_section)) → AsMany (relabel_sections naming label scope k fs) fs
 as_many-sections naming label scope k end = refl
 as_many-sections naming label scope k (more (then_section s) fs) =
-    longer _ _ (occurrences s) (occurrences fs) (as_many-section naming label scope k s) (as_many-sections naming label (declare_names k (section_names s) scope) (ordinal_after_names k (section_names s)) fs)
+    longer _ _ (occurrences s) (occurrences fs) (as_many-section naming label scope k s) (as_many-sections naming label (declare_names k (parameter_section_names s) scope) (ordinal_after_names k (parameter_section_names s)) fs)
 
 pub as_many-formals : {N M : Type 0} (naming : Naming N) (label : Labelling N M) (scope : Scope N) (k : ℕ) (fs : Tree N (maybe formals)) → AsMany (relabel_formals naming label scope k fs) fs
 as_many-formals naming label scope k none = refl
 as_many-formals naming label scope k (one no_formals) = refl
 as_many-formals naming label scope k (one (some_formals s fs)) =
-    longer _ _ (occurrences s) (occurrences fs) (as_many-section naming label scope k s) (as_many-sections naming label (declare_names k (section_names s) scope) (ordinal_after_names k (section_names s)) fs)
+    longer _ _ (occurrences s) (occurrences fs) (as_many-section naming label scope k s) (as_many-sections naming label (declare_names k (parameter_section_names s) scope) (ordinal_after_names k (parameter_section_names s)) fs)
 
 pub as_many-constant_section : {N M : Type 0} (naming : Naming N) (label : Labelling N M) (scope : Scope N) (k : ℕ) (cs : Tree N (maybe constants)) → AsMany (relabel_constant_section naming label scope k cs) cs
 as_many-constant_section naming label scope k none = refl
@@ -129,9 +129,9 @@ mutual
       let b : Tree N block = forms_block (declares cs ts vs ps) statements in
       longer _ _ (occurrences cs ++ (occurrences ts ++ (occurrences vs ++ occurrences ps))) (occurrences statements)
       (longer _ _ (occurrences cs) (occurrences ts ++ (occurrences vs ++ occurrences ps)) (as_many-constant_section naming label scope k cs)
-      (longer _ _ (occurrences ts) (occurrences vs ++ occurrences ps) (as_many-type_section naming label (types_scope k b scope) (first_type_ordinal k b) ts)
-      (longer _ _ (occurrences vs) (occurrences ps) (as_many-variable_section naming label (variables_scope k b scope) (first_variable_ordinal k b) vs)
-      (as_many-procedures naming label (procedures_scope k b scope) (first_procedure_ordinal k b) ps))))
+      (longer _ _ (occurrences ts) (occurrences vs ++ occurrences ps) (as_many-type_section naming label (scope_before_types k b scope) (first_type_ordinal k b) ts)
+      (longer _ _ (occurrences vs) (occurrences ps) (as_many-variable_section naming label (scope_before_variables k b scope) (first_variable_ordinal k b) vs)
+      (as_many-procedures naming label (scope_before_procedures k b scope) (first_procedure_ordinal k b) ps))))
       (as_many-uses naming label (body_scope k b scope) statements)
 
   pub as_many-procedures : {N M : Type 0} (naming : Naming N) (label : Labelling N M) (scope : Scope N) (k : ℕ) (ps : Tree N (items procedure)) → AsMany (relabel_procedures naming label scope k ps) ps

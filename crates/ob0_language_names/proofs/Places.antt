@@ -3,8 +3,8 @@
 use Rattle.std.proofs.Common.{List, None, [], arith, length, map, refl, subst, suc, ℕ, ◌++◌, ◌+◌, ◌∷◌, ◌≡◌}
 use Rattle.ob0_tree.specs.Tree.{Sort, Tree, block, body, constant, constants, declares, declares_constant, declares_constants, declares_procedure, declares_type, declares_types, declares_variable, declares_variables, end, expression, formals, further_section, forms_block, item, items, maybe, more, no_formals, none, occurrences, one, procedure, section, some_formals, then_section, type_definition, type_definitions, value_section, variable, variable_section, variables, written_type}
 use Rattle.ob0_language_names.specs.Names.{Label, Name, Naming}
-use Rattle.ob0_language_names.specs.Parts.{formal_names, formal_sections, names_in_list, procedure_name, section_constants, section_names, section_type, section_types, section_variables}
-use Rattle.ob0_language_names.specs.Scopes.{Scope, ordinal_after_names, ordinal_after_procedure, label_from_ordinal, body_scope, declare_names, first_procedure_ordinal, first_type_ordinal, first_variable_ordinal, label_of, procedures_scope, relabel_block, relabel_constant_section, relabel_constants, relabel_formals, relabel_procedure, relabel_procedures, relabel_section, relabel_sections, relabel_type_section, relabel_types, relabel_uses, relabel_variable_section, relabel_variables, types_scope, variables_scope}
+use Rattle.ob0_language_names.specs.Parts.{formal_names, formal_sections, names_in_list, procedure_name, section_constants, parameter_section_names, parameter_section_type, section_types, section_variables}
+use Rattle.ob0_language_names.specs.Scopes.{Scope, ordinal_after_names, ordinal_after_procedure, label_from_ordinal, body_scope, declare_names, first_procedure_ordinal, first_type_ordinal, first_variable_ordinal, label_of, scope_before_procedures, relabel_block, relabel_constant_section, relabel_constants, relabel_formals, relabel_procedure, relabel_procedures, relabel_section, relabel_sections, relabel_type_section, relabel_types, relabel_uses, relabel_variable_section, relabel_variables, scope_before_types, scope_before_variables}
 use Rattle.ob0_language_names.proofs.OccurrenceNames.{as_many-constant_section, as_many-formals, as_many-procedure, as_many-procedures, as_many-section, as_many-type_section, as_many-uses, as_many-variable_section, longer, occurrences-map_names}
 
 -- holds if `Q` holds for each occurrence in a list, whose numbers count up from `j`
@@ -32,15 +32,15 @@ EachVariable L j scope k (more (declares_variable ns t) gs) =
 abbrev pub EachSection : Placed → ℕ → Scope Name → ℕ → Tree Name (items further_section) → Type 0
 EachSection L j scope k end = Unit {0}
 EachSection L j scope k (more (then_section s) fs) =
-    L written_type j scope (section_type s) × EachSection L (j + length (occurrences s)) (declare_names k (section_names s) scope) (ordinal_after_names k (section_names s)) fs
+    L written_type j scope (parameter_section_type s) × EachSection L (j + length (occurrences s)) (declare_names k (parameter_section_names s) scope) (ordinal_after_names k (parameter_section_names s)) fs
 
 abbrev mutual
   pub EachBlock : Placed → ℕ → Scope Name → ℕ → Tree Name block → Type 0
   EachBlock L j scope k (forms_block (declares cs ts vs ps) statements) =
       EachConstant L j scope k (section_constants cs)
-      × EachType L (j + length (occurrences cs)) (types_scope k (forms_block (declares cs ts vs ps) statements) scope) (first_type_ordinal k (forms_block (declares cs ts vs ps) statements)) (section_types ts)
-      × EachVariable L (j + length (occurrences cs) + length (occurrences ts)) (variables_scope k (forms_block (declares cs ts vs ps) statements) scope) (first_variable_ordinal k (forms_block (declares cs ts vs ps) statements)) (section_variables vs)
-      × EachProcedure L (j + length (occurrences cs) + length (occurrences ts) + length (occurrences vs)) (procedures_scope k (forms_block (declares cs ts vs ps) statements) scope) (first_procedure_ordinal k (forms_block (declares cs ts vs ps) statements)) ps
+      × EachType L (j + length (occurrences cs)) (scope_before_types k (forms_block (declares cs ts vs ps) statements) scope) (first_type_ordinal k (forms_block (declares cs ts vs ps) statements)) (section_types ts)
+      × EachVariable L (j + length (occurrences cs) + length (occurrences ts)) (scope_before_variables k (forms_block (declares cs ts vs ps) statements) scope) (first_variable_ordinal k (forms_block (declares cs ts vs ps) statements)) (section_variables vs)
+      × EachProcedure L (j + length (occurrences cs) + length (occurrences ts) + length (occurrences vs)) (scope_before_procedures k (forms_block (declares cs ts vs ps) statements) scope) (first_procedure_ordinal k (forms_block (declares cs ts vs ps) statements)) ps
       × L (maybe body) (j + length (occurrences (declares cs ts vs ps))) (body_scope k (forms_block (declares cs ts vs ps) statements) scope) statements
 
   pub EachProcedure : Placed → ℕ → Scope Name → ℕ → Tree Name (items procedure) → Type 0
@@ -100,16 +100,16 @@ module _ (u v : Naming Name) (R S : ℕ → Label → Type 0) (L : Placed) (make
       let g' = cut S j (length (occurrences t)) (occurrences (relabel_uses v (label_from_ordinal v) scope t)) (occurrences (relabel_variables v (label_from_ordinal v) (declare_names k (names_in_list ns) scope) (ordinal_after_names k (names_in_list ns)) gs)) (as_many-uses v (label_from_ordinal v) scope t) g in
       (each-uses j scope t f'.0 g'.0, each-variables (j + length (occurrences t)) (declare_names k (names_in_list ns) scope) (ordinal_after_names k (names_in_list ns)) gs f'.1 g'.1)
 
-  each-section : (j : ℕ) (scope : Scope Name) (k : ℕ) (s : Tree Name section) → AllAt R j (occurrences (relabel_section u (label_from_ordinal u) scope k s)) → AllAt S j (occurrences (relabel_section v (label_from_ordinal v) scope k s)) → L written_type j scope (section_type s)
+  each-section : (j : ℕ) (scope : Scope Name) (k : ℕ) (s : Tree Name section) → AllAt R j (occurrences (relabel_section u (label_from_ordinal u) scope k s)) → AllAt S j (occurrences (relabel_section v (label_from_ordinal v) scope k s)) → L written_type j scope (parameter_section_type s)
   each-section j scope k (value_section ns t) f g = each-uses j scope t f g
   each-section j scope k (variable_section ns t) f g = each-uses j scope t f g
 
   pub each-sections : (j : ℕ) (scope : Scope Name) (k : ℕ) (fs : Tree Name (items further_section)) → AllAt R j (occurrences (relabel_sections u (label_from_ordinal u) scope k fs)) → AllAt S j (occurrences (relabel_sections v (label_from_ordinal v) scope k fs)) → EachSection L j scope k fs
   each-sections j scope k end f g = tt
   each-sections j scope k (more (then_section s) fs) f g =
-      let f' = cut R j (length (occurrences s)) (occurrences (relabel_section u (label_from_ordinal u) scope k s)) (occurrences (relabel_sections u (label_from_ordinal u) (declare_names k (section_names s) scope) (ordinal_after_names k (section_names s)) fs)) (as_many-section u (label_from_ordinal u) scope k s) f in
-      let g' = cut S j (length (occurrences s)) (occurrences (relabel_section v (label_from_ordinal v) scope k s)) (occurrences (relabel_sections v (label_from_ordinal v) (declare_names k (section_names s) scope) (ordinal_after_names k (section_names s)) fs)) (as_many-section v (label_from_ordinal v) scope k s) g in
-      (each-section j scope k s f'.0 g'.0, each-sections (j + length (occurrences s)) (declare_names k (section_names s) scope) (ordinal_after_names k (section_names s)) fs f'.1 g'.1)
+      let f' = cut R j (length (occurrences s)) (occurrences (relabel_section u (label_from_ordinal u) scope k s)) (occurrences (relabel_sections u (label_from_ordinal u) (declare_names k (parameter_section_names s) scope) (ordinal_after_names k (parameter_section_names s)) fs)) (as_many-section u (label_from_ordinal u) scope k s) f in
+      let g' = cut S j (length (occurrences s)) (occurrences (relabel_section v (label_from_ordinal v) scope k s)) (occurrences (relabel_sections v (label_from_ordinal v) (declare_names k (parameter_section_names s) scope) (ordinal_after_names k (parameter_section_names s)) fs)) (as_many-section v (label_from_ordinal v) scope k s) g in
+      (each-section j scope k s f'.0 g'.0, each-sections (j + length (occurrences s)) (declare_names k (parameter_section_names s) scope) (ordinal_after_names k (parameter_section_names s)) fs f'.1 g'.1)
 
   each-formals : (j : ℕ) (scope : Scope Name) (k : ℕ) (fs : Tree Name (maybe formals)) → AllAt R j (occurrences (relabel_formals u (label_from_ordinal u) scope k fs)) → AllAt S j (occurrences (relabel_formals v (label_from_ordinal v) scope k fs)) → EachSection L j scope k (formal_sections fs)
   each-formals j scope k none f g = tt
@@ -134,30 +134,30 @@ module _ (u v : Naming Name) (R S : ℕ → Label → Type 0) (L : Placed) (make
         let b : Tree Name block = forms_block (declares cs ts vs ps) statements in
         let part : (w : Naming Name) (T : ℕ → Label → Type 0) → AllAt T j (occurrences (relabel_block w (label_from_ordinal w) scope k b))
         → AllAt T j (occurrences (relabel_constant_section w (label_from_ordinal w) scope k cs))
-        × AllAt T (j + length (occurrences cs)) (occurrences (relabel_type_section w (label_from_ordinal w) (types_scope k b scope) (first_type_ordinal k b) ts))
-        × AllAt T (j + length (occurrences cs) + length (occurrences ts)) (occurrences (relabel_variable_section w (label_from_ordinal w) (variables_scope k b scope) (first_variable_ordinal k b) vs))
-        × AllAt T (j + length (occurrences cs) + length (occurrences ts) + length (occurrences vs)) (occurrences (relabel_procedures w (label_from_ordinal w) (procedures_scope k b scope) (first_procedure_ordinal k b) ps))
+        × AllAt T (j + length (occurrences cs)) (occurrences (relabel_type_section w (label_from_ordinal w) (scope_before_types k b scope) (first_type_ordinal k b) ts))
+        × AllAt T (j + length (occurrences cs) + length (occurrences ts)) (occurrences (relabel_variable_section w (label_from_ordinal w) (scope_before_variables k b scope) (first_variable_ordinal k b) vs))
+        × AllAt T (j + length (occurrences cs) + length (occurrences ts) + length (occurrences vs)) (occurrences (relabel_procedures w (label_from_ordinal w) (scope_before_procedures k b scope) (first_procedure_ordinal k b) ps))
         × AllAt T (j + length (occurrences (declares cs ts vs ps))) (occurrences (relabel_uses w (label_from_ordinal w) (body_scope k b scope) statements)) = λ w T h.
         let cs' = relabel_constant_section w (label_from_ordinal w) scope k cs in
-        let ts' = relabel_type_section w (label_from_ordinal w) (types_scope k b scope) (first_type_ordinal k b) ts in
-        let vs' = relabel_variable_section w (label_from_ordinal w) (variables_scope k b scope) (first_variable_ordinal k b) vs in
-        let ps' = relabel_procedures w (label_from_ordinal w) (procedures_scope k b scope) (first_procedure_ordinal k b) ps in
+        let ts' = relabel_type_section w (label_from_ordinal w) (scope_before_types k b scope) (first_type_ordinal k b) ts in
+        let vs' = relabel_variable_section w (label_from_ordinal w) (scope_before_variables k b scope) (first_variable_ordinal k b) vs in
+        let ps' = relabel_procedures w (label_from_ordinal w) (scope_before_procedures k b scope) (first_procedure_ordinal k b) ps in
         let st' = relabel_uses w (label_from_ordinal w) (body_scope k b scope) statements in
         let h₀ = cut T j (length (occurrences (declares cs ts vs ps))) (occurrences (declares cs' ts' vs' ps')) (occurrences st')
         (longer _ _ (occurrences cs) (occurrences ts ++ (occurrences vs ++ occurrences ps)) (as_many-constant_section w (label_from_ordinal w) scope k cs)
-        (longer _ _ (occurrences ts) (occurrences vs ++ occurrences ps) (as_many-type_section w (label_from_ordinal w) (types_scope k b scope) (first_type_ordinal k b) ts)
-        (longer _ _ (occurrences vs) (occurrences ps) (as_many-variable_section w (label_from_ordinal w) (variables_scope k b scope) (first_variable_ordinal k b) vs)
-        (as_many-procedures w (label_from_ordinal w) (procedures_scope k b scope) (first_procedure_ordinal k b) ps)))) h in
+        (longer _ _ (occurrences ts) (occurrences vs ++ occurrences ps) (as_many-type_section w (label_from_ordinal w) (scope_before_types k b scope) (first_type_ordinal k b) ts)
+        (longer _ _ (occurrences vs) (occurrences ps) (as_many-variable_section w (label_from_ordinal w) (scope_before_variables k b scope) (first_variable_ordinal k b) vs)
+        (as_many-procedures w (label_from_ordinal w) (scope_before_procedures k b scope) (first_procedure_ordinal k b) ps)))) h in
         let h₁ = cut T j (length (occurrences cs)) (occurrences cs') (occurrences ts' ++ (occurrences vs' ++ occurrences ps')) (as_many-constant_section w (label_from_ordinal w) scope k cs) h₀.0 in
-        let h₂ = cut T (j + length (occurrences cs)) (length (occurrences ts)) (occurrences ts') (occurrences vs' ++ occurrences ps') (as_many-type_section w (label_from_ordinal w) (types_scope k b scope) (first_type_ordinal k b) ts) h₁.1 in
-        let h₃ = cut T (j + length (occurrences cs) + length (occurrences ts)) (length (occurrences vs)) (occurrences vs') (occurrences ps') (as_many-variable_section w (label_from_ordinal w) (variables_scope k b scope) (first_variable_ordinal k b) vs) h₂.1 in
+        let h₂ = cut T (j + length (occurrences cs)) (length (occurrences ts)) (occurrences ts') (occurrences vs' ++ occurrences ps') (as_many-type_section w (label_from_ordinal w) (scope_before_types k b scope) (first_type_ordinal k b) ts) h₁.1 in
+        let h₃ = cut T (j + length (occurrences cs) + length (occurrences ts)) (length (occurrences vs)) (occurrences vs') (occurrences ps') (as_many-variable_section w (label_from_ordinal w) (scope_before_variables k b scope) (first_variable_ordinal k b) vs) h₂.1 in
         (h₁.0, h₂.0, h₃.0, h₃.1, h₀.1) in
         let f' = part u R f in
         let g' = part v S g in (
           each-constant_section j scope k cs f'.0 g'.0,
-          each-type_section (j + length (occurrences cs)) (types_scope k b scope) (first_type_ordinal k b) ts f'.1 g'.1,
-          each-variable_section (j + length (occurrences cs) + length (occurrences ts)) (variables_scope k b scope) (first_variable_ordinal k b) vs f'.2 g'.2,
-          each-procedures (j + length (occurrences cs) + length (occurrences ts) + length (occurrences vs)) (procedures_scope k b scope) (first_procedure_ordinal k b) ps f'.3 g'.3,
+          each-type_section (j + length (occurrences cs)) (scope_before_types k b scope) (first_type_ordinal k b) ts f'.1 g'.1,
+          each-variable_section (j + length (occurrences cs) + length (occurrences ts)) (scope_before_variables k b scope) (first_variable_ordinal k b) vs f'.2 g'.2,
+          each-procedures (j + length (occurrences cs) + length (occurrences ts) + length (occurrences vs)) (scope_before_procedures k b scope) (first_procedure_ordinal k b) ps f'.3 g'.3,
           each-uses (j + length (occurrences (declares cs ts vs ps))) (body_scope k b scope) statements f'.4 g'.4,
         )
 
@@ -192,16 +192,16 @@ module _ (K L M : Placed) (make : (s : Sort) (j : ℕ) (scope : Scope Name) (t :
 
   both-sections : (j : ℕ) (scope : Scope Name) (k : ℕ) (fs : Tree Name (items further_section)) → EachSection K j scope k fs → EachSection L j scope k fs → EachSection M j scope k fs
   both-sections j scope k end f g = tt
-  both-sections j scope k (more (then_section s) fs) f g = (make written_type j scope (section_type s) f.0 g.0, both-sections (j + length (occurrences s)) (declare_names k (section_names s) scope) (ordinal_after_names k (section_names s)) fs f.1 g.1)
+  both-sections j scope k (more (then_section s) fs) f g = (make written_type j scope (parameter_section_type s) f.0 g.0, both-sections (j + length (occurrences s)) (declare_names k (parameter_section_names s) scope) (ordinal_after_names k (parameter_section_names s)) fs f.1 g.1)
 
   mutual
     pub both-block : (j : ℕ) (scope : Scope Name) (k : ℕ) (b : Tree Name block) → EachBlock K j scope k b → EachBlock L j scope k b → EachBlock M j scope k b
     both-block j scope k (forms_block (declares cs ts vs ps) statements) f g =
         let b : Tree Name block = forms_block (declares cs ts vs ps) statements in (
           both-constants j scope k (section_constants cs) f.0 g.0,
-          both-types (j + length (occurrences cs)) (types_scope k b scope) (first_type_ordinal k b) (section_types ts) f.1 g.1,
-          both-variables (j + length (occurrences cs) + length (occurrences ts)) (variables_scope k b scope) (first_variable_ordinal k b) (section_variables vs) f.2 g.2,
-          both-procedures (j + length (occurrences cs) + length (occurrences ts) + length (occurrences vs)) (procedures_scope k b scope) (first_procedure_ordinal k b) ps f.3 g.3,
+          both-types (j + length (occurrences cs)) (scope_before_types k b scope) (first_type_ordinal k b) (section_types ts) f.1 g.1,
+          both-variables (j + length (occurrences cs) + length (occurrences ts)) (scope_before_variables k b scope) (first_variable_ordinal k b) (section_variables vs) f.2 g.2,
+          both-procedures (j + length (occurrences cs) + length (occurrences ts) + length (occurrences vs)) (scope_before_procedures k b scope) (first_procedure_ordinal k b) ps f.3 g.3,
           make (maybe body) (j + length (occurrences (declares cs ts vs ps))) (body_scope k b scope) statements f.4 g.4,
         )
 

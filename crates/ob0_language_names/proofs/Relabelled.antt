@@ -2,23 +2,23 @@
 use Rattle.std.proofs.Common.{◌≡◌, ℕ, suc, ◌∷◌, Some, refl}
 use Rattle.ob0_tree.specs.Tree.{Tree, constants, declares_constants, declares_types, declares_variables, end, formals, further_name, items, listed, maybe, more, names, no_formals, none, one, section, some_formals, then_name, type_definitions, value_section, variable_section, variables}
 use Rattle.ob0_language_names.specs.Names.{Naming}
-use Rattle.ob0_language_names.specs.Parts.{formal_sections, further_names, names_in_list, section_constants, section_names, section_type, section_types, section_variables}
-use Rattle.ob0_language_names.specs.Scopes.{Labelling, Scope, label_names, relabel_constant_section, relabel_constants, relabel_formals, relabel_further_names, relabel_names, relabel_section, relabel_sections, relabel_type_section, relabel_types, relabel_uses, relabel_variable_section, relabel_variables}
+use Rattle.ob0_language_names.specs.Parts.{formal_sections, further_names, names_in_list, section_constants, parameter_section_names, parameter_section_type, section_types, section_variables}
+use Rattle.ob0_language_names.specs.Scopes.{Labelling, Scope, labels_of_declared_names, relabel_constant_section, relabel_constants, relabel_formals, relabel_further_names, relabel_names, relabel_section, relabel_sections, relabel_type_section, relabel_types, relabel_uses, relabel_variable_section, relabel_variables}
 
-pub further-relabel : {N M : Type 0} (label : Labelling N M) (k : ℕ) (xs : Tree N (items further_name)) → further_names (relabel_further_names label k xs) ≡ label_names label k (further_names xs)
+pub further-relabel : {N M : Type 0} (label : Labelling N M) (k : ℕ) (xs : Tree N (items further_name)) → further_names (relabel_further_names label k xs) ≡ labels_of_declared_names label k (further_names xs)
 further-relabel label k end = refl
 further-relabel label k (more (then_name x) xs) = λ i. label (Some k) x ∷ further-relabel label (suc k) xs i
 
-pub names-relabel : {N M : Type 0} (label : Labelling N M) (k : ℕ) (ns : Tree N names) → names_in_list (relabel_names label k ns) ≡ label_names label k (names_in_list ns)
+pub names-relabel : {N M : Type 0} (label : Labelling N M) (k : ℕ) (ns : Tree N names) → names_in_list (relabel_names label k ns) ≡ labels_of_declared_names label k (names_in_list ns)
 names-relabel label k (listed x xs) = λ i. label (Some k) x ∷ further-relabel label (suc k) xs i
 
-pub section_names-relabel : {N M : Type 0} (naming : Naming N) (label : Labelling N M) (scope : Scope N) (k : ℕ) (s : Tree N section) → section_names (relabel_section naming label scope k s) ≡ label_names label k (section_names s)
-section_names-relabel naming label scope k (value_section ns t) = names-relabel label k ns
-section_names-relabel naming label scope k (variable_section ns t) = names-relabel label k ns
+pub parameter_section_names-relabel : {N M : Type 0} (naming : Naming N) (label : Labelling N M) (scope : Scope N) (k : ℕ) (s : Tree N section) → parameter_section_names (relabel_section naming label scope k s) ≡ labels_of_declared_names label k (parameter_section_names s)
+parameter_section_names-relabel naming label scope k (value_section ns t) = names-relabel label k ns
+parameter_section_names-relabel naming label scope k (variable_section ns t) = names-relabel label k ns
 
-pub section_type-relabel : {N M : Type 0} (naming : Naming N) (label : Labelling N M) (scope : Scope N) (k : ℕ) (s : Tree N section) → section_type (relabel_section naming label scope k s) ≡ relabel_uses naming label scope (section_type s)
-section_type-relabel naming label scope k (value_section ns t) = refl
-section_type-relabel naming label scope k (variable_section ns t) = refl
+pub parameter_section_type-relabel : {N M : Type 0} (naming : Naming N) (label : Labelling N M) (scope : Scope N) (k : ℕ) (s : Tree N section) → parameter_section_type (relabel_section naming label scope k s) ≡ relabel_uses naming label scope (parameter_section_type s)
+parameter_section_type-relabel naming label scope k (value_section ns t) = refl
+parameter_section_type-relabel naming label scope k (variable_section ns t) = refl
 
 pub constants-section : {N M : Type 0} (naming : Naming N) (label : Labelling N M) (scope : Scope N) (k : ℕ) (cs : Tree N (maybe constants)) → section_constants (relabel_constant_section naming label scope k cs) ≡ relabel_constants naming label scope k (section_constants cs)
 constants-section naming label scope k none = refl

@@ -5,12 +5,12 @@ use Rattle.ob0_language_names.specs.ConsistentNames.{are_distinct, block_names, 
 use Rattle.ob0_language_names.specs.Mapping.{map_names}
 use Rattle.ob0_language_names.specs.Names.{Name, Naming, naming_by_spelling, same_name}
 use Rattle.ob0_language_names.specs.Occurrences.{scopes_in_block, scopes_in_procedure, scopes_in_procedures, declares_ordinal, another_declaration_has_name}
-use Rattle.ob0_language_names.specs.Parts.{constant_names, formal_names, formal_sections, further_names, declared_type_names, names_in_list, procedure_name, section_constants, section_names, section_type, section_types, section_variables, variable_names}
+use Rattle.ob0_language_names.specs.Parts.{constant_names, formal_names, formal_sections, further_names, declared_type_names, names_in_list, procedure_name, section_constants, parameter_section_names, parameter_section_type, section_types, section_variables, variable_names}
 use Rattle.ob0_language_names.specs.RenamingLaws.{FreeRenamingKeepsConsistentNames}
 use Rattle.ob0_language_names.proofs.DistinctNames.{Falls, distinct-onto, distinct-renamed, labels_in, new_name, onto, onto-append, own_name}
 use Rattle.ob0_language_names.proofs.Ordinals.{le-ordinal_after_procedure}
-use Rattle.ob0_language_names.proofs.Relabelled.{constants-section, formals-section, names-relabel, section_names-relabel, section_type-relabel, types-section, variables-section}
-use Rattle.ob0_language_names.specs.Scopes.{Labelling, Scope, ordinal_after_block, ordinal_after_names, ordinal_after_procedure, ordinal_after_procedures, body_scope, declare_names, declare_procedure_names, first_procedure_ordinal, first_type_ordinal, first_variable_ordinal, label_names, label_of, predeclared_scope, procedures_scope, relabel_block, relabel_constant_section, relabel_constants, relabel_procedure, relabel_procedures, relabel_sections, relabel_type_section, relabel_types, relabel_variable_section, relabel_variables, types_scope, variables_scope}
+use Rattle.ob0_language_names.proofs.Relabelled.{constants-section, formals-section, names-relabel, parameter_section_names-relabel, parameter_section_type-relabel, types-section, variables-section}
+use Rattle.ob0_language_names.specs.Scopes.{Labelling, Scope, ordinal_after_block, ordinal_after_names, ordinal_after_procedure, ordinal_after_procedures, body_scope, declare_names, declare_procedure_names, first_procedure_ordinal, first_type_ordinal, first_variable_ordinal, labels_of_declared_names, label_of, predeclared_scope, scope_before_procedures, relabel_block, relabel_constant_section, relabel_constants, relabel_procedure, relabel_procedures, relabel_sections, relabel_type_section, relabel_types, relabel_variable_section, relabel_variables, scope_before_types, scope_before_variables}
 use Rattle.std.proofs.lemmas.Cmp.{nat_list_eq_equiv}
 use Rattle.std.proofs.lemmas.Bool.{and_from, and_parts, or_parts}
 use Rattle.std.proofs.lemmas.List.Folds.{list_any-append}
@@ -18,37 +18,37 @@ use Rattle.std.specs.List.{list_any}
 
 -- The names of a relabelled tree's declarations are the labels of the original names.
 
-pub label_names-append : {N M : Type 0} (label : Labelling N M) (k : ℕ) (xs ys : List N) → label_names label k (xs ++ ys) ≡ label_names label k xs ++ label_names label (ordinal_after_names k xs) ys
-label_names-append label k [] ys = refl
-label_names-append label k (x ∷ xs) ys = λ i. label (Some k) x ∷ label_names-append label (suc k) xs ys i
+pub labels_of_declared_names-append : {N M : Type 0} (label : Labelling N M) (k : ℕ) (xs ys : List N) → labels_of_declared_names label k (xs ++ ys) ≡ labels_of_declared_names label k xs ++ labels_of_declared_names label (ordinal_after_names k xs) ys
+labels_of_declared_names-append label k [] ys = refl
+labels_of_declared_names-append label k (x ∷ xs) ys = λ i. label (Some k) x ∷ labels_of_declared_names-append label (suc k) xs ys i
 
-pub label_names-own : (k : ℕ) (xs : List Name) → label_names own_name k xs ≡ xs
-label_names-own k [] = refl
-label_names-own k (x ∷ xs) = λ i. x ∷ label_names-own (suc k) xs i
+pub labels_of_declared_names-own : (k : ℕ) (xs : List Name) → labels_of_declared_names own_name k xs ≡ xs
+labels_of_declared_names-own k [] = refl
+labels_of_declared_names-own k (x ∷ xs) = λ i. x ∷ labels_of_declared_names-own (suc k) xs i
 
-pub constants-labels : {N M : Type 0} (naming : Naming N) (label : Labelling N M) (scope : Scope N) (k : ℕ) (cs : Tree N (items constant)) → constant_names (relabel_constants naming label scope k cs) ≡ label_names label k (constant_names cs)
+pub constants-labels : {N M : Type 0} (naming : Naming N) (label : Labelling N M) (scope : Scope N) (k : ℕ) (cs : Tree N (items constant)) → constant_names (relabel_constants naming label scope k cs) ≡ labels_of_declared_names label k (constant_names cs)
 constants-labels naming label scope k end = refl
 constants-labels naming label scope k (more (declares_constant x e) cs) = λ i. label (Some k) x ∷ constants-labels naming label ((x, k) ∷ scope) (suc k) cs i
 
-pub types-labels : {N M : Type 0} (naming : Naming N) (label : Labelling N M) (scope : Scope N) (k : ℕ) (ds : Tree N (items type_definition)) → declared_type_names (relabel_types naming label scope k ds) ≡ label_names label k (declared_type_names ds)
+pub types-labels : {N M : Type 0} (naming : Naming N) (label : Labelling N M) (scope : Scope N) (k : ℕ) (ds : Tree N (items type_definition)) → declared_type_names (relabel_types naming label scope k ds) ≡ labels_of_declared_names label k (declared_type_names ds)
 types-labels naming label scope k end = refl
 types-labels naming label scope k (more (declares_type x t) ds) = λ i. label (Some k) x ∷ types-labels naming label ((x, k) ∷ scope) (suc k) ds i
 
-pub variables-labels : {N M : Type 0} (naming : Naming N) (label : Labelling N M) (scope : Scope N) (k : ℕ) (gs : Tree N (items variable)) → variable_names (relabel_variables naming label scope k gs) ≡ label_names label k (variable_names gs)
+pub variables-labels : {N M : Type 0} (naming : Naming N) (label : Labelling N M) (scope : Scope N) (k : ℕ) (gs : Tree N (items variable)) → variable_names (relabel_variables naming label scope k gs) ≡ labels_of_declared_names label k (variable_names gs)
 variables-labels naming label scope k end = refl
 variables-labels naming label scope k (more (declares_variable ns t) gs) =
     (λ i. names-relabel label k ns i ++ variables-labels naming label (declare_names k (names_in_list ns) scope) (ordinal_after_names k (names_in_list ns)) gs i)
-    ∙ sym (label_names-append label k (names_in_list ns) (variable_names gs))
+    ∙ sym (labels_of_declared_names-append label k (names_in_list ns) (variable_names gs))
 
-pub sections-labels : {N M : Type 0} (naming : Naming N) (label : Labelling N M) (scope : Scope N) (k : ℕ) (fs : Tree N (items further_section)) → formal_names (relabel_sections naming label scope k fs) ≡ label_names label k (formal_names fs)
+pub sections-labels : {N M : Type 0} (naming : Naming N) (label : Labelling N M) (scope : Scope N) (k : ℕ) (fs : Tree N (items further_section)) → formal_names (relabel_sections naming label scope k fs) ≡ labels_of_declared_names label k (formal_names fs)
 sections-labels naming label scope k end = refl
 sections-labels naming label scope k (more (then_section s) fs) =
-    (λ i. section_names-relabel naming label scope k s i ++ sections-labels naming label (declare_names k (section_names s) scope) (ordinal_after_names k (section_names s)) fs i)
-    ∙ sym (label_names-append label k (section_names s) (formal_names fs))
+    (λ i. parameter_section_names-relabel naming label scope k s i ++ sections-labels naming label (declare_names k (parameter_section_names s) scope) (ordinal_after_names k (parameter_section_names s)) fs i)
+    ∙ sym (labels_of_declared_names-append label k (parameter_section_names s) (formal_names fs))
 
 -- The labels in the scope after declarations are the declared names' labels in reverse, then the earlier labels.
 
-pub labels_in-names : {N M : Type 0} (label : Labelling N M) (k : ℕ) (xs : List N) (scope : Scope N) → labels_in label (declare_names k xs scope) ≡ onto (label_names label k xs) (labels_in label scope)
+pub labels_in-names : {N M : Type 0} (label : Labelling N M) (k : ℕ) (xs : List N) (scope : Scope N) → labels_in label (declare_names k xs scope) ≡ onto (labels_of_declared_names label k xs) (labels_in label scope)
 labels_in-names label k [] scope = refl
 labels_in-names label k (x ∷ xs) scope = labels_in-names label (suc k) xs ((x, k) ∷ scope)
 
@@ -71,30 +71,30 @@ pub labels_in-block : {N M : Type 0} (naming : Naming N) (label : Labelling N M)
     → labels_in label (body_scope k b own) ≡ onto (block_names (relabel_block naming label visible k b)) (labels_in label own)
 labels_in-block {N} naming label visible k (forms_block (declares cs ts vs ps) statements) own =
     let b : Tree N block = forms_block (declares cs ts vs ps) statements in
-    labels_in-procedures naming label (procedures_scope k b visible) (first_procedure_ordinal k b) ps (procedures_scope k b own)
-    ∙ (ap (onto (procedure_names (relabel_procedures naming label (procedures_scope k b visible) (first_procedure_ordinal k b) ps)))
-    (labels_in-names label (first_variable_ordinal k b) (variable_names (section_variables vs)) (variables_scope k b own)
-    ∙ (λ i. onto (sym (ap variable_names (variables-section naming label (variables_scope k b visible) (first_variable_ordinal k b) vs) ∙ variables-labels naming label (variables_scope k b visible) (first_variable_ordinal k b) (section_variables vs)) i)
-    ((labels_in-names label (first_type_ordinal k b) (declared_type_names (section_types ts)) (types_scope k b own)
-    ∙ (λ j. onto (sym (ap declared_type_names (types-section naming label (types_scope k b visible) (first_type_ordinal k b) ts) ∙ types-labels naming label (types_scope k b visible) (first_type_ordinal k b) (section_types ts)) j)
+    labels_in-procedures naming label (scope_before_procedures k b visible) (first_procedure_ordinal k b) ps (scope_before_procedures k b own)
+    ∙ (ap (onto (procedure_names (relabel_procedures naming label (scope_before_procedures k b visible) (first_procedure_ordinal k b) ps)))
+    (labels_in-names label (first_variable_ordinal k b) (variable_names (section_variables vs)) (scope_before_variables k b own)
+    ∙ (λ i. onto (sym (ap variable_names (variables-section naming label (scope_before_variables k b visible) (first_variable_ordinal k b) vs) ∙ variables-labels naming label (scope_before_variables k b visible) (first_variable_ordinal k b) (section_variables vs)) i)
+    ((labels_in-names label (first_type_ordinal k b) (declared_type_names (section_types ts)) (scope_before_types k b own)
+    ∙ (λ j. onto (sym (ap declared_type_names (types-section naming label (scope_before_types k b visible) (first_type_ordinal k b) ts) ∙ types-labels naming label (scope_before_types k b visible) (first_type_ordinal k b) (section_types ts)) j)
     ((labels_in-names label k (constant_names (section_constants cs)) own
     ∙ ap (λ xs. onto xs (labels_in label own)) (sym (ap constant_names (constants-section naming label visible k cs) ∙ constants-labels naming label visible k (section_constants cs)))) j))) i)))
     ∙ onto-parts (constant_names (section_constants (relabel_constant_section naming label visible k cs)))
-    (declared_type_names (section_types (relabel_type_section naming label (types_scope k b visible) (first_type_ordinal k b) ts)))
-    (variable_names (section_variables (relabel_variable_section naming label (variables_scope k b visible) (first_variable_ordinal k b) vs)))
-    (procedure_names (relabel_procedures naming label (procedures_scope k b visible) (first_procedure_ordinal k b) ps)) (labels_in label own))
+    (declared_type_names (section_types (relabel_type_section naming label (scope_before_types k b visible) (first_type_ordinal k b) ts)))
+    (variable_names (section_variables (relabel_variable_section naming label (scope_before_variables k b visible) (first_variable_ordinal k b) vs)))
+    (procedure_names (relabel_procedures naming label (scope_before_procedures k b visible) (first_procedure_ordinal k b) ps)) (labels_in label own))
 
 pub own_names-block : (k : ℕ) (b : Tree Name block) (own : Scope Name) → labels_in own_name (body_scope k b own) ≡ onto (block_names b) (labels_in own_name own)
 own_names-block k (forms_block (declares cs ts vs ps) statements) own =
     let b : Tree Name block = forms_block (declares cs ts vs ps) statements in
-    own_names-procedures (first_procedure_ordinal k b) ps (procedures_scope k b own)
-    ∙ (ap (onto (procedure_names ps)) (named (first_variable_ordinal k b) (variable_names (section_variables vs)) (variables_scope k b own)
-    ∙ ap (onto (variable_names (section_variables vs))) (named (first_type_ordinal k b) (declared_type_names (section_types ts)) (types_scope k b own)
+    own_names-procedures (first_procedure_ordinal k b) ps (scope_before_procedures k b own)
+    ∙ (ap (onto (procedure_names ps)) (named (first_variable_ordinal k b) (variable_names (section_variables vs)) (scope_before_variables k b own)
+    ∙ ap (onto (variable_names (section_variables vs))) (named (first_type_ordinal k b) (declared_type_names (section_types ts)) (scope_before_types k b own)
     ∙ ap (onto (declared_type_names (section_types ts))) (named k (constant_names (section_constants cs)) own)))
     ∙ onto-parts (constant_names (section_constants cs)) (declared_type_names (section_types ts)) (variable_names (section_variables vs)) (procedure_names ps) (labels_in own_name own))
   where
     named : (k : ℕ) (xs : List Name) (scope : Scope Name) → labels_in own_name (declare_names k xs scope) ≡ onto xs (labels_in own_name scope)
-    named k xs scope = labels_in-names own_name k xs scope ∙ ap (λ ys. onto ys (labels_in own_name scope)) (label_names-own k xs)
+    named k xs scope = labels_in-names own_name k xs scope ∙ ap (λ ys. onto ys (labels_in own_name scope)) (labels_of_declared_names-own k xs)
 
 -- Ordinals decrease from newer to older bindings.
 
@@ -109,9 +109,9 @@ falls-procedures k (more p rest) scope falls = falls-procedures (ordinal_after_p
 pub falls-block : {N : Type 0} (k : ℕ) (b : Tree N block) (own : Scope N) → Falls k own → Falls (ordinal_after_block k b) (body_scope k b own)
 falls-block {N} k (forms_block (declares cs ts vs ps) statements) own falls =
     let b : Tree N block = forms_block (declares cs ts vs ps) statements in
-    falls-procedures (first_procedure_ordinal k b) ps (procedures_scope k b own)
-    (falls-names (first_variable_ordinal k b) (variable_names (section_variables vs)) (variables_scope k b own)
-    (falls-names (first_type_ordinal k b) (declared_type_names (section_types ts)) (types_scope k b own)
+    falls-procedures (first_procedure_ordinal k b) ps (scope_before_procedures k b own)
+    (falls-names (first_variable_ordinal k b) (variable_names (section_variables vs)) (scope_before_variables k b own)
+    (falls-names (first_type_ordinal k b) (declared_type_names (section_types ts)) (scope_before_types k b own)
     (falls-names k (constant_names (section_constants cs)) own falls)))
 
 -- A renaming leaves the names of fields unchanged.
@@ -159,8 +159,8 @@ variables_have_distinct_fields-renamed d new scope k (more (declares_variable ns
 pub formals_have_distinct_fields-renamed : (d : ℕ) (new : Name) (scope : Scope Name) (k : ℕ) (fs : Tree Name (items further_section)) → formals_have_distinct_fields (relabel_sections naming_by_spelling (new_name d new) scope k fs) ≡ formals_have_distinct_fields fs
 formals_have_distinct_fields-renamed d new scope k end = refl
 formals_have_distinct_fields-renamed d new scope k (more (then_section s) fs) = λ i.
-    (ap has_distinct_fields (section_type-relabel naming_by_spelling (new_name d new) scope k s) ∙ has_distinct_fields-kept (label_of naming_by_spelling (new_name d new) scope) (section_type s)) i
-    && formals_have_distinct_fields-renamed d new (declare_names k (section_names s) scope) (ordinal_after_names k (section_names s)) fs i
+    (ap has_distinct_fields (parameter_section_type-relabel naming_by_spelling (new_name d new) scope k s) ∙ has_distinct_fields-kept (label_of naming_by_spelling (new_name d new) scope) (parameter_section_type s)) i
+    && formals_have_distinct_fields-renamed d new (declare_names k (parameter_section_names s) scope) (ordinal_after_names k (parameter_section_names s)) fs i
 
 -- returns true if a block declares `d` and another declaration of the block has the new name
 
@@ -174,7 +174,7 @@ same-renamed d new k x y h =
 mutual
   pub block_has_consistent_names-renamed : (d : ℕ) (new : Name) (j : ℕ) (own : List Name) (scope : Scope Name) (b : Tree Name block)
       → list_any (Clashes d new) (scopes_in_block (ordinal_after_names j own) (declare_names j own []) b) ≡ false → block_has_consistent_names own b ≡ true
-      → block_has_consistent_names (label_names (new_name d new) j own) (relabel_block naming_by_spelling (new_name d new) scope (ordinal_after_names j own) b) ≡ true
+      → block_has_consistent_names (labels_of_declared_names (new_name d new) j own) (relabel_block naming_by_spelling (new_name d new) scope (ordinal_after_names j own) b) ≡ true
   block_has_consistent_names-renamed d new j own scope (forms_block (declares cs ts vs ps) statements) free once =
       let b : Tree Name block = forms_block (declares cs ts vs ps) statements in
       let k : ℕ = ordinal_after_names j own in
@@ -186,18 +186,18 @@ mutual
       let onces₂ = and_parts (variables_have_distinct_fields (section_variables vs)) (procedures_have_consistent_names ps) onces₁.1 in
       let in_scope : are_distinct (labels_in own_name mine) ≡ true =
       ap are_distinct (own_names-block k b (declare_names j own [])
-      ∙ ap (onto (block_names b)) (labels_in-names own_name j own [] ∙ ap (λ xs. onto xs []) (label_names-own j own)))
+      ∙ ap (onto (block_names b)) (labels_in-names own_name j own [] ∙ ap (λ xs. onto xs []) (labels_of_declared_names-own j own)))
       ∙ (ap are_distinct (sym (onto-append own (block_names b) [])) ∙ (distinct-onto (own ++ block_names b) [] ∙ (ap are_distinct (append-nil (own ++ block_names b)) ∙ onces.0))) in
       let b' : Tree Name block = relabel_block naming_by_spelling ren scope k b in
-      let own' : List Name = label_names ren j own in
+      let own' : List Name = labels_of_declared_names ren j own in
       let listed_once : are_distinct (own' ++ block_names b') ≡ true =
       sym (ap are_distinct (labels_in-block naming_by_spelling ren scope k b (declare_names j own []) ∙ ap (onto (block_names b')) (labels_in-names ren j own []))
       ∙ (ap are_distinct (sym (onto-append own' (block_names b') [])) ∙ (distinct-onto (own' ++ block_names b') [] ∙ ap are_distinct (append-nil (own' ++ block_names b')))))
       ∙ distinct-renamed d (ordinal_after_block k b) new mine (falls-block k b (declare_names j own []) (falls-names j own [] tt)) frees.0 in_scope in
       and_from (are_distinct (own' ++ block_names b')) _ listed_once
-      (and_from _ _ (ap types_have_distinct_fields (types-section naming_by_spelling ren (types_scope k b scope) (first_type_ordinal k b) ts) ∙ (types_have_distinct_fields-renamed d new (types_scope k b scope) (first_type_ordinal k b) (section_types ts) ∙ onces₁.0))
-      (and_from _ _ (ap variables_have_distinct_fields (variables-section naming_by_spelling ren (variables_scope k b scope) (first_variable_ordinal k b) vs) ∙ (variables_have_distinct_fields-renamed d new (variables_scope k b scope) (first_variable_ordinal k b) (section_variables vs) ∙ onces₂.0))
-      (procedures_have_consistent_names-renamed d new (first_procedure_ordinal k b) (procedures_scope k b scope) ps frees.1 onces₂.1)))
+      (and_from _ _ (ap types_have_distinct_fields (types-section naming_by_spelling ren (scope_before_types k b scope) (first_type_ordinal k b) ts) ∙ (types_have_distinct_fields-renamed d new (scope_before_types k b scope) (first_type_ordinal k b) (section_types ts) ∙ onces₁.0))
+      (and_from _ _ (ap variables_have_distinct_fields (variables-section naming_by_spelling ren (scope_before_variables k b scope) (first_variable_ordinal k b) vs) ∙ (variables_have_distinct_fields-renamed d new (scope_before_variables k b scope) (first_variable_ordinal k b) (section_variables vs) ∙ onces₂.0))
+      (procedures_have_consistent_names-renamed d new (first_procedure_ordinal k b) (scope_before_procedures k b scope) ps frees.1 onces₂.1)))
 
   pub procedures_have_consistent_names-renamed : (d : ℕ) (new : Name) (k : ℕ) (scope : Scope Name) (ps : Tree Name (items procedure))
       → list_any (Clashes d new) (scopes_in_procedures k ps) ≡ false → procedures_have_consistent_names ps ≡ true → procedures_have_consistent_names (relabel_procedures naming_by_spelling (new_name d new) scope k ps) ≡ true

@@ -4,15 +4,15 @@ use Rattle.ob0_tree.specs.Tree.{Sort, Tree, block, constant, constants, declares
 use Rattle.ob0_language_names.specs.Laws.{FreeRenamingKeepsNumbering}
 use Rattle.ob0_language_names.specs.Names.{Label, Name, Naming, naming_by_spelling, as_written, declared}
 use Rattle.ob0_language_names.specs.Occurrences.{bindings}
-use Rattle.ob0_language_names.specs.Parts.{constant_names, formal_names, formal_sections, declared_type_names, names_in_list, procedure_name, section_constants, section_names, section_types, section_variables, variable_names}
-use Rattle.ob0_language_names.specs.Scopes.{Labelling, Scope, ordinal_after_block, ordinal_after_names, ordinal_after_procedure, ordinal_after_procedures, label_from_ordinal, body_scope, declare_names, first_procedure_ordinal, first_type_ordinal, first_variable_ordinal, label_names, label_of, numbered, predeclared_scope, procedures_scope, relabel_block, relabel_constant_section, relabel_constants, relabel_formals, relabel_further_names, relabel_names, relabel_procedure, relabel_procedures, relabel_section, relabel_sections, relabel_type_section, relabel_types, relabel_uses, relabel_variable_section, relabel_variables, renamed, same_ordinal, types_scope, variables_scope}
+use Rattle.ob0_language_names.specs.Parts.{constant_names, formal_names, formal_sections, declared_type_names, names_in_list, procedure_name, section_constants, parameter_section_names, section_types, section_variables, variable_names}
+use Rattle.ob0_language_names.specs.Scopes.{Labelling, Scope, ordinal_after_block, ordinal_after_names, ordinal_after_procedure, ordinal_after_procedures, label_from_ordinal, body_scope, declare_names, first_procedure_ordinal, first_type_ordinal, first_variable_ordinal, labels_of_declared_names, label_of, numbered, predeclared_scope, scope_before_procedures, relabel_block, relabel_constant_section, relabel_constants, relabel_formals, relabel_further_names, relabel_names, relabel_procedure, relabel_procedures, relabel_section, relabel_sections, relabel_type_section, relabel_types, relabel_uses, relabel_variable_section, relabel_variables, renamed, same_ordinal, scope_before_types, scope_before_variables}
 use Rattle.ob0_language_names.proofs.Ordinals.{ordinal_after_names-append}
 use Rattle.ob0_language_names.proofs.Peeling.{Peel, both, nothing, peel, to}
-use Rattle.ob0_language_names.proofs.Relabelled.{constants-section, formals-section, names-relabel, section_names-relabel, types-section, variables-section}
+use Rattle.ob0_language_names.proofs.Relabelled.{constants-section, formals-section, names-relabel, parameter_section_names-relabel, types-section, variables-section}
 
 -- The labels and ordinals of declarations don't depend on names.
 
-pub ordinal_after_names-label : {N M : Type 0} (label : Labelling N M) (j k : ℕ) (xs : List N) → j ≡ k → ordinal_after_names j (label_names label k xs) ≡ ordinal_after_names k xs
+pub ordinal_after_names-label : {N M : Type 0} (label : Labelling N M) (j k : ℕ) (xs : List N) → j ≡ k → ordinal_after_names j (labels_of_declared_names label k xs) ≡ ordinal_after_names k xs
 ordinal_after_names-label label j k [] e = e
 ordinal_after_names-label label j k (x ∷ xs) e = ordinal_after_names-label label (suc j) (suc k) xs (ap suc e)
 
@@ -28,17 +28,17 @@ pub after_groups : {N M : Type 0} (naming : Naming N) (label : Labelling N M) (s
 after_groups naming label scope j k end e = e
 after_groups naming label scope j k (more (declares_variable ns u) gs) e =
     ap (λ xs. ordinal_after_names j (xs ++ variable_names (relabel_variables naming label (declare_names k (names_in_list ns) scope) (ordinal_after_names k (names_in_list ns)) gs))) (names-relabel label k ns)
-    ∙ (ordinal_after_names-append j (label_names label k (names_in_list ns)) (variable_names (relabel_variables naming label (declare_names k (names_in_list ns) scope) (ordinal_after_names k (names_in_list ns)) gs))
-    ∙ (after_groups naming label (declare_names k (names_in_list ns) scope) (ordinal_after_names j (label_names label k (names_in_list ns))) (ordinal_after_names k (names_in_list ns)) gs (ordinal_after_names-label label j k (names_in_list ns) e)
+    ∙ (ordinal_after_names-append j (labels_of_declared_names label k (names_in_list ns)) (variable_names (relabel_variables naming label (declare_names k (names_in_list ns) scope) (ordinal_after_names k (names_in_list ns)) gs))
+    ∙ (after_groups naming label (declare_names k (names_in_list ns) scope) (ordinal_after_names j (labels_of_declared_names label k (names_in_list ns))) (ordinal_after_names k (names_in_list ns)) gs (ordinal_after_names-label label j k (names_in_list ns) e)
     ∙ sym (ordinal_after_names-append k (names_in_list ns) (variable_names gs))))
 
 pub after_sections : {N M : Type 0} (naming : Naming N) (label : Labelling N M) (scope : Scope N) (j k : ℕ) (fs : Tree N (items further_section)) → j ≡ k → ordinal_after_names j (formal_names (relabel_sections naming label scope k fs)) ≡ ordinal_after_names k (formal_names fs)
 after_sections naming label scope j k end e = e
 after_sections naming label scope j k (more (then_section f) fs) e =
-    ap (λ xs. ordinal_after_names j (xs ++ formal_names (relabel_sections naming label (declare_names k (section_names f) scope) (ordinal_after_names k (section_names f)) fs))) (section_names-relabel naming label scope k f)
-    ∙ (ordinal_after_names-append j (label_names label k (section_names f)) (formal_names (relabel_sections naming label (declare_names k (section_names f) scope) (ordinal_after_names k (section_names f)) fs))
-    ∙ (after_sections naming label (declare_names k (section_names f) scope) (ordinal_after_names j (label_names label k (section_names f))) (ordinal_after_names k (section_names f)) fs (ordinal_after_names-label label j k (section_names f) e)
-    ∙ sym (ordinal_after_names-append k (section_names f) (formal_names fs))))
+    ap (λ xs. ordinal_after_names j (xs ++ formal_names (relabel_sections naming label (declare_names k (parameter_section_names f) scope) (ordinal_after_names k (parameter_section_names f)) fs))) (parameter_section_names-relabel naming label scope k f)
+    ∙ (ordinal_after_names-append j (labels_of_declared_names label k (parameter_section_names f)) (formal_names (relabel_sections naming label (declare_names k (parameter_section_names f) scope) (ordinal_after_names k (parameter_section_names f)) fs))
+    ∙ (after_sections naming label (declare_names k (parameter_section_names f) scope) (ordinal_after_names j (labels_of_declared_names label k (parameter_section_names f))) (ordinal_after_names k (parameter_section_names f)) fs (ordinal_after_names-label label j k (parameter_section_names f) e)
+    ∙ sym (ordinal_after_names-append k (parameter_section_names f) (formal_names fs))))
 
 pub first_type_ordinal-relabel : {N M : Type 0} (naming : Naming N) (label : Labelling N M) (scope : Scope N) (j k : ℕ) (b : Tree N block) → j ≡ k → first_type_ordinal j (relabel_block naming label scope k b) ≡ first_type_ordinal k b
 first_type_ordinal-relabel naming label scope j k (forms_block (declares cs ts vs ps) statements) e =
@@ -46,18 +46,18 @@ first_type_ordinal-relabel naming label scope j k (forms_block (declares cs ts v
 
 pub first_variable_ordinal-relabel : {N M : Type 0} (naming : Naming N) (label : Labelling N M) (scope : Scope N) (j k : ℕ) (b : Tree N block) → j ≡ k → first_variable_ordinal j (relabel_block naming label scope k b) ≡ first_variable_ordinal k b
 first_variable_ordinal-relabel naming label scope j k (forms_block (declares cs ts vs ps) statements) e =
-    ap (λ l. ordinal_after_names (first_type_ordinal j (relabel_block naming label scope k (forms_block (declares cs ts vs ps) statements))) (declared_type_names l)) (types-section naming label (types_scope k (forms_block (declares cs ts vs ps) statements) scope) (first_type_ordinal k (forms_block (declares cs ts vs ps) statements)) ts)
-    ∙ after_types_named naming label (types_scope k (forms_block (declares cs ts vs ps) statements) scope) (first_type_ordinal j (relabel_block naming label scope k (forms_block (declares cs ts vs ps) statements))) (first_type_ordinal k (forms_block (declares cs ts vs ps) statements)) (section_types ts) (first_type_ordinal-relabel naming label scope j k (forms_block (declares cs ts vs ps) statements) e)
+    ap (λ l. ordinal_after_names (first_type_ordinal j (relabel_block naming label scope k (forms_block (declares cs ts vs ps) statements))) (declared_type_names l)) (types-section naming label (scope_before_types k (forms_block (declares cs ts vs ps) statements) scope) (first_type_ordinal k (forms_block (declares cs ts vs ps) statements)) ts)
+    ∙ after_types_named naming label (scope_before_types k (forms_block (declares cs ts vs ps) statements) scope) (first_type_ordinal j (relabel_block naming label scope k (forms_block (declares cs ts vs ps) statements))) (first_type_ordinal k (forms_block (declares cs ts vs ps) statements)) (section_types ts) (first_type_ordinal-relabel naming label scope j k (forms_block (declares cs ts vs ps) statements) e)
 
 pub first_procedure_ordinal-relabel : {N M : Type 0} (naming : Naming N) (label : Labelling N M) (scope : Scope N) (j k : ℕ) (b : Tree N block) → j ≡ k → first_procedure_ordinal j (relabel_block naming label scope k b) ≡ first_procedure_ordinal k b
 first_procedure_ordinal-relabel naming label scope j k (forms_block (declares cs ts vs ps) statements) e =
-    ap (λ l. ordinal_after_names (first_variable_ordinal j (relabel_block naming label scope k (forms_block (declares cs ts vs ps) statements))) (variable_names l)) (variables-section naming label (variables_scope k (forms_block (declares cs ts vs ps) statements) scope) (first_variable_ordinal k (forms_block (declares cs ts vs ps) statements)) vs)
-    ∙ after_groups naming label (variables_scope k (forms_block (declares cs ts vs ps) statements) scope) (first_variable_ordinal j (relabel_block naming label scope k (forms_block (declares cs ts vs ps) statements))) (first_variable_ordinal k (forms_block (declares cs ts vs ps) statements)) (section_variables vs) (first_variable_ordinal-relabel naming label scope j k (forms_block (declares cs ts vs ps) statements) e)
+    ap (λ l. ordinal_after_names (first_variable_ordinal j (relabel_block naming label scope k (forms_block (declares cs ts vs ps) statements))) (variable_names l)) (variables-section naming label (scope_before_variables k (forms_block (declares cs ts vs ps) statements) scope) (first_variable_ordinal k (forms_block (declares cs ts vs ps) statements)) vs)
+    ∙ after_groups naming label (scope_before_variables k (forms_block (declares cs ts vs ps) statements) scope) (first_variable_ordinal j (relabel_block naming label scope k (forms_block (declares cs ts vs ps) statements))) (first_variable_ordinal k (forms_block (declares cs ts vs ps) statements)) (section_variables vs) (first_variable_ordinal-relabel naming label scope j k (forms_block (declares cs ts vs ps) statements) e)
 
 mutual
   pub ordinal_after_block-relabel : {N M : Type 0} (naming : Naming N) (label : Labelling N M) (scope : Scope N) (j k : ℕ) (b : Tree N block) → j ≡ k → ordinal_after_block j (relabel_block naming label scope k b) ≡ ordinal_after_block k b
   ordinal_after_block-relabel naming label scope j k (forms_block (declares cs ts vs ps) statements) e =
-      ordinal_after_procedures-relabel naming label (procedures_scope k (forms_block (declares cs ts vs ps) statements) scope) (first_procedure_ordinal j (relabel_block naming label scope k (forms_block (declares cs ts vs ps) statements))) (first_procedure_ordinal k (forms_block (declares cs ts vs ps) statements)) ps
+      ordinal_after_procedures-relabel naming label (scope_before_procedures k (forms_block (declares cs ts vs ps) statements) scope) (first_procedure_ordinal j (relabel_block naming label scope k (forms_block (declares cs ts vs ps) statements))) (first_procedure_ordinal k (forms_block (declares cs ts vs ps) statements)) ps
       (first_procedure_ordinal-relabel naming label scope j k (forms_block (declares cs ts vs ps) statements) e)
 
   pub ordinal_after_procedures-relabel : {N M : Type 0} (naming : Naming N) (label : Labelling N M) (scope : Scope N) (j k : ℕ) (ps : Tree N (items procedure)) → j ≡ k → ordinal_after_procedures j (relabel_procedures naming label scope k ps) ≡ ordinal_after_procedures k ps
@@ -124,8 +124,8 @@ pub peel_section : {N : Type 0} (naming : Naming N) (ren : Labelling N N) → Le
 peel_section naming ren keeps there here j k jk (value_section ns t) = to (peel_uses naming ren keeps there here t) (λ p i. value_section (names-twice naming ren j k jk ns i) (p i))
 peel_section naming ren keeps there here j k jk (variable_section ns t) = to (peel_uses naming ren keeps there here t) (λ p i. variable_section (names-twice naming ren j k jk ns i) (p i))
 
-pub after_section : {N : Type 0} (naming : Naming N) (ren : Labelling N N) (here : Scope N) (j k : ℕ) → j ≡ k → (s : Tree N section) → ordinal_after_names j (section_names (relabel_section naming ren here k s)) ≡ ordinal_after_names k (section_names s)
-after_section naming ren here j k jk s = ap (ordinal_after_names j) (section_names-relabel naming ren here k s) ∙ ordinal_after_names-label ren j k (section_names s) jk
+pub after_section : {N : Type 0} (naming : Naming N) (ren : Labelling N N) (here : Scope N) (j k : ℕ) → j ≡ k → (s : Tree N section) → ordinal_after_names j (parameter_section_names (relabel_section naming ren here k s)) ≡ ordinal_after_names k (parameter_section_names s)
+after_section naming ren here j k jk s = ap (ordinal_after_names j) (parameter_section_names-relabel naming ren here k s) ∙ ordinal_after_names-label ren j k (parameter_section_names s) jk
 
 pub peel_sections : {N : Type 0} (naming : Naming N) (ren : Labelling N N) → LeavesUnbound ren → (there here : Scope N) (j k : ℕ) → j ≡ k → (fs : Tree N (items further_section))
     → Peel Label (occurrences (relabel_sections naming (label_from_ordinal naming) there j (relabel_sections naming ren here k fs))) (occurrences (relabel_sections naming (label_from_ordinal naming) here k fs))
@@ -133,7 +133,7 @@ pub peel_sections : {N : Type 0} (naming : Naming N) (ren : Labelling N N) → L
 peel_sections naming ren keeps there here j k jk end = nothing refl
 peel_sections naming ren keeps there here j k jk (more (then_section s) fs) =
     to (both (peel_section naming ren keeps there here j k jk s)
-    (peel_sections naming ren keeps (declare_names j (section_names (relabel_section naming ren here k s)) there) (declare_names k (section_names s) here) (ordinal_after_names j (section_names (relabel_section naming ren here k s))) (ordinal_after_names k (section_names s)) (after_section naming ren here j k jk s) fs))
+    (peel_sections naming ren keeps (declare_names j (parameter_section_names (relabel_section naming ren here k s)) there) (declare_names k (parameter_section_names s) here) (ordinal_after_names j (parameter_section_names (relabel_section naming ren here k s))) (ordinal_after_names k (parameter_section_names s)) (after_section naming ren here j k jk s) fs))
     (λ p i. more (then_section (p.first i)) (p.second i))
 
 pub peel_formals : {N : Type 0} (naming : Naming N) (ren : Labelling N N) → LeavesUnbound ren → (there here : Scope N) (j k : ℕ) → j ≡ k → (fs : Tree N (maybe formals))
@@ -143,7 +143,7 @@ peel_formals naming ren keeps there here j k jk none = nothing refl
 peel_formals naming ren keeps there here j k jk (one no_formals) = nothing refl
 peel_formals naming ren keeps there here j k jk (one (some_formals s fs)) =
     to (both (peel_section naming ren keeps there here j k jk s)
-    (peel_sections naming ren keeps (declare_names j (section_names (relabel_section naming ren here k s)) there) (declare_names k (section_names s) here) (ordinal_after_names j (section_names (relabel_section naming ren here k s))) (ordinal_after_names k (section_names s)) (after_section naming ren here j k jk s) fs))
+    (peel_sections naming ren keeps (declare_names j (parameter_section_names (relabel_section naming ren here k s)) there) (declare_names k (parameter_section_names s) here) (ordinal_after_names j (parameter_section_names (relabel_section naming ren here k s))) (ordinal_after_names k (parameter_section_names s)) (after_section naming ren here j k jk s) fs))
     (λ p i. one (some_formals (p.first i) (p.second i)))
 
 pub peel_constant_section : {N : Type 0} (naming : Naming N) (ren : Labelling N N) → LeavesUnbound ren → (there here : Scope N) (j k : ℕ) → j ≡ k → (cs : Tree N (maybe constants))
@@ -173,9 +173,9 @@ mutual
       let b' : Tree N block = relabel_block naming ren here k b in
       to (both
       (both (peel_constant_section naming ren keeps there here j k jk cs)
-      (both (peel_type_section naming ren keeps (types_scope j b' there) (types_scope k b here) (first_type_ordinal j b') (first_type_ordinal k b) (first_type_ordinal-relabel naming ren here j k b jk) ts)
-      (both (peel_variable_section naming ren keeps (variables_scope j b' there) (variables_scope k b here) (first_variable_ordinal j b') (first_variable_ordinal k b) (first_variable_ordinal-relabel naming ren here j k b jk) vs)
-      (peel_procedures naming ren keeps (procedures_scope j b' there) (procedures_scope k b here) (first_procedure_ordinal j b') (first_procedure_ordinal k b) (first_procedure_ordinal-relabel naming ren here j k b jk) ps))))
+      (both (peel_type_section naming ren keeps (scope_before_types j b' there) (scope_before_types k b here) (first_type_ordinal j b') (first_type_ordinal k b) (first_type_ordinal-relabel naming ren here j k b jk) ts)
+      (both (peel_variable_section naming ren keeps (scope_before_variables j b' there) (scope_before_variables k b here) (first_variable_ordinal j b') (first_variable_ordinal k b) (first_variable_ordinal-relabel naming ren here j k b jk) vs)
+      (peel_procedures naming ren keeps (scope_before_procedures j b' there) (scope_before_procedures k b here) (first_procedure_ordinal j b') (first_procedure_ordinal k b) (first_procedure_ordinal-relabel naming ren here j k b jk) ps))))
       (peel_uses naming ren keeps (body_scope j b' there) (body_scope k b here) statements))
       (λ p i. forms_block (declares (p.first.first i) (p.first.second.first i) (p.first.second.second.first i) (p.first.second.second.second i)) (p.second i))
 

@@ -4,7 +4,7 @@
 use Rattle.std.specs.Prelude.{Bool, true, false, not, ◌&&◌, ◌||◌, List, [], ◌∷◌, ◌++◌}
 use Rattle.ob0_tree.specs.Tree.{Tree, array_type, block, declares, declares_procedure, declares_type, declares_variable, end, fields, further_fields, further_section, forms_block, is_module, item, items, module_text, more, named_type, no_fields, procedure, record_type, some_fields, then_fields, then_section, type_definition, variable, written_type}
 use Rattle.ob0_language_names.specs.Names.{Name, same_name}
-use Rattle.ob0_language_names.specs.Parts.{block_constants, block_procedures, block_types, block_variables, constant_names, formal_names, formal_sections, declared_type_names, names_in_list, procedure_name, section_type, section_types, section_variables, variable_names}
+use Rattle.ob0_language_names.specs.Parts.{block_constants, block_procedures, block_types, block_variables, constant_names, formal_names, formal_sections, declared_type_names, names_in_list, procedure_name, parameter_section_type, section_types, section_variables, variable_names}
 
 -- returns whether a name is in a list
 abbrev pub is_among : Name → List Name → Bool
@@ -72,7 +72,7 @@ variables_have_distinct_fields (more (declares_variable ns t) gs) = has_distinct
 -- returns whether no record in the types of parameters declares a field twice
 abbrev pub formals_have_distinct_fields : Tree Name (items further_section) → Bool
 formals_have_distinct_fields end = true
-formals_have_distinct_fields (more (then_section s) fs) = has_distinct_fields (section_type s) && formals_have_distinct_fields fs
+formals_have_distinct_fields (more (then_section s) fs) = has_distinct_fields (parameter_section_type s) && formals_have_distinct_fields fs
 
 -- Returns whether no block declares a name twice, no record declares a field twice, and each
 -- procedure's closing name equals the procedure's name. A procedure's parameters and locals count

@@ -3,7 +3,7 @@
 use Rattle.std.specs.Prelude.{◌≡◌, ℕ}
 use Rattle.ob0_tree.specs.Tree.{Tree, module_text}
 use Rattle.ob0_language_names.specs.Names.{Name}
-use Rattle.ob0_language_names.specs.Occurrences.{Free}
+use Rattle.ob0_language_names.specs.Occurrences.{IsFreeName}
 use Rattle.ob0_language_names.specs.Scopes.{numbered, renamed}
 
 -- States that renaming a declaration to a free name doesn't change the module's numbered tree. In
@@ -11,5 +11,5 @@ use Rattle.ob0_language_names.specs.Scopes.{numbered, renamed}
 abbrev pub FreeRenamingKeepsNumbering : Type 0
 FreeRenamingKeepsNumbering =
     (m : Tree Name module_text) (d : ℕ) (new : Name)
-    → Free m d new
+    → IsFreeName m d new
     → numbered (renamed m d new) ≡ numbered m

@@ -21,6 +21,6 @@ resolve_at_occurrence m occurrence y =
 
 -- returns, for each occurrence of a name in text order, the ordinal of the declaration to which the
 -- name `y` would be bound if `y` replaced the name there; None if `y` would be unbound
-abbrev pub resolve_at_occurrences : Tree Name module_text → Name → List (Option ℕ)
-resolve_at_occurrences m y =
+abbrev pub resolve_name_at_occurrences : Tree Name module_text → Name → List (Option ℕ)
+resolve_name_at_occurrences m y =
     map label_ordinal (occurrences (relabel_module (naming_for_lookup_of y) (label_from_ordinal (naming_for_lookup_of y)) m))

@@ -62,8 +62,8 @@ is_duplicate_name m d new =
 
 -- States that the name `new` is free for the declaration with ordinal `d`. No other declaration in the block that
 -- declares `d` has this name, and renaming `d` to `new` doesn't change the binding of any occurrence.
-abbrev pub Free : Tree Name module_text → ℕ → Name → Type 0
-Free m d new = (is_duplicate_name m d new ≡ false) × (bindings (renamed m d new) ≡ bindings m)
+abbrev pub IsFreeName : Tree Name module_text → ℕ → Name → Type 0
+IsFreeName m d new = (is_duplicate_name m d new ≡ false) × (bindings (renamed m d new) ≡ bindings m)
 
 -- returns whether two labels mean the same binding: both are the same ordinal, or both are the same spelling of an
 -- unbound name

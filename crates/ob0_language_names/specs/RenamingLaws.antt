@@ -4,7 +4,7 @@
 use Rattle.std.specs.Prelude.{IsTrue, None, ℕ, ◌↔◌, ◌≡◌}
 use Rattle.ob0_tree.specs.Tree.{Tree, module_text}
 use Rattle.ob0_language_names.specs.Names.{Name}
-use Rattle.ob0_language_names.specs.Occurrences.{Free, first_name_conflict}
+use Rattle.ob0_language_names.specs.Occurrences.{IsFreeName, first_name_conflict}
 use Rattle.ob0_language_names.specs.Scopes.{renamed}
 use Rattle.ob0_language_names.specs.ConsistentNames.{has_consistent_names}
 
@@ -13,7 +13,7 @@ use Rattle.ob0_language_names.specs.ConsistentNames.{has_consistent_names}
 abbrev pub FreeRenamingKeepsConsistentNames : Type 0
 FreeRenamingKeepsConsistentNames =
     (m : Tree Name module_text) (d : ℕ) (new : Name)
-    → Free m d new
+    → IsFreeName m d new
     → IsTrue (has_consistent_names m)
     → IsTrue (has_consistent_names (renamed m d new))
 
@@ -21,4 +21,4 @@ FreeRenamingKeepsConsistentNames =
 -- is free.
 abbrev pub FreeMeansNoConflict : Type 0
 FreeMeansNoConflict =
-    (m : Tree Name module_text) (d : ℕ) (new : Name) → first_name_conflict m d new ≡ None ↔ Free m d new
+    (m : Tree Name module_text) (d : ℕ) (new : Name) → first_name_conflict m d new ≡ None ↔ IsFreeName m d new

@@ -4,7 +4,7 @@ use Rattle.std.specs.Prelude.{ℕ, suc, Bool, true, false, List, [], ◌∷◌, 
 use Rattle.ob0_tree.specs.Tree.{Sort, Tree, block, constant, constants, declares, declares_constant, declares_constants, declares_procedure, declares_type, declares_types, declares_variable, declares_variables, end, formals, further_name, further_section, forms_block, is_module, item, items, listed, maybe, module_text, more, names, no_formals, none, one, procedure, section, some_formals, then_name, then_section, type_definition, type_definitions, value_section, variable, variable_section, variables}
 use Rattle.ob0_language_names.specs.Mapping.{map_names}
 use Rattle.ob0_language_names.specs.Names.{Label, Name, Naming, naming_by_spelling, as_written, declared}
-use Rattle.ob0_language_names.specs.Parts.{block_constants, block_procedures, block_types, block_variables, constant_names, formal_names, formal_sections, declared_type_names, names_in_list, procedure_name, section_constants, section_names, section_types, section_variables, variable_names}
+use Rattle.ob0_language_names.specs.Parts.{block_constants, block_procedures, block_types, block_variables, constant_names, formal_names, formal_sections, declared_type_names, names_in_list, procedure_name, section_constants, parameter_section_names, section_types, section_variables, variable_names}
 
 -- The bindings that are visible at a place in the text: names with the ordinals of their declarations. The newest
 -- binding comes first, and the predeclared names come last.
@@ -18,8 +18,9 @@ ordinal_of naming [] x = None
 ordinal_of naming (b ∷ scope) x =
     elim (naming.same x b.0) [ true ↦ Some b.1 | false ↦ ordinal_of naming scope x ]
 
--- Returns the scope with the names of a list added. The first name gets the ordinal `k`, the second `k + 1`, and so on.
--- The declarations of a module are numbered in text order, after the predeclared names, which have the ordinals 0 to 6.
+-- Returns the scope with these names added. The first name gets the ordinal `k`, and each further
+-- name gets the next ordinal. The declarations of a module are numbered in text order, after the
+-- predeclared names, which have the ordinals 0 to 6.
 abbrev pub declare_names : {N : Type 0} → ℕ → List N → Scope N → Scope N
 declare_names k [] scope = scope
 declare_names k (x ∷ xs) scope = declare_names (suc k) xs ((x, k) ∷ scope)
@@ -33,7 +34,7 @@ abbrev pub predeclared_scope : {N : Type 0} → Naming N → Scope N
 predeclared_scope naming =
     declare_names 0 (map naming.predeclared (0 ∷ 1 ∷ 2 ∷ 3 ∷ 4 ∷ 5 ∷ 6 ∷ [])) []
 
--- returns the first ordinal after a list of names, the first of which has ordinal `k`
+-- returns the first ordinal after these names, if the first of them has ordinal `k`
 abbrev pub ordinal_after_names : {N : Type 0} → ℕ → List N → ℕ
 ordinal_after_names k [] = k
 ordinal_after_names k (x ∷ xs) = ordinal_after_names (suc k) xs
@@ -77,13 +78,13 @@ abbrev pub relabel_uses : {N M : Type 0} {s : Sort}
     → Tree M s
 relabel_uses naming label scope = map_names (label_of naming label scope) (label None)
 
--- returns the labels of a list of declared names; their ordinals count up from `k`
-abbrev pub label_names : {N M : Type 0} → Labelling N M → ℕ → List N → List M
-label_names label k [] = []
-label_names label k (x ∷ xs) = label (Some k) x ∷ label_names label (suc k) xs
+-- returns the labels of declared names, whose ordinals count up from `k`
+abbrev pub labels_of_declared_names : {N M : Type 0} → Labelling N M → ℕ → List N → List M
+labels_of_declared_names label k [] = []
+labels_of_declared_names label k (x ∷ xs) = label (Some k) x ∷ labels_of_declared_names label (suc k) xs
 
--- returns the part of a list of declared names after its first name, with labels instead of names; the ordinals of the
--- names in this part count up from `k`
+-- returns the names in a name list after the first name, with labels instead of these declared
+-- names; their ordinals count up from `k`
 abbrev pub relabel_further_names : {N M : Type 0}
     → Labelling N M
     → ℕ
@@ -166,8 +167,8 @@ abbrev pub relabel_sections : {N M : Type 0}
 relabel_sections naming label scope k end = end
 relabel_sections naming label scope k (more (then_section s) fs) =
     more (then_section (relabel_section naming label scope k s))
-    (relabel_sections naming label (declare_names k (section_names s) scope)
-    (ordinal_after_names k (section_names s)) fs)
+    (relabel_sections naming label (declare_names k (parameter_section_names s) scope)
+    (ordinal_after_names k (parameter_section_names s)) fs)
 
 -- returns formal parameters with labels instead of names; the parameters' ordinals count up from `k`
 abbrev pub relabel_formals : {N M : Type 0}
@@ -181,8 +182,8 @@ relabel_formals naming label scope k none = none
 relabel_formals naming label scope k (one no_formals) = one no_formals
 relabel_formals naming label scope k (one (some_formals s fs)) =
     one (some_formals (relabel_section naming label scope k s)
-    (relabel_sections naming label (declare_names k (section_names s) scope)
-    (ordinal_after_names k (section_names s)) fs))
+    (relabel_sections naming label (declare_names k (parameter_section_names s) scope)
+    (ordinal_after_names k (parameter_section_names s)) fs))
 
 -- returns a CONST section with labels instead of names; the ordinals of its constants count up from
 -- `k`
@@ -245,30 +246,30 @@ first_procedure_ordinal k b = ordinal_after_names (first_variable_ordinal k b) (
 
 -- returns the scope at the start of a block's types; `k` is the ordinal of the block's first
 -- declaration, and `scope` the scope around the block
-abbrev pub types_scope : {N : Type 0} → ℕ → Tree N block → Scope N → Scope N
-types_scope k b scope = declare_names k (constant_names (block_constants b)) scope
+abbrev pub scope_before_types : {N : Type 0} → ℕ → Tree N block → Scope N → Scope N
+scope_before_types k b scope = declare_names k (constant_names (block_constants b)) scope
 
 -- returns the scope at the start of a block's variables; `k` is the ordinal of the block's first
 -- declaration, and `scope` the scope around the block
-abbrev pub variables_scope : {N : Type 0} → ℕ → Tree N block → Scope N → Scope N
-variables_scope k b scope =
-    declare_names (first_type_ordinal k b) (declared_type_names (block_types b)) (types_scope k b scope)
+abbrev pub scope_before_variables : {N : Type 0} → ℕ → Tree N block → Scope N → Scope N
+scope_before_variables k b scope =
+    declare_names (first_type_ordinal k b) (declared_type_names (block_types b)) (scope_before_types k b scope)
 
 -- returns the scope at the start of a block's procedures; `k` is the ordinal of the block's first
 -- declaration, and `scope` the scope around the block
-abbrev pub procedures_scope : {N : Type 0} → ℕ → Tree N block → Scope N → Scope N
-procedures_scope k b scope =
+abbrev pub scope_before_procedures : {N : Type 0} → ℕ → Tree N block → Scope N → Scope N
+scope_before_procedures k b scope =
     declare_names (first_variable_ordinal k b) (variable_names (block_variables b))
-    (variables_scope k b scope)
+    (scope_before_variables k b scope)
 
 -- returns the scope of a block's statements; `k` is the ordinal of the block's first declaration,
 -- and `scope` the scope around the block
 abbrev pub body_scope : {N : Type 0} → ℕ → Tree N block → Scope N → Scope N
 body_scope k b scope =
-    declare_procedure_names (first_procedure_ordinal k b) (block_procedures b) (procedures_scope k b scope)
+    declare_procedure_names (first_procedure_ordinal k b) (block_procedures b) (scope_before_procedures k b scope)
 
--- Returns a block, its procedures or one procedure, with labels instead of names. `scope` is the scope at the start of
--- this part of the text.
+-- Returns a block, its procedures or one procedure, with labels instead of names. `scope` is the
+-- scope at its start.
 abbrev mutual
   -- returns a block with labels instead of names; its first declaration has ordinal `k`
   pub relabel_block : {N M : Type 0}
@@ -282,13 +283,13 @@ abbrev mutual
       forms_block
       (declares (relabel_constant_section naming label scope k cs)
       (relabel_type_section naming label
-      (types_scope k (forms_block (declares cs ts vs ps) statements) scope)
+      (scope_before_types k (forms_block (declares cs ts vs ps) statements) scope)
       (first_type_ordinal k (forms_block (declares cs ts vs ps) statements)) ts)
       (relabel_variable_section naming label
-      (variables_scope k (forms_block (declares cs ts vs ps) statements) scope)
+      (scope_before_variables k (forms_block (declares cs ts vs ps) statements) scope)
       (first_variable_ordinal k (forms_block (declares cs ts vs ps) statements)) vs)
       (relabel_procedures naming label
-      (procedures_scope k (forms_block (declares cs ts vs ps) statements) scope)
+      (scope_before_procedures k (forms_block (declares cs ts vs ps) statements) scope)
       (first_procedure_ordinal k (forms_block (declares cs ts vs ps) statements)) ps))
       (relabel_uses naming label (body_scope k (forms_block (declares cs ts vs ps) statements) scope)
       statements)

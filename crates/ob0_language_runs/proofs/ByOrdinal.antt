@@ -3,14 +3,14 @@ use Rattle.std.proofs.Common.{◌≡◌, ℕ, zero, suc, ◌+◌, true, false, L
 use Rattle.ob0_tree.specs.Tree.{Tree, begins, block, body, constant, declares, declares_constant, declares_procedure, declares_type, declares_variable, end, formals, further_section, forms_block, is_module, item, items, maybe, module_text, more, none, one, procedure, section, then_section, type_definition, value_section, variable, variable_section}
 use Rattle.ob0_language_names.specs.Mapping.{map_names}
 use Rattle.ob0_language_names.specs.Names.{Label, Naming, naming_by_label, declared}
-use Rattle.ob0_language_names.specs.Parts.{block_statements, constant_names, formal_names, formal_sections, declared_type_names, names_in_list, procedure_formals, procedure_name, section_constants, section_names, section_types, section_variables, variable_names}
-use Rattle.ob0_language_names.specs.Scopes.{Labelling, Scope, ordinal_after_block, ordinal_after_names, ordinal_after_procedure, ordinal_after_procedures, label_from_ordinal, body_scope, declare_names, declare_procedure_names, first_procedure_ordinal, first_type_ordinal, first_variable_ordinal, label_names, label_of, predeclared_scope, procedures_scope, relabel_block, relabel_constants, relabel_formals, relabel_procedure, relabel_procedures, relabel_section, relabel_sections, relabel_type_section, relabel_types, relabel_uses, relabel_variable_section, relabel_variables, relabel_module, types_scope, variables_scope}
+use Rattle.ob0_language_names.specs.Parts.{block_statements, constant_names, formal_names, formal_sections, declared_type_names, names_in_list, procedure_formals, procedure_name, section_constants, parameter_section_names, section_types, section_variables, variable_names}
+use Rattle.ob0_language_names.specs.Scopes.{Labelling, Scope, ordinal_after_block, ordinal_after_names, ordinal_after_procedure, ordinal_after_procedures, label_from_ordinal, body_scope, declare_names, declare_procedure_names, first_procedure_ordinal, first_type_ordinal, first_variable_ordinal, labels_of_declared_names, label_of, predeclared_scope, scope_before_procedures, relabel_block, relabel_constants, relabel_formals, relabel_procedure, relabel_procedures, relabel_section, relabel_sections, relabel_type_section, relabel_types, relabel_uses, relabel_variable_section, relabel_variables, relabel_module, scope_before_types, scope_before_variables}
 use Rattle.ob0_language_names.proofs.Ordinals.{ordinal_after_names-append, declare_names-append, le-ordinal_after_procedure}
 use Rattle.ob0_language_names.proofs.Relabelled.{constants-section, formals-section, names-relabel, types-section, variables-section}
 use Rattle.ob0_language_types.specs.Declarations.{constructors_before_variables, constructors_before_procedures, declare_constants, declare_constants_and_types, declare_types, formals_constructor_count, procedure_constructor_count, types_constructor_count, variables_constructor_count}
 use Rattle.ob0_language_types.specs.Environments.{meanings, newest_object}
 use Rattle.ob0_language_types.specs.Expressions.{Object, a_constant, a_procedure, a_standard, a_type, a_variable, read_procedure, write_procedure, write_line_procedure}
-use Rattle.ob0_language_types.specs.Typing.{constant_of, constant_value, constructor_count, denoted_type, type_of_name}
+use Rattle.ob0_language_types.specs.Typing.{constant_of, constant_value, constructor_count, denoted_type, type_of_type_object}
 use Rattle.ob0_language_values.specs.Values.{Place, Store, Value, boolean_shape, initial_value, integer_shape, truth}
 use Rattle.ob0_language_types.specs.WellTyped.{Mode, by_place, by_value, section_mode}
 use Rattle.ob0_language_types.proofs.Agreeing.{Agree, HoldsOf, agree-map, agree-then, agree-value}
@@ -22,19 +22,19 @@ use Rattle.ob0_language_runs.proofs.RunNaturality.{execute_sequence-map}
 
 -- The modes of parameters are the same by name and by ordinal.
 
-pub label_names-modes : {N M : Type 0} (label : Labelling N M) (m : Mode) (k : ℕ) (xs : List N) → map (λ x. m) (label_names label k xs) ≡ map (λ x. m) xs
-label_names-modes label m k [] = refl
-label_names-modes label m k (x ∷ xs) = λ i. m ∷ label_names-modes label m (suc k) xs i
+pub labels_of_declared_names-modes : {N M : Type 0} (label : Labelling N M) (m : Mode) (k : ℕ) (xs : List N) → map (λ x. m) (labels_of_declared_names label k xs) ≡ map (λ x. m) xs
+labels_of_declared_names-modes label m k [] = refl
+labels_of_declared_names-modes label m k (x ∷ xs) = λ i. m ∷ labels_of_declared_names-modes label m (suc k) xs i
 
 pub section-modes : {N M : Type 0} (naming : Naming N) (label : Labelling N M) (scope : Scope N) (k : ℕ) (s : Tree N section)
-    → map (λ x. section_mode (relabel_section naming label scope k s)) (section_names (relabel_section naming label scope k s)) ≡ map (λ x. section_mode s) (section_names s)
-section-modes naming label scope k (value_section ns t) = ap (map (λ x. by_value)) (names-relabel label k ns) ∙ label_names-modes label by_value k (names_in_list ns)
-section-modes naming label scope k (variable_section ns t) = ap (map (λ x. by_place)) (names-relabel label k ns) ∙ label_names-modes label by_place k (names_in_list ns)
+    → map (λ x. section_mode (relabel_section naming label scope k s)) (parameter_section_names (relabel_section naming label scope k s)) ≡ map (λ x. section_mode s) (parameter_section_names s)
+section-modes naming label scope k (value_section ns t) = ap (map (λ x. by_value)) (names-relabel label k ns) ∙ labels_of_declared_names-modes label by_value k (names_in_list ns)
+section-modes naming label scope k (variable_section ns t) = ap (map (λ x. by_place)) (names-relabel label k ns) ∙ labels_of_declared_names-modes label by_place k (names_in_list ns)
 
 pub relabel_formals-modes : {N M : Type 0} (naming : Naming N) (label : Labelling N M) (scope : Scope N) (k : ℕ) (fs : Tree N (items further_section)) → formal_modes (relabel_sections naming label scope k fs) ≡ formal_modes fs
 relabel_formals-modes naming label scope k end = refl
 relabel_formals-modes naming label scope k (more (then_section f) fs) = λ i.
-    section-modes naming label scope k f i ++ relabel_formals-modes naming label (declare_names k (section_names f) scope) (ordinal_after_names k (section_names f)) fs i
+    section-modes naming label scope k f i ++ relabel_formals-modes naming label (declare_names k (parameter_section_names f) scope) (ordinal_after_names k (parameter_section_names f)) fs i
 
 pub relabel_procedure-modes : {N M : Type 0} (naming : Naming N) (label : Labelling N M) (scope : Scope N) (k : ℕ) (p : Tree N (item procedure)) → formal_modes (procedure_formals (relabel_procedure naming label scope k p)) ≡ formal_modes (procedure_formals p)
 relabel_procedure-modes naming label scope k (declares_procedure x fs b closing) =
@@ -62,11 +62,11 @@ constant_of-agrees naming (b ∷ noted) = of_object b.object
     of_object (a_procedure code) = refl
     of_object (a_standard p) = refl
 
-pub type_of_name-agrees : {N : Type 0} (naming : Naming N) (noted : Noted N) → type_of_name (newest_object (by_ordinal naming noted)) ≡ type_of_name (newest_object (by_name noted))
-type_of_name-agrees naming [] = refl
-type_of_name-agrees naming (b ∷ noted) = of_object b.object
+pub type_of_type_object-agrees : {N : Type 0} (naming : Naming N) (noted : Noted N) → type_of_type_object (newest_object (by_ordinal naming noted)) ≡ type_of_type_object (newest_object (by_name noted))
+type_of_type_object-agrees naming [] = refl
+type_of_type_object-agrees naming (b ∷ noted) = of_object b.object
   where
-    of_object : (o : Object Place (ProcedureText _)) → type_of_name (Some (numbered_object naming (scope_of noted) b.ordinal o)) ≡ type_of_name (Some o)
+    of_object : (o : Object Place (ProcedureText _)) → type_of_type_object (Some (numbered_object naming (scope_of noted) b.ordinal o)) ≡ type_of_type_object (Some o)
     of_object (a_type s) = refl
     of_object (a_constant v) = refl
     of_object (a_variable p) = refl
@@ -82,10 +82,10 @@ constants-agree naming n noted below x =
     ap (λ env. constant_of (newest_object env)) (by_ordinal-from naming n noted x below) ∙ constant_of-agrees naming (noted_from naming noted x)
     ∙ sym (ap (λ env. constant_of (newest_object env)) (by_name-from naming noted x))
 
-pub types-agree : {N : Type 0} (naming : Naming N) (n : ℕ) (noted : Noted N) → Below n noted → (x : N) → type_of_name ((meanings naming_by_label (by_ordinal naming noted)).object_for (label_at_token naming noted x)) ≡ type_of_name ((meanings naming (by_name noted)).object_for x)
+pub types-agree : {N : Type 0} (naming : Naming N) (n : ℕ) (noted : Noted N) → Below n noted → (x : N) → type_of_type_object ((meanings naming_by_label (by_ordinal naming noted)).object_for (label_at_token naming noted x)) ≡ type_of_type_object ((meanings naming (by_name noted)).object_for x)
 types-agree naming n noted below x =
-    ap (λ env. type_of_name (newest_object env)) (by_ordinal-from naming n noted x below) ∙ type_of_name-agrees naming (noted_from naming noted x)
-    ∙ sym (ap (λ env. type_of_name (newest_object env)) (by_name-from naming noted x))
+    ap (λ env. type_of_type_object (newest_object env)) (by_ordinal-from naming n noted x below) ∙ type_of_type_object-agrees naming (noted_from naming noted x)
+    ∙ sym (ap (λ env. type_of_type_object (newest_object env)) (by_name-from naming noted x))
 
 pub meanings_for_statements-agree : {N : Type 0} (naming : Naming N) (n : ℕ) (noted : Noted N) → Below n noted → (x : N) → (meanings_for_statements naming_by_label (by_ordinal naming noted)).object_for (label_at_token naming noted x) ≡ (meanings_for_statements naming (by_name noted)).object_for x
 meanings_for_statements-agree naming n noted below x =
@@ -150,7 +150,7 @@ pub allocate-by_name : {N : Type 0} (k : ℕ) (xs : List N) (v : Value) (f : Not
 allocate-by_name k [] v f = refl
 allocate-by_name k (x ∷ xs) v f = allocate-by_name (suc k) xs v (noted_variable x k v f)
 
-pub allocate-by_ordinal : {N : Type 0} (naming : Naming N) (k : ℕ) (xs : List N) (v : Value) (f : NotedFrame N) → allocate (label_names (label_from_ordinal naming) k xs) v (frame_by_ordinal naming f) ≡ frame_by_ordinal naming (noted_variables k xs v f)
+pub allocate-by_ordinal : {N : Type 0} (naming : Naming N) (k : ℕ) (xs : List N) (v : Value) (f : NotedFrame N) → allocate (labels_of_declared_names (label_from_ordinal naming) k xs) v (frame_by_ordinal naming f) ≡ frame_by_ordinal naming (noted_variables k xs v f)
 allocate-by_ordinal naming k [] v f = refl
 allocate-by_ordinal naming k (x ∷ xs) v f = allocate-by_ordinal naming (suc k) xs v (noted_variable x k v f)
 
@@ -161,12 +161,12 @@ noted_variables-within k (x ∷ xs) v f below = noted_variables-within (suc k) x
 -- Moves a fact along the scopes and the frames to which names are added.
 pub moved : {N X : Type 0} (Goal : ℕ → Scope N → Scope N → X → Frame N → Frame Label → Type 0) (naming : Naming N) (k : ℕ) (xs ys : List N) (v : Value) (f : NotedFrame N) (below : Below k f.noted) (x : X)
     → Goal (ordinal_after_names (ordinal_after_names k xs) ys) (declare_names (ordinal_after_names k xs) ys (scope_of (noted_variables k xs v f).noted)) (scope_of (noted_variables k xs v f).noted) x (frame_by_name (noted_variables k xs v f)) (frame_by_ordinal naming (noted_variables k xs v f))
-    → Goal (ordinal_after_names k (xs ++ ys)) (declare_names k (xs ++ ys) (scope_of f.noted)) (declare_names k xs (scope_of f.noted)) x (allocate xs v (frame_by_name f)) (allocate (label_names (label_from_ordinal naming) k xs) v (frame_by_ordinal naming f))
+    → Goal (ordinal_after_names k (xs ++ ys)) (declare_names k (xs ++ ys) (scope_of f.noted)) (declare_names k xs (scope_of f.noted)) x (allocate xs v (frame_by_name f)) (allocate (labels_of_declared_names (label_from_ordinal naming) k xs) v (frame_by_ordinal naming f))
 moved Goal naming k xs ys v f below x h =
     let e = (noted_variables-within k xs v f below).0 in
-    subst₂ (λ n s. Goal n s (declare_names k xs (scope_of f.noted)) x (allocate xs v (frame_by_name f)) (allocate (label_names (label_from_ordinal naming) k xs) v (frame_by_ordinal naming f)))
+    subst₂ (λ n s. Goal n s (declare_names k xs (scope_of f.noted)) x (allocate xs v (frame_by_name f)) (allocate (labels_of_declared_names (label_from_ordinal naming) k xs) v (frame_by_ordinal naming f)))
     (sym (ordinal_after_names-append k xs ys)) (sym (declare_names-append k xs ys (scope_of f.noted)))
-    (subst (λ s. Goal (ordinal_after_names (ordinal_after_names k xs) ys) (declare_names (ordinal_after_names k xs) ys s) s x (allocate xs v (frame_by_name f)) (allocate (label_names (label_from_ordinal naming) k xs) v (frame_by_ordinal naming f))) e
+    (subst (λ s. Goal (ordinal_after_names (ordinal_after_names k xs) ys) (declare_names (ordinal_after_names k xs) ys s) s x (allocate xs v (frame_by_name f)) (allocate (labels_of_declared_names (label_from_ordinal naming) k xs) v (frame_by_ordinal naming f))) e
     (subst₂ (λ a b. Goal (ordinal_after_names (ordinal_after_names k xs) ys) (declare_names (ordinal_after_names k xs) ys (scope_of (noted_variables k xs v f).noted)) (scope_of (noted_variables k xs v f).noted) x a b)
     (sym (allocate-by_name k xs v f)) (sym (allocate-by_ordinal naming k xs v f)) h))
 
@@ -179,7 +179,7 @@ variables_declared naming j k f below (more (declares_variable ns u) gs) =
     rw (constructor_count-map (label_of naming (label_from_ordinal naming) (scope_of f.noted)) (label_from_ordinal naming None) u, names-relabel (label_from_ordinal naming) k ns)
     (agree-value frame_by_name (frame_by_ordinal naming) (FrameWithin (ordinal_after_names k (names_in_list ns ++ variable_names gs)) (declare_names k (names_in_list ns ++ variable_names gs) (scope_of f.noted)))
     (λ s. declare_variables naming (j + constructor_count u) gs (allocate (names_in_list ns) (initial_value s) (frame_by_name f)))
-    (λ s. declare_variables naming_by_label (j + constructor_count u) (relabel_variables naming (label_from_ordinal naming) (declare_names k (names_in_list ns) (scope_of f.noted)) (ordinal_after_names k (names_in_list ns)) gs) (allocate (label_names (label_from_ordinal naming) k (names_in_list ns)) (initial_value s) (frame_by_ordinal naming f)))
+    (λ s. declare_variables naming_by_label (j + constructor_count u) (relabel_variables naming (label_from_ordinal naming) (declare_names k (names_in_list ns) (scope_of f.noted)) (ordinal_after_names k (names_in_list ns)) gs) (allocate (labels_of_declared_names (label_from_ordinal naming) k (names_in_list ns)) (initial_value s) (frame_by_ordinal naming f)))
     (denoted_type (meanings naming (by_name f.noted)) j u) (denoted_type (meanings naming_by_label (by_ordinal naming f.noted)) j (relabel_uses naming (label_from_ordinal naming) (scope_of f.noted) u))
     (denoted_type-map (label_at_token naming f.noted) (label_from_ordinal naming None) (meanings naming_by_label (by_ordinal naming f.noted)) (meanings naming (by_name f.noted)) (constants-agree naming k f.noted below) (types-agree naming k f.noted below) (λ x. refl) j u)
     (λ s. moved (λ n scope inner i a b. Agree frame_by_name (frame_by_ordinal naming) (FrameWithin n scope) (declare_variables naming i gs a) (declare_variables naming_by_label i (relabel_variables naming (label_from_ordinal naming) inner (ordinal_after_names k (names_in_list ns)) gs) b))
@@ -217,17 +217,17 @@ procedures-within j k (more p rest) noted below =
 -- The declarations of a block do the same by name and by ordinal.
 
 pub firsts_declared : {N : Type 0} (naming : Naming N) (j k : ℕ) (noted : Noted N) → Below k noted → (b : Tree N block)
-    → Agree by_name (by_ordinal naming) (Within (first_variable_ordinal k b) (variables_scope k b (scope_of noted)))
+    → Agree by_name (by_ordinal naming) (Within (first_variable_ordinal k b) (scope_before_variables k b (scope_of noted)))
     (declare_constants_and_types naming (by_name noted) j b) (declare_constants_and_types naming_by_label (by_ordinal naming noted) j (relabel_block naming (label_from_ordinal naming) (scope_of noted) k b))
 unfolding declare_constants_and_types
 firsts_declared {N} naming j k noted below (forms_block (declares cs ts vs ps) statements) =
     let b : Tree N block = forms_block (declares cs ts vs ps) statements in
-    subst₂ (λ u v. Agree by_name (by_ordinal naming) (Within (first_variable_ordinal k b) (variables_scope k b (scope_of noted)))
+    subst₂ (λ u v. Agree by_name (by_ordinal naming) (Within (first_variable_ordinal k b) (scope_before_variables k b (scope_of noted)))
     (declare_constants_and_types naming (by_name noted) j b) (option_and_then (λ env. declare_types naming_by_label env j v) (declare_constants naming_by_label (by_ordinal naming noted) u)))
     (sym (constants-section naming (label_from_ordinal naming) (scope_of noted) k cs))
-    (sym (types-section naming (label_from_ordinal naming) (types_scope k b (scope_of noted)) (first_type_ordinal k b) ts))
-    (agree-then by_name (by_ordinal naming) (Within (first_type_ordinal k b) (types_scope k b (scope_of noted))) by_name (by_ordinal naming) (Within (first_variable_ordinal k b) (variables_scope k b (scope_of noted)))
-    (λ env. declare_types naming env j (section_types ts)) (λ env. declare_types naming_by_label env j (relabel_types naming (label_from_ordinal naming) (types_scope k b (scope_of noted)) (first_type_ordinal k b) (section_types ts)))
+    (sym (types-section naming (label_from_ordinal naming) (scope_before_types k b (scope_of noted)) (first_type_ordinal k b) ts))
+    (agree-then by_name (by_ordinal naming) (Within (first_type_ordinal k b) (scope_before_types k b (scope_of noted))) by_name (by_ordinal naming) (Within (first_variable_ordinal k b) (scope_before_variables k b (scope_of noted)))
+    (λ env. declare_types naming env j (section_types ts)) (λ env. declare_types naming_by_label env j (relabel_types naming (label_from_ordinal naming) (scope_before_types k b (scope_of noted)) (first_type_ordinal k b) (section_types ts)))
     (declare_constants naming (by_name noted) (section_constants cs)) (declare_constants naming_by_label (by_ordinal naming noted) (relabel_constants naming (label_from_ordinal naming) (scope_of noted) k (section_constants cs)))
     (constants_declared naming k noted below (section_constants cs))
     (λ inner within. subst (λ s. Agree by_name (by_ordinal naming) (Within (first_variable_ordinal k b) (declare_names (first_type_ordinal k b) (declared_type_names (section_types ts)) s))
@@ -263,14 +263,14 @@ unfolding declare_block
 block_declared {N} naming j k f below (forms_block (declares cs ts vs ps) statements) =
     let b : Tree N block = forms_block (declares cs ts vs ps) statements in
     let scope : Scope N = scope_of f.noted in
-    let ts-same : types_constructor_count (section_types (relabel_type_section naming (label_from_ordinal naming) (types_scope k b scope) (first_type_ordinal k b) ts)) ≡ types_constructor_count (section_types ts) =
-    ap types_constructor_count (types-section naming (label_from_ordinal naming) (types_scope k b scope) (first_type_ordinal k b) ts) ∙ types_constructor_count-relabel naming (label_from_ordinal naming) (types_scope k b scope) (first_type_ordinal k b) (section_types ts) in
-    let vs-same : variables_constructor_count (section_variables (relabel_variable_section naming (label_from_ordinal naming) (variables_scope k b scope) (first_variable_ordinal k b) vs)) ≡ variables_constructor_count (section_variables vs) =
-    ap variables_constructor_count (variables-section naming (label_from_ordinal naming) (variables_scope k b scope) (first_variable_ordinal k b) vs) ∙ variables_constructor_count-relabel naming (label_from_ordinal naming) (variables_scope k b scope) (first_variable_ordinal k b) (section_variables vs) in
-    agree-then by_name (by_ordinal naming) (Within (first_variable_ordinal k b) (variables_scope k b scope)) frame_by_name (frame_by_ordinal naming) (FrameWithin (ordinal_after_block k b) (body_scope k b scope))
+    let ts-same : types_constructor_count (section_types (relabel_type_section naming (label_from_ordinal naming) (scope_before_types k b scope) (first_type_ordinal k b) ts)) ≡ types_constructor_count (section_types ts) =
+    ap types_constructor_count (types-section naming (label_from_ordinal naming) (scope_before_types k b scope) (first_type_ordinal k b) ts) ∙ types_constructor_count-relabel naming (label_from_ordinal naming) (scope_before_types k b scope) (first_type_ordinal k b) (section_types ts) in
+    let vs-same : variables_constructor_count (section_variables (relabel_variable_section naming (label_from_ordinal naming) (scope_before_variables k b scope) (first_variable_ordinal k b) vs)) ≡ variables_constructor_count (section_variables vs) =
+    ap variables_constructor_count (variables-section naming (label_from_ordinal naming) (scope_before_variables k b scope) (first_variable_ordinal k b) vs) ∙ variables_constructor_count-relabel naming (label_from_ordinal naming) (scope_before_variables k b scope) (first_variable_ordinal k b) (section_variables vs) in
+    agree-then by_name (by_ordinal naming) (Within (first_variable_ordinal k b) (scope_before_variables k b scope)) frame_by_name (frame_by_ordinal naming) (FrameWithin (ordinal_after_block k b) (body_scope k b scope))
     (λ env. option_map (declare_procedures_in_frame (constructors_before_procedures j b) ps) (declare_variables naming (constructors_before_variables j b) (section_variables vs) record { env = env; store = f.store }))
-    (λ env. option_map (declare_procedures_in_frame (constructors_before_procedures j (relabel_block naming (label_from_ordinal naming) scope k b)) (relabel_procedures naming (label_from_ordinal naming) (procedures_scope k b scope) (first_procedure_ordinal k b) ps))
-    (declare_variables naming_by_label (constructors_before_variables j (relabel_block naming (label_from_ordinal naming) scope k b)) (section_variables (relabel_variable_section naming (label_from_ordinal naming) (variables_scope k b scope) (first_variable_ordinal k b) vs)) record { env = env; store = f.store }))
+    (λ env. option_map (declare_procedures_in_frame (constructors_before_procedures j (relabel_block naming (label_from_ordinal naming) scope k b)) (relabel_procedures naming (label_from_ordinal naming) (scope_before_procedures k b scope) (first_procedure_ordinal k b) ps))
+    (declare_variables naming_by_label (constructors_before_variables j (relabel_block naming (label_from_ordinal naming) scope k b)) (section_variables (relabel_variable_section naming (label_from_ordinal naming) (scope_before_variables k b scope) (first_variable_ordinal k b) vs)) record { env = env; store = f.store }))
     (declare_constants_and_types naming (by_name f.noted) j b) (declare_constants_and_types naming_by_label (by_ordinal naming f.noted) j (relabel_block naming (label_from_ordinal naming) scope k b))
     (firsts_declared naming j k f.noted below b)
     (λ inner within. subst (λ s. Agree frame_by_name (frame_by_ordinal naming) (FrameWithin (ordinal_after_block k b) (declare_procedure_names (first_procedure_ordinal k b) ps (declare_names (first_variable_ordinal k b) (variable_names (section_variables vs)) s)))
@@ -310,23 +310,23 @@ parameter_names-append m (x ∷ xs) ps = λ i. x ∷ parameter_names-append m xs
 
 pub formal_names-parameters : {N : Type 0} (fs : Tree N (items further_section)) → parameter_names (parameters fs) ≡ formal_names fs
 formal_names-parameters end = refl
-formal_names-parameters (more (then_section f) fs) = parameter_names-append (section_mode f) (section_names f) (parameters fs) ∙ ap (λ ys. section_names f ++ ys) (formal_names-parameters fs)
+formal_names-parameters (more (then_section f) fs) = parameter_names-append (section_mode f) (parameter_section_names f) (parameters fs) ∙ ap (λ ys. parameter_section_names f ++ ys) (formal_names-parameters fs)
 
-pub label_parameters-append : {N M : Type 0} (label : Labelling N M) (m : Mode) (k : ℕ) (xs : List N) (ps : List (Parameter N)) → map (with_mode m) (label_names label k xs) ++ label_parameters label (ordinal_after_names k xs) ps ≡ label_parameters label k (map (with_mode m) xs ++ ps)
+pub label_parameters-append : {N M : Type 0} (label : Labelling N M) (m : Mode) (k : ℕ) (xs : List N) (ps : List (Parameter N)) → map (with_mode m) (labels_of_declared_names label k xs) ++ label_parameters label (ordinal_after_names k xs) ps ≡ label_parameters label k (map (with_mode m) xs ++ ps)
 label_parameters-append label m k [] ps = refl
 label_parameters-append label m k (x ∷ xs) ps = λ i. record { mode = m; name = label (Some k) x } ∷ label_parameters-append label m (suc k) xs ps i
 
 pub section-parameters : {N M : Type 0} (naming : Naming N) (label : Labelling N M) (scope : Scope N) (k : ℕ) (s : Tree N section)
-    → map (with_mode (section_mode (relabel_section naming label scope k s))) (section_names (relabel_section naming label scope k s)) ≡ map (with_mode (section_mode s)) (label_names label k (section_names s))
+    → map (with_mode (section_mode (relabel_section naming label scope k s))) (parameter_section_names (relabel_section naming label scope k s)) ≡ map (with_mode (section_mode s)) (labels_of_declared_names label k (parameter_section_names s))
 section-parameters naming label scope k (value_section ns t) = ap (map (with_mode by_value)) (names-relabel label k ns)
 section-parameters naming label scope k (variable_section ns t) = ap (map (with_mode by_place)) (names-relabel label k ns)
 
 pub relabel_formals-parameters : {N M : Type 0} (naming : Naming N) (label : Labelling N M) (scope : Scope N) (k : ℕ) (fs : Tree N (items further_section)) → parameters (relabel_sections naming label scope k fs) ≡ label_parameters label k (parameters fs)
 relabel_formals-parameters naming label scope k end = refl
 relabel_formals-parameters naming label scope k (more (then_section f) fs) =
-    ap (λ ys. ys ++ parameters (relabel_sections naming label (declare_names k (section_names f) scope) (ordinal_after_names k (section_names f)) fs)) (section-parameters naming label scope k f)
-    ∙ ap (λ ps. map (with_mode (section_mode f)) (label_names label k (section_names f)) ++ ps) (relabel_formals-parameters naming label (declare_names k (section_names f) scope) (ordinal_after_names k (section_names f)) fs)
-    ∙ label_parameters-append label (section_mode f) k (section_names f) (parameters fs)
+    ap (λ ys. ys ++ parameters (relabel_sections naming label (declare_names k (parameter_section_names f) scope) (ordinal_after_names k (parameter_section_names f)) fs)) (section-parameters naming label scope k f)
+    ∙ ap (λ ps. map (with_mode (section_mode f)) (labels_of_declared_names label k (parameter_section_names f)) ++ ps) (relabel_formals-parameters naming label (declare_names k (parameter_section_names f) scope) (ordinal_after_names k (parameter_section_names f)) fs)
+    ∙ label_parameters-append label (section_mode f) k (parameter_section_names f) (parameters fs)
 
 pub parameters_bound : {N : Type 0} (naming : Naming N) (k : ℕ) (f : NotedFrame N) → Below k f.noted → (ps : List (Parameter N)) (args : List Argument)
     → Agree frame_by_name (frame_by_ordinal naming) (FrameWithin (ordinal_after_names k (parameter_names ps)) (declare_names k (parameter_names ps) (scope_of f.noted)))

@@ -28,7 +28,7 @@ use Rattle.ob0_language_runs.specs.Runs.{Activation, Argument, CallFunction, Pro
 use Rattle.ob0_language_runs.proofs.ByOrdinal.{formal_names-parameters, parameter_names}
 use Rattle.ob0_language_runs.proofs.InlinedStatements.{execute_sequence-written}
 use Rattle.ob0_language_runs.proofs.RunNaturality.{execute_sequence-map}
-use Rattle.ob0_language_names.specs.Scopes.{Scope, ordinal_after_block, ordinal_after_names, ordinal_after_procedure, ordinal_after_procedures, body_scope, declare_names, declare_procedure_names, first_procedure_ordinal, first_type_ordinal, first_variable_ordinal, ordinal_of, predeclared_scope, procedures_scope, variables_scope}
+use Rattle.ob0_language_names.specs.Scopes.{Scope, ordinal_after_block, ordinal_after_names, ordinal_after_procedure, ordinal_after_procedures, body_scope, declare_names, declare_procedure_names, first_procedure_ordinal, first_type_ordinal, first_variable_ordinal, ordinal_of, predeclared_scope, scope_before_procedures, scope_before_variables}
 use Rattle.std.proofs.lemmas.Bool.{cases_Bool}
 
 -- a procedure in a run, with the number of the first occurrence in its text
@@ -280,7 +280,7 @@ block-kept edit w lit i j k f s seven (forms_block (declares cs ts vs ps) statem
     let types : first_type_ordinal k b ≤ first_variable_ordinal k b = le-ordinal_after_names (first_type_ordinal k b) (declared_type_names (section_types ts)) in
     let above : k ≤ first_type_ordinal k b = le-ordinal_after_names k (constant_names (section_constants cs)) in
     let over : k ≤ first_procedure_ordinal k b = procedures-below k b in
-    let Middle : Marks Place Text → Type 0 = LeftRun edit w (first_variable_ordinal k b) (variables_scope k b (scope_marked f.marks)) known in
+    let Middle : Marks Place Text → Type 0 = LeftRun edit w (first_variable_ordinal k b) (scope_before_variables k b (scope_marked f.marks)) known in
     let Result : MarkedFrame → Type 0 = RightFrame edit w (ordinal_after_block k b) (body_scope k b (scope_marked f.marks)) in
     let there : ℕ → ℕ → Tree Name (items variable) → Activation Name → Option (Frame Name) = λ n m gs env. option_map (declare_procedures_in_frame (i + n + m) ps') (declare_variables naming_by_spelling (i + n) gs record { env = env; store = f.store }) in
     subst (λ gs. Agree frame_before (frame_after edit) Result (declare_block naming_by_spelling i b (frame_before f))
@@ -305,7 +305,7 @@ block-kept edit w lit i j k f s seven (forms_block (declares cs ts vs ps) statem
     (subst (λ scope. EachVariable (Here edit w) jv scope (first_variable_ordinal k b) (section_variables vs)) (sym left.scoped) here.2)
     (λ l m. types-outside edit w (knowns f.marks) k b has_value (omega (arith, l, types)) m))
     (λ h last.
-    let final = left-then edit w (IsText edit w) (first_procedure_ordinal k b) (declare_names (first_variable_ordinal k b) (variable_names (section_variables vs)) (scope_marked inner)) (scope_marked inner) (procedures_scope k b (scope_marked f.marks)) (bind_names (variable_names (section_variables vs)) non_constant) known (knowns inner) h.marks
+    let final = left-then edit w (IsText edit w) (first_procedure_ordinal k b) (declare_names (first_variable_ordinal k b) (variable_names (section_variables vs)) (scope_marked inner)) (scope_marked inner) (scope_before_procedures k b (scope_marked f.marks)) (bind_names (variable_names (section_variables vs)) non_constant) known (knowns inner) h.marks
     (ap (declare_names (first_variable_ordinal k b) (variable_names (section_variables vs))) left.scoped) left.value last in
     let procedures = procedures-has_value edit w (knowns f.marks) (knowns h.marks) k b has_value final.value in
     let right = procedures-right edit w (constructors_before_procedures i b) jp (first_procedure_ordinal k b) ps h.marks final.sound (omega (arith, seven, over)) (subst (λ scope. EachProcedure (Here edit w) jp scope (first_procedure_ordinal k b) ps) (sym final.scoped) here.3) procedures in (

@@ -10,7 +10,7 @@ use Rattle.ob0_language_names.proofs.SameNames.{map_names-id}
 use Rattle.ob0_language_types.specs.Declarations.{constructors_before_procedure_block, constructors_before_variables, constructors_before_procedures, declare_constants, declare_constants_and_types, declare_types, procedure_constructor_count}
 use Rattle.ob0_language_types.specs.Environments.{environment_from_binding, meanings, newest_object, outermost_environment}
 use Rattle.ob0_language_types.specs.Expressions.{Object, a_constant, a_procedure, a_standard, a_type, a_variable}
-use Rattle.ob0_language_types.specs.Typing.{constant_of, constant_value, constructor_count, denoted_type, type_of_name}
+use Rattle.ob0_language_types.specs.Typing.{constant_of, constant_value, constructor_count, denoted_type, type_of_type_object}
 use Rattle.ob0_language_types.specs.WellTyped.{by_place, by_value}
 use Rattle.ob0_language_types.proofs.TypeNaturality.{constant_value-map, denoted_type-map}
 use Rattle.ob0_language_values.specs.Values.{Place, Value, initial_value}
@@ -101,7 +101,7 @@ constant-same at (Some (a_procedure s)) (Some (a_procedure t)) h = refl
 constant-same at (Some (a_standard s)) (Some (a_standard t)) h = refl
 constant-same at _ _ h = absurd h
 
-type-same : {P : Type 0} (at : List ℕ) (o q : Option (Object Place P)) → MeaningIs at o q → type_of_name o ≡ type_of_name q
+type-same : {P : Type 0} (at : List ℕ) (o q : Option (Object Place P)) → MeaningIs at o q → type_of_type_object o ≡ type_of_type_object q
 type-same at None None h = refl
 type-same at (Some (a_type s)) (Some (a_type t)) h = ap Some h
 type-same at (Some (a_constant s)) (Some (a_constant t)) h = refl

@@ -1,10 +1,10 @@
 -- Replacing uses of a constant by its value leaves the execution of a statement unchanged.
 use Rattle.std.proofs.Common.{List, None, Option, Some, [], ap, false, if◌then◌else◌, length, refl, suc, sym, true, ℕ, ◌++◌, ◌+◌, ◌-◌, ◌∙◌, ◌∷◌, ◌≡◌}
 use Rattle.ob0_tree.specs.Tree.{Tree, arguments, assigns, branches, calls, compares, designator, else_branch, else_part, elsif_branch, elsif_part, empty, end, expression, factor, further_argument, further_statement, items, maybe, more, no_arguments, none, occurrences, one, product, repeat_loop, runs, selector, sequence, some_arguments, statement, sum, then_argument, then_statement, while_loop}
-use Rattle.ob0_language_names.specs.Inlining.{OccurrenceSet, inline_in}
+use Rattle.ob0_language_names.specs.Inlining.{OccurrenceSet, inline_in_tree}
 use Rattle.ob0_language_names.specs.Names.{Name}
 use Rattle.ob0_language_values.specs.Values.{Outcome, Place, Store, Stuck, Value, value_at_path, ends_run_with, succeeds_with, or_stuck, read_place, ◌>>=◌}
-use Rattle.ob0_language_types.specs.Arguments.{arguments_listed, further_arguments}
+use Rattle.ob0_language_types.specs.Arguments.{call_arguments, further_arguments}
 use Rattle.ob0_language_types.specs.Expressions.{Meanings, Object, a_constant, a_variable, designated_place, evaluate, evaluate_factor, evaluate_selectors, object_place, object_value}
 use Rattle.ob0_language_types.specs.Laws.{EachUseHas}
 use Rattle.ob0_language_types.specs.Typing.{lone_designator}
@@ -12,7 +12,7 @@ use Rattle.ob0_language_types.specs.WellTyped.{Mode, by_place, by_value}
 use Rattle.ob0_language_types.proofs.FitInlined.{alone, compared-no_designator, product-no_designator, sum-no_designator}
 use Rattle.ob0_language_types.proofs.Inlined.{IsConstantOf, evaluate-inlined, follow-inlined, uses-split}
 use Rattle.ob0_language_runs.specs.Laws.{InliningKeepsExecution}
-use Rattle.ob0_language_runs.specs.Runs.{CallFunction, Progress, State, choose_by_truth, evaluate_argument, evaluate_arguments, execute, execute_sequence, execute_else, execute_elsifs, execute_further_statements, continue_with, modes_of, perform_call, place_argument, store_at, execute_while, execute_repeat, use_result, value_argument}
+use Rattle.ob0_language_runs.specs.Runs.{CallFunction, Progress, State, choose_by_truth, evaluate_argument, evaluate_arguments, execute, execute_sequence, execute_else, execute_elsifs, execute_further_statements, continue_with, argument_modes_of, perform_call, place_argument, store_at, execute_while, execute_repeat, continue_with_result, value_argument}
 
 -- holds if the factor evaluates to the value in every store
 pub record EvaluatesTo (meaning : Meanings Name Place (List Mode)) (v : Tree Name factor) (w : Value) : Type 0 where
@@ -22,11 +22,11 @@ abbrev pub IsUse : Meanings Name Place (List Mode) → Value → OccurrenceSet �
 IsUse meaning w uses k xs = EachUseHas uses (IsConstantOf meaning w) k xs
 
 pub evaluate-written : (meaning : Meanings Name Place (List Mode)) (uses : OccurrenceSet) (v : Tree Name factor) (w : Value) → EvaluatesTo meaning v w → (store : Store) (k : ℕ) (e : Tree Name expression)
-    → IsUse meaning w uses k (occurrences e) → evaluate meaning store (inline_in uses v k e) ≡ evaluate meaning store e
+    → IsUse meaning w uses k (occurrences e) → evaluate meaning store (inline_in_tree uses v k e) ≡ evaluate meaning store e
 evaluate-written meaning uses v w h store k e u = evaluate-inlined meaning store uses v w record { has_value = h.in_store store } k e u
 
 pub designated_place-written : (meaning : Meanings Name Place (List Mode)) (uses : OccurrenceSet) (v : Tree Name factor) (w : Value) → EvaluatesTo meaning v w → (store : Store) (k : ℕ) (x : Name) (path : Tree Name (items selector))
-    → IsUse meaning w uses k (occurrences path) → designated_place meaning store x (inline_in uses v k path) ≡ designated_place meaning store x path
+    → IsUse meaning w uses k (occurrences path) → designated_place meaning store x (inline_in_tree uses v k path) ≡ designated_place meaning store x path
 unfolding designated_place
 designated_place-written meaning uses v w h store k x path u = λ i.
     object_place (meaning.object_for x) >>= (λ p. or_stuck (read_place store p) >>= (λ z. follow-inlined meaning store uses v w record { has_value = h.in_store store } k z path u i >>= (λ steps. succeeds_with record { variable = p.variable; path = p.path ++ steps })))
@@ -57,7 +57,7 @@ use-no_place meaning x w store e =
     ap (λ o. o >>= (λ p. or_stuck (read_place store p) >>= (λ z. evaluate_selectors meaning store z end >>= (λ steps. succeeds_with record { variable = p.variable; path = p.path ++ steps })))) (constant-no_place (meaning.object_for x) w e)
 
 pub place-written : (meaning : Meanings Name Place (List Mode)) (uses : OccurrenceSet) (v : Tree Name factor) (w : Value) → EvaluatesTo meaning v w → (store : Store) (k : ℕ) (e : Tree Name expression)
-    → IsUse meaning w uses k (occurrences e) → place_at meaning store (lone_designator (inline_in uses v k e)) ≡ place_at meaning store (lone_designator e)
+    → IsUse meaning w uses k (occurrences e) → place_at meaning store (lone_designator (inline_in_tree uses v k e)) ≡ place_at meaning store (lone_designator e)
 place-written meaning uses v w h store k (compares (sum None (product (designator x end) end) end) none) u =
     (elim (uses k) as (λ b. uses k ≡ b → place_at meaning store (lone_designator (alone (if b then v else designator x end))) ≡ place_at meaning store (Some (x, end)))
     [ true ↦ λ e. written-no_place meaning v w h store ∙ sym (use-no_place meaning x w store (u.0 e)) | false ↦ λ e. refl ]) refl
@@ -72,18 +72,18 @@ place-written meaning uses v w h store k (compares (sum None (product (designato
 place-written meaning uses v w h store k _ u = refl
 
 pub argument-written : (meaning : Meanings Name Place (List Mode)) (uses : OccurrenceSet) (v : Tree Name factor) (w : Value) → EvaluatesTo meaning v w → (store : Store) (m : Mode) (k : ℕ) (e : Tree Name expression)
-    → IsUse meaning w uses k (occurrences e) → evaluate_argument meaning store m (inline_in uses v k e) ≡ evaluate_argument meaning store m e
+    → IsUse meaning w uses k (occurrences e) → evaluate_argument meaning store m (inline_in_tree uses v k e) ≡ evaluate_argument meaning store m e
 unfolding evaluate_argument
 argument-written meaning uses v w h store by_value k e u = λ i. evaluate-written meaning uses v w h store k e u i >>= (λ z. succeeds_with (value_argument z))
 argument-written meaning uses v w h store by_place k e u =
-    by_steps (lone_designator (inline_in uses v k e)) ∙ ((λ i. place-written meaning uses v w h store k e u i >>= (λ p. succeeds_with (place_argument p))) ∙ sym (by_steps (lone_designator e)))
+    by_steps (lone_designator (inline_in_tree uses v k e)) ∙ ((λ i. place-written meaning uses v w h store k e u i >>= (λ p. succeeds_with (place_argument p))) ∙ sym (by_steps (lone_designator e)))
   where
     by_steps : (d : Option (Name × Tree Name (items selector))) → or_stuck d >>= (λ d. designated_place meaning store d.0 d.1 >>= (λ p. succeeds_with (place_argument p))) ≡ place_at meaning store d >>= (λ p. succeeds_with (place_argument p))
     by_steps None = refl
     by_steps (Some d) = refl
 
 pub further-written : (meaning : Meanings Name Place (List Mode)) (uses : OccurrenceSet) (v : Tree Name factor) (w : Value) → EvaluatesTo meaning v w → (store : Store) (ms : List Mode) (k : ℕ) (es : Tree Name (items further_argument))
-    → IsUse meaning w uses k (occurrences es) → evaluate_arguments meaning store ms (further_arguments (inline_in uses v k es)) ≡ evaluate_arguments meaning store ms (further_arguments es)
+    → IsUse meaning w uses k (occurrences es) → evaluate_arguments meaning store ms (further_arguments (inline_in_tree uses v k es)) ≡ evaluate_arguments meaning store ms (further_arguments es)
 unfolding evaluate_arguments
 further-written meaning uses v w h store [] k (more (then_argument e) es) u = refl
 further-written meaning uses v w h store (m ∷ ms) k (more (then_argument e) es) u =
@@ -92,7 +92,7 @@ further-written meaning uses v w h store (m ∷ ms) k (more (then_argument e) es
 further-written meaning uses v w h store _ k _ u = refl
 
 pub arguments-written : (meaning : Meanings Name Place (List Mode)) (uses : OccurrenceSet) (v : Tree Name factor) (w : Value) → EvaluatesTo meaning v w → (store : Store) (ms : List Mode) (k : ℕ) (es : Tree Name (maybe arguments))
-    → IsUse meaning w uses k (occurrences es) → evaluate_arguments meaning store ms (arguments_listed (inline_in uses v k es)) ≡ evaluate_arguments meaning store ms (arguments_listed es)
+    → IsUse meaning w uses k (occurrences es) → evaluate_arguments meaning store ms (call_arguments (inline_in_tree uses v k es)) ≡ evaluate_arguments meaning store ms (call_arguments es)
 unfolding evaluate_arguments
 arguments-written meaning uses v w h store ms k (one no_arguments) u = refl
 arguments-written meaning uses v w h store (m ∷ ms) k (one (some_arguments e es)) u =
@@ -104,22 +104,22 @@ mutual
   unfolding execute
 
   pub execute-written : (meaning : Meanings Name Place (List Mode)) (enter : CallFunction Name) (t : ℕ) (uses : OccurrenceSet) (v : Tree Name factor) (w : Value) → EvaluatesTo meaning v w → (k : ℕ) (a : Tree Name statement)
-      → IsUse meaning w uses k (occurrences a) → execute meaning enter t (inline_in uses v k a) ≡ execute meaning enter t a
+      → IsUse meaning w uses k (occurrences a) → execute meaning enter t (inline_in_tree uses v k a) ≡ execute meaning enter t a
   execute-written meaning enter t uses v w h k empty u = refl
   execute-written meaning enter t uses v w h k (assigns x path e) u =
       let s = uses-split uses (IsConstantOf meaning w) (suc k) (occurrences path) (occurrences e) u.1 in
-      λ i state. use_result state (designated_place-written meaning uses v w h state.store (suc k) x path s.0 i)
-      (λ p. use_result state (evaluate-written meaning uses v w h state.store (suc k + length (occurrences path)) e s.1 i) (store_at state p))
+      λ i state. continue_with_result state (designated_place-written meaning uses v w h state.store (suc k) x path s.0 i)
+      (λ p. continue_with_result state (evaluate-written meaning uses v w h state.store (suc k + length (occurrences path)) e s.1 i) (store_at state p))
   execute-written meaning enter t uses v w h k (calls x es) u = λ i state.
-      use_result state (modes_of (meaning.object_for x) >>= (λ modes. arguments-written meaning uses v w h state.store modes (suc k) es u.1 i)) (λ args. perform_call (meaning.object_for x) (enter x) args state)
+      continue_with_result state (argument_modes_of (meaning.object_for x) >>= (λ modes. arguments-written meaning uses v w h state.store modes (suc k) es u.1 i)) (λ args. perform_call (meaning.object_for x) (enter x) args state)
   execute-written meaning enter t uses v w h k (branches e statements rest last) u =
       let s = uses-split uses (IsConstantOf meaning w) k (occurrences e) (occurrences statements ++ (occurrences rest ++ occurrences last)) u in
       let s₁ = uses-split uses (IsConstantOf meaning w) (k + length (occurrences e)) (occurrences statements) (occurrences rest ++ occurrences last) s.1 in
       let s₂ = uses-split uses (IsConstantOf meaning w) (k + length (occurrences e) + length (occurrences statements)) (occurrences rest) (occurrences last) s₁.1 in
-      λ i state. use_result state (evaluate-written meaning uses v w h state.store k e s.0 i)
+      λ i state. continue_with_result state (evaluate-written meaning uses v w h state.store k e s.0 i)
       (λ z. choose_by_truth state z (execute_sequence-written meaning enter t uses v w h (k + length (occurrences e)) statements s₁.0 i)
       (execute_elsifs-written meaning enter t uses v w h (k + length (occurrences e) + length (occurrences statements)) rest s₂.0
-      (execute_else meaning enter t (inline_in uses v (k + length (occurrences e) + length (occurrences statements) + length (occurrences rest)) last)) (execute_else meaning enter t last)
+      (execute_else meaning enter t (inline_in_tree uses v (k + length (occurrences e) + length (occurrences statements) + length (occurrences rest)) last)) (execute_else meaning enter t last)
       (execute_else-written meaning enter t uses v w h (k + length (occurrences e) + length (occurrences statements) + length (occurrences rest)) last s₂.1) i))
   execute-written meaning enter t uses v w h k (while_loop e statements) u =
       let s = uses-split uses (IsConstantOf meaning w) k (occurrences e) (occurrences statements) u in
@@ -129,30 +129,30 @@ mutual
       λ i state. execute_repeat (t - 1) (λ state'. evaluate-written meaning uses v w h state'.store (k + length (occurrences statements)) e s.1 i) (execute_sequence-written meaning enter t uses v w h k statements s.0 i) state
 
   pub execute_sequence-written : (meaning : Meanings Name Place (List Mode)) (enter : CallFunction Name) (t : ℕ) (uses : OccurrenceSet) (v : Tree Name factor) (w : Value) → EvaluatesTo meaning v w → (k : ℕ) (a : Tree Name sequence)
-      → IsUse meaning w uses k (occurrences a) → execute_sequence meaning enter t (inline_in uses v k a) ≡ execute_sequence meaning enter t a
+      → IsUse meaning w uses k (occurrences a) → execute_sequence meaning enter t (inline_in_tree uses v k a) ≡ execute_sequence meaning enter t a
   execute_sequence-written meaning enter t uses v w h k (runs a rest) u =
       let s = uses-split uses (IsConstantOf meaning w) k (occurrences a) (occurrences rest) u in
       λ i state. continue_with (execute-written meaning enter t uses v w h k a s.0 i state) (execute_further_statements-written meaning enter t uses v w h (k + length (occurrences a)) rest s.1 i)
 
   pub execute_further_statements-written : (meaning : Meanings Name Place (List Mode)) (enter : CallFunction Name) (t : ℕ) (uses : OccurrenceSet) (v : Tree Name factor) (w : Value) → EvaluatesTo meaning v w → (k : ℕ) (a : Tree Name (items further_statement))
-      → IsUse meaning w uses k (occurrences a) → execute_further_statements meaning enter t (inline_in uses v k a) ≡ execute_further_statements meaning enter t a
+      → IsUse meaning w uses k (occurrences a) → execute_further_statements meaning enter t (inline_in_tree uses v k a) ≡ execute_further_statements meaning enter t a
   execute_further_statements-written meaning enter t uses v w h k end u = refl
   execute_further_statements-written meaning enter t uses v w h k (more (then_statement a) rest) u =
       let s = uses-split uses (IsConstantOf meaning w) k (occurrences a) (occurrences rest) u in
       λ i state. continue_with (execute-written meaning enter t uses v w h k a s.0 i state) (execute_further_statements-written meaning enter t uses v w h (k + length (occurrences a)) rest s.1 i)
 
   pub execute_elsifs-written : (meaning : Meanings Name Place (List Mode)) (enter : CallFunction Name) (t : ℕ) (uses : OccurrenceSet) (v : Tree Name factor) (w : Value) → EvaluatesTo meaning v w → (k : ℕ) (a : Tree Name (items elsif_part))
-      → IsUse meaning w uses k (occurrences a) → (there here : State → Progress) → there ≡ here → execute_elsifs meaning enter t (inline_in uses v k a) there ≡ execute_elsifs meaning enter t a here
+      → IsUse meaning w uses k (occurrences a) → (there here : State → Progress) → there ≡ here → execute_elsifs meaning enter t (inline_in_tree uses v k a) there ≡ execute_elsifs meaning enter t a here
   execute_elsifs-written meaning enter t uses v w h k end u there here e = λ i state. e i state
   execute_elsifs-written meaning enter t uses v w h k (more (elsif_branch c statements) rest) u there here e =
       let s = uses-split uses (IsConstantOf meaning w) k (occurrences c ++ occurrences statements) (occurrences rest) u in
       let s₁ = uses-split uses (IsConstantOf meaning w) k (occurrences c) (occurrences statements) s.0 in
-      λ i state. use_result state (evaluate-written meaning uses v w h state.store k c s₁.0 i)
+      λ i state. continue_with_result state (evaluate-written meaning uses v w h state.store k c s₁.0 i)
       (λ z. choose_by_truth state z (execute_sequence-written meaning enter t uses v w h (k + length (occurrences c)) statements s₁.1 i)
       (execute_elsifs-written meaning enter t uses v w h (k + length (occurrences c ++ occurrences statements)) rest s.1 there here e i))
 
   pub execute_else-written : (meaning : Meanings Name Place (List Mode)) (enter : CallFunction Name) (t : ℕ) (uses : OccurrenceSet) (v : Tree Name factor) (w : Value) → EvaluatesTo meaning v w → (k : ℕ) (a : Tree Name (maybe else_part))
-      → IsUse meaning w uses k (occurrences a) → execute_else meaning enter t (inline_in uses v k a) ≡ execute_else meaning enter t a
+      → IsUse meaning w uses k (occurrences a) → execute_else meaning enter t (inline_in_tree uses v k a) ≡ execute_else meaning enter t a
   execute_else-written meaning enter t uses v w h k none u = refl
   execute_else-written meaning enter t uses v w h k (one (else_branch statements)) u = λ i state. execute_sequence-written meaning enter t uses v w h k statements u i state
 

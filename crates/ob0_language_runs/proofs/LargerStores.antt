@@ -1,13 +1,13 @@
 -- If a larger store has the variables of a smaller one at other indexes, reads and writes do the same in both stores.
 use Rattle.std.proofs.Common.{◌≡◌, ℕ, zero, suc, ◌-◌, true, false, ◌≢◌, List, [], ◌∷◌, ◌++◌, length, take, ℤ, slice_get, slice_set, Some, None, Option, option_map, option_and_then, sym, refl, ap, ◌∙◌, subst}
 use Rattle.ob0_tree.specs.Tree.{Tree, addend, adds, assigns, branches, calls, compares, designator, else_branch, else_part, elsif_branch, elsif_part, empty, end, expression, factor, field, further_statement, index, integer, items, maybe, more, multiplier, multiplies, negation, none, one, parenthesised, product, relates, repeat_loop, runs, selector, sequence, simple, statement, sum, term, then_statement, while_loop}
-use Rattle.ob0_language_types.specs.Arguments.{arguments_listed}
+use Rattle.ob0_language_types.specs.Arguments.{call_arguments}
 use Rattle.ob0_language_types.specs.Expressions.{Meanings, Object, StandardProcedure, a_constant, a_procedure, a_standard, a_type, a_variable, designated_place, element_step, evaluate, evaluate_addends, evaluate_factor, evaluate_multipliers, evaluate_simple, evaluate_term, evaluate_selectors, object_place, read_procedure, object_value, write_procedure, write_line_procedure}
 use Rattle.ob0_language_types.specs.Typing.{lone_designator}
 use Rattle.ob0_language_types.specs.WellTyped.{Mode, by_place, by_value}
 use Rattle.ob0_language_types.proofs.Literals.{some_inverse}
-use Rattle.ob0_language_values.specs.Values.{Outcome, Place, Store, TurnBound, Value, add, add_short_circuits, at_field, value_at_path, elements, ends_run_with, succeeds_with, members, multiply, multiply_short_circuits, negate, number, or_stuck, part, read_place, apply_relation, apply_sign, truth, with_value_at_path, ◌>>=◌}
-use Rattle.ob0_language_runs.specs.Runs.{Argument, CallFunction, Progress, State, PrintedItem, choose_by_truth, evaluate_argument, evaluate_arguments, execute, execute_sequence, execute_else, execute_elsifs, execute_further_statements, continue_with, line_out, modes_of, number_out, perform_call, place_argument, append_output, read_number, running, stopped, store_at, execute_while, execute_repeat, use_result, value_argument}
+use Rattle.ob0_language_values.specs.Values.{Outcome, Place, Store, TurnBound, Value, add, add_short_circuits, at_field, value_at_path, elements, ends_run_with, succeeds_with, members, multiply, multiply_short_circuits, negate, number, or_stuck, value_at_step, read_place, apply_relation, apply_sign, truth, with_value_at_path, ◌>>=◌}
+use Rattle.ob0_language_runs.specs.Runs.{Argument, CallFunction, Progress, State, PrintedItem, choose_by_truth, evaluate_argument, evaluate_arguments, execute, execute_sequence, execute_else, execute_elsifs, execute_further_statements, continue_with, line_out, argument_modes_of, number_out, perform_call, place_argument, append_output, read_number, running, stopped, store_at, execute_while, execute_repeat, continue_with_result, value_argument}
 use Rattle.ob0_language_runs.proofs.SoundStatements.{slice_get-grows}
 
 -- The last item of a list is at the index of its length before the item was appended.
@@ -197,9 +197,9 @@ module _ {N P : Type 0} (here there : Meanings N Place P) (small large : Store) 
     pub follow-same : (v : Value) (path : Tree N (items selector)) → evaluate_selectors here small v path ≡ evaluate_selectors there large v path
     follow-same v end = refl
     follow-same v (more (field x) rest) = λ i.
-        or_stuck (part v (at_field (written x i))) >>= (λ w. follow-same w rest i >>= (λ steps. succeeds_with (at_field (written x i) ∷ steps)))
+        or_stuck (value_at_step v (at_field (written x i))) >>= (λ w. follow-same w rest i >>= (λ steps. succeeds_with (at_field (written x i) ∷ steps)))
     follow-same v (more (index e) rest) = λ i.
-        evaluate-same e i >>= (λ j. element_step v j >>= (λ s. or_stuck (part v s) >>= (λ w. follow-same w rest i >>= (λ steps. succeeds_with (s ∷ steps)))))
+        evaluate-same e i >>= (λ j. element_step v j >>= (λ s. or_stuck (value_at_step v s) >>= (λ w. follow-same w rest i >>= (λ steps. succeeds_with (s ∷ steps)))))
 
 -- holds if the meanings of names are related in both stores, and fields are spelled alike
 pub record NamesAre {N P : Type 0} (at : List ℕ) (here there : Meanings N Place P) : Type 0 where
@@ -270,15 +270,15 @@ ProgressIs at _ _ = ⊥
 abbrev pub Alike : List ℕ → (State → Progress) → (State → Progress) → Type 0
 Alike at f g = (s u : State) → StateIs at s u → ProgressIs at (f s) (g u)
 
-use_result-is : {A B : Type 0} (at : List ℕ) (Is : A → B → Type 0) (s u : State) (o : Outcome A) (q : Outcome B) (f : A → Progress) (g : B → Progress) → s.output ≡ u.output → OutcomeIs Is o q → ((a : A) (b : B) → Is a b → ProgressIs at (f a) (g b)) → ProgressIs at (use_result s o f) (use_result u q g)
-use_result-is at Is s u (succeeds_with a) (succeeds_with b) f g out h each = each a b h
-use_result-is at Is s u (ends_run_with e) (ends_run_with x) f g out h each = (h, out)
-use_result-is at Is s u _ _ f g out h each = absurd h
+continue_with_result-is : {A B : Type 0} (at : List ℕ) (Is : A → B → Type 0) (s u : State) (o : Outcome A) (q : Outcome B) (f : A → Progress) (g : B → Progress) → s.output ≡ u.output → OutcomeIs Is o q → ((a : A) (b : B) → Is a b → ProgressIs at (f a) (g b)) → ProgressIs at (continue_with_result s o f) (continue_with_result u q g)
+continue_with_result-is at Is s u (succeeds_with a) (succeeds_with b) f g out h each = each a b h
+continue_with_result-is at Is s u (ends_run_with e) (ends_run_with x) f g out h each = (h, out)
+continue_with_result-is at Is s u _ _ f g out h each = absurd h
 
-use_same : {A : Type 0} (at : List ℕ) (s u : State) (o q : Outcome A) (f g : A → Progress) → s.output ≡ u.output → o ≡ q → ((a : A) → ProgressIs at (f a) (g a)) → ProgressIs at (use_result s o f) (use_result u q g)
-use_same {A} at s u o q f g out e each = subst (λ q. ProgressIs at (use_result s o f) (use_result u q g)) e (go o)
+use_same : {A : Type 0} (at : List ℕ) (s u : State) (o q : Outcome A) (f g : A → Progress) → s.output ≡ u.output → o ≡ q → ((a : A) → ProgressIs at (f a) (g a)) → ProgressIs at (continue_with_result s o f) (continue_with_result u q g)
+use_same {A} at s u o q f g out e each = subst (λ q. ProgressIs at (continue_with_result s o f) (continue_with_result u q g)) e (go o)
   where
-    go : (o : Outcome A) → ProgressIs at (use_result s o f) (use_result u o g)
+    go : (o : Outcome A) → ProgressIs at (continue_with_result s o f) (continue_with_result u o g)
     go (succeeds_with a) = each a
     go (ends_run_with x) = (refl, out)
 
@@ -294,21 +294,21 @@ go_on-is at _ _ f g h alike = absurd h
 
 store_at-is : (at : List ℕ) (s u : State) (p q : Place) (new : Value) → StateIs at s u → PlaceIs at p q → ProgressIs at (store_at s p new) (store_at u q new)
 store_at-is at s u p q new h is =
-    subst (λ path. ProgressIs at (store_at s p new) (use_result u (or_stuck (option_and_then (λ old. option_map (slice_set u.store q.variable) (with_value_at_path path new old)) (slice_get u.store q.variable))) (λ store. running record u { store = store }))) is.same_path
-    (subst (λ found. ProgressIs at (use_result s (or_stuck (option_and_then (λ old. option_map (slice_set s.store p.variable) (with_value_at_path p.path new old)) found)) (λ store. running record s { store = store }))
-    (use_result u (or_stuck (option_and_then (λ old. option_map (slice_set u.store q.variable) (with_value_at_path p.path new old)) (slice_get u.store q.variable))) (λ store. running record u { store = store })))
+    subst (λ path. ProgressIs at (store_at s p new) (continue_with_result u (or_stuck (option_and_then (λ old. option_map (slice_set u.store q.variable) (with_value_at_path path new old)) (slice_get u.store q.variable))) (λ store. running record u { store = store }))) is.same_path
+    (subst (λ found. ProgressIs at (continue_with_result s (or_stuck (option_and_then (λ old. option_map (slice_set s.store p.variable) (with_value_at_path p.path new old)) found)) (λ store. running record s { store = store }))
+    (continue_with_result u (or_stuck (option_and_then (λ old. option_map (slice_set u.store q.variable) (with_value_at_path p.path new old)) (slice_get u.store q.variable))) (λ store. running record u { store = store })))
     (sym (variable-found at s.store u.store p.variable q.variable h.same_variables is.variable_is))
     (go (slice_get u.store q.variable) refl))
   where
     put : (old : Value) → slice_get u.store q.variable ≡ Some old → (w : Option Value)
-        → ProgressIs at (use_result s (or_stuck (option_map (slice_set s.store p.variable) w)) (λ store. running record s { store = store })) (use_result u (or_stuck (option_map (slice_set u.store q.variable) w)) (λ store. running record u { store = store }))
+        → ProgressIs at (continue_with_result s (or_stuck (option_map (slice_set s.store p.variable) w)) (λ store. running record s { store = store })) (continue_with_result u (or_stuck (option_map (slice_set u.store q.variable) w)) (λ store. running record u { store = store }))
     put old e None = (refl, h.same_output)
     put old e (Some w) =
         record { same_variables = variable-written at s.store u.store p.variable q.variable old w h.same_variables is.variable_is e; same_input = h.same_input; same_output = h.same_output }
 
     go : (found : Option Value) → slice_get u.store q.variable ≡ found
-        → ProgressIs at (use_result s (or_stuck (option_and_then (λ old. option_map (slice_set s.store p.variable) (with_value_at_path p.path new old)) found)) (λ store. running record s { store = store }))
-        (use_result u (or_stuck (option_and_then (λ old. option_map (slice_set u.store q.variable) (with_value_at_path p.path new old)) found)) (λ store. running record u { store = store }))
+        → ProgressIs at (continue_with_result s (or_stuck (option_and_then (λ old. option_map (slice_set s.store p.variable) (with_value_at_path p.path new old)) found)) (λ store. running record s { store = store }))
+        (continue_with_result u (or_stuck (option_and_then (λ old. option_map (slice_set u.store q.variable) (with_value_at_path p.path new old)) found)) (λ store. running record u { store = store }))
     go None e = (refl, h.same_output)
     go (Some old) e = put old e (with_value_at_path p.path new old)
 
@@ -322,13 +322,13 @@ put_out-is at s u w h = record { same_variables = h.same_variables; same_input =
 
 -- The modes and the arguments of a call are the same in both stores.
 
-modes-same : (at : List ℕ) (o q : Option (Object Place (List Mode))) → MeaningIs at o q → modes_of o ≡ modes_of q
+modes-same : (at : List ℕ) (o q : Option (Object Place (List Mode))) → MeaningIs at o q → argument_modes_of o ≡ argument_modes_of q
 modes-same at None None is = refl
 modes-same at (Some (a_constant v)) (Some (a_constant w)) is = refl
 modes-same at (Some (a_variable p)) (Some (a_variable q)) is = refl
 modes-same at (Some (a_type s)) (Some (a_type t)) is = refl
 modes-same at (Some (a_procedure a)) (Some (a_procedure b)) is = ap succeeds_with is
-modes-same at (Some (a_standard a)) (Some (a_standard b)) is = ap (λ a. modes_of (Some (a_standard a))) is
+modes-same at (Some (a_standard a)) (Some (a_standard b)) is = ap (λ a. argument_modes_of (Some (a_standard a))) is
 modes-same at _ _ is = absurd is
 
 -- holds if two calls do the same with related arguments
@@ -414,11 +414,11 @@ execute_while-alike at (suc t) test test' f g same alike s u h =
 
 execute_repeat-alike : (at : List ℕ) (t : ℕ) (test test' : State → Outcome Value) (f g : State → Progress) → ((s u : State) → StateIs at s u → test s ≡ test' u) → Alike at f g → Alike at (execute_repeat t test f) (execute_repeat t test' g)
 execute_repeat-alike at zero test test' f g same alike s u h =
-    go_on-is at (f s) (g u) (λ s'. use_result s' (test s') (λ v. choose_by_truth s' v running (λ s''. stopped TurnBound s''.output))) (λ s'. use_result s' (test' s') (λ v. choose_by_truth s' v running (λ s''. stopped TurnBound s''.output))) (alike s u h)
+    go_on-is at (f s) (g u) (λ s'. continue_with_result s' (test s') (λ v. choose_by_truth s' v running (λ s''. stopped TurnBound s''.output))) (λ s'. continue_with_result s' (test' s') (λ v. choose_by_truth s' v running (λ s''. stopped TurnBound s''.output))) (alike s u h)
     (λ s u h. use_same at s u (test s) (test' u) (λ v. choose_by_truth s v running (λ s''. stopped TurnBound s''.output)) (λ v. choose_by_truth u v running (λ s''. stopped TurnBound s''.output)) h.same_output (same s u h)
     (λ v. choose_by_truth-is at s u v running (λ s''. stopped TurnBound s''.output) running (λ s''. stopped TurnBound s''.output) h h (refl, h.same_output)))
 execute_repeat-alike at (suc t) test test' f g same alike s u h =
-    go_on-is at (f s) (g u) (λ s'. use_result s' (test s') (λ v. choose_by_truth s' v running (execute_repeat t test f))) (λ s'. use_result s' (test' s') (λ v. choose_by_truth s' v running (execute_repeat t test' g))) (alike s u h)
+    go_on-is at (f s) (g u) (λ s'. continue_with_result s' (test s') (λ v. choose_by_truth s' v running (execute_repeat t test f))) (λ s'. continue_with_result s' (test' s') (λ v. choose_by_truth s' v running (execute_repeat t test' g))) (alike s u h)
     (λ s u h. use_same at s u (test s) (test' u) (λ v. choose_by_truth s v running (execute_repeat t test f)) (λ v. choose_by_truth u v running (execute_repeat t test' g)) h.same_output (same s u h)
     (λ v. choose_by_truth-is at s u v running (execute_repeat t test f) running (execute_repeat t test' g) h h (execute_repeat-alike at t test test' f g same alike s u h)))
 
@@ -429,16 +429,16 @@ module _ {N : Type 0} (at : List ℕ) (here there : Meanings N Place (List Mode)
   assigns-alike : (x : N) (path : Tree N (items selector)) (e : Tree N expression) → Alike at (execute here enter t (assigns x path e)) (execute there enter' t (assigns x path e))
   unfolding execute
   assigns-alike x path e s u h =
-      use_result-is at (PlaceIs at) s u (designated_place here s.store x path) (designated_place there u.store x path) (λ p. use_result s (evaluate here s.store e) (store_at s p)) (λ p. use_result u (evaluate there u.store e) (store_at u p)) h.same_output
+      continue_with_result-is at (PlaceIs at) s u (designated_place here s.store x path) (designated_place there u.store x path) (λ p. continue_with_result s (evaluate here s.store e) (store_at s p)) (λ p. continue_with_result u (evaluate there u.store e) (store_at u p)) h.same_output
       (designated_place-is at here there s.store u.store names h.same_variables x path)
       (λ p q is. use_same at s u (evaluate here s.store e) (evaluate there u.store e) (store_at s p) (store_at u q) h.same_output (condition-same e s u h) (λ v. store_at-is at s u p q v h is))
 
-  calls-alike : (x : N) (es : List (Tree N expression)) → Alike at (λ s. use_result s (modes_of (here.object_for x) >>= (λ modes. evaluate_arguments here s.store modes es)) (λ args. perform_call (here.object_for x) (enter x) args s))
-      (λ s. use_result s (modes_of (there.object_for x) >>= (λ modes. evaluate_arguments there s.store modes es)) (λ args. perform_call (there.object_for x) (enter' x) args s))
+  calls-alike : (x : N) (es : List (Tree N expression)) → Alike at (λ s. continue_with_result s (argument_modes_of (here.object_for x) >>= (λ modes. evaluate_arguments here s.store modes es)) (λ args. perform_call (here.object_for x) (enter x) args s))
+      (λ s. continue_with_result s (argument_modes_of (there.object_for x) >>= (λ modes. evaluate_arguments there s.store modes es)) (λ args. perform_call (there.object_for x) (enter' x) args s))
   calls-alike x es s u h =
-      use_result-is at (ArgumentsAre at) s u (modes_of (here.object_for x) >>= (λ modes. evaluate_arguments here s.store modes es)) (modes_of (there.object_for x) >>= (λ modes. evaluate_arguments there u.store modes es))
+      continue_with_result-is at (ArgumentsAre at) s u (argument_modes_of (here.object_for x) >>= (λ modes. evaluate_arguments here s.store modes es)) (argument_modes_of (there.object_for x) >>= (λ modes. evaluate_arguments there u.store modes es))
       (λ args. perform_call (here.object_for x) (enter x) args s) (λ args. perform_call (there.object_for x) (enter' x) args u) h.same_output
-      (same-then (ArgumentsAre at) (modes_of (here.object_for x)) (modes_of (there.object_for x)) (λ modes. evaluate_arguments here s.store modes es) (λ modes. evaluate_arguments there u.store modes es) (modes-same at (here.object_for x) (there.object_for x) (names.mean_same x))
+      (same-then (ArgumentsAre at) (argument_modes_of (here.object_for x)) (argument_modes_of (there.object_for x)) (λ modes. evaluate_arguments here s.store modes es) (λ modes. evaluate_arguments there u.store modes es) (modes-same at (here.object_for x) (there.object_for x) (names.mean_same x))
       (λ modes. arguments-are at here there s.store u.store names h.same_variables modes es))
       (λ args others are. perform_call-alike at (here.object_for x) (there.object_for x) (enter x) (enter' x) (names.mean_same x) (alike x) args others s u are h)
 
@@ -448,7 +448,7 @@ module _ {N : Type 0} (at : List ℕ) (here there : Meanings N Place (List Mode)
     pub execute-alike : (a : Tree N statement) → Alike at (execute here enter t a) (execute there enter' t a)
     execute-alike empty s u h = h
     execute-alike (assigns x path e) s u h = assigns-alike x path e s u h
-    execute-alike (calls x es) s u h = calls-alike x (arguments_listed es) s u h
+    execute-alike (calls x es) s u h = calls-alike x (call_arguments es) s u h
     execute-alike (branches e statements rest last) s u h =
         use_same at s u (evaluate here s.store e) (evaluate there u.store e) (λ v. choose_by_truth s v (execute_sequence here enter t statements) (execute_elsifs here enter t rest (execute_else here enter t last))) (λ v. choose_by_truth u v (execute_sequence there enter' t statements) (execute_elsifs there enter' t rest (execute_else there enter' t last)))
         h.same_output (condition-same e s u h)

@@ -2,13 +2,13 @@
 use Rattle.std.proofs.Common.{◌≡◌, ℕ, ◌-◌, List, [], ◌∷◌, map, Some, None, Option, option_map, refl, ap, ◌∙◌}
 use Rattle.ob0_tree.specs.Tree.{Tree, assigns, branches, calls, else_branch, else_part, elsif_branch, elsif_part, empty, end, expression, further_statement, items, maybe, more, none, one, repeat_loop, runs, selector, sequence, statement, then_statement, while_loop}
 use Rattle.ob0_language_names.specs.Mapping.{map_names}
-use Rattle.ob0_language_types.specs.Arguments.{arguments_listed}
+use Rattle.ob0_language_types.specs.Arguments.{call_arguments}
 use Rattle.ob0_language_types.specs.Expressions.{Meanings, designated_place}
 use Rattle.ob0_language_types.specs.Typing.{lone_designator}
 use Rattle.ob0_language_values.specs.Values.{Place, Store, succeeds_with, or_stuck, ◌>>=◌}
 use Rattle.ob0_language_types.specs.WellTyped.{Mode, by_place, by_value}
 use Rattle.ob0_language_types.proofs.Naturality.{arguments-map, designated_place-map, lone_designator-map, evaluate-map, map_designator, through}
-use Rattle.ob0_language_runs.specs.Runs.{CallFunction, Progress, State, choose_by_truth, evaluate_argument, evaluate_arguments, execute, execute_sequence, execute_else, execute_elsifs, execute_further_statements, continue_with, modes_of, perform_call, place_argument, store_at, execute_while, execute_repeat, use_result, value_argument}
+use Rattle.ob0_language_runs.specs.Runs.{CallFunction, Progress, State, choose_by_truth, evaluate_argument, evaluate_arguments, execute, execute_sequence, execute_else, execute_elsifs, execute_further_statements, continue_with, argument_modes_of, perform_call, place_argument, store_at, execute_while, execute_repeat, continue_with_result, value_argument}
 
 pub evaluate_argument-map : {N M P : Type 0} (f h : N → M) (meaning : Meanings M Place P) (store : Store) (m : Mode) (e : Tree N expression) → evaluate_argument meaning store m (map_names f h e) ≡ evaluate_argument (through f h meaning) store m e
 unfolding evaluate_argument
@@ -34,12 +34,12 @@ mutual
   pub execute-map : {N M : Type 0} (f h : N → M) (meaning : Meanings M Place (List Mode)) (enter : CallFunction M) (t : ℕ) (a : Tree N statement) → execute meaning enter t (map_names f h a) ≡ execute (through f h meaning) (λ x. enter (f x)) t a
   execute-map f h meaning enter t empty = refl
   execute-map f h meaning enter t (assigns x path e) = λ i s.
-      use_result s (designated_place-map f h meaning s.store x path i) (λ p. use_result s (evaluate-map f h meaning s.store e i) (store_at s p))
+      continue_with_result s (designated_place-map f h meaning s.store x path i) (λ p. continue_with_result s (evaluate-map f h meaning s.store e i) (store_at s p))
   execute-map f h meaning enter t (calls x es) = λ i s.
-      use_result s (modes_of (meaning.object_for (f x)) >>= (λ modes. (ap (evaluate_arguments meaning s.store modes) (arguments-map f h es) ∙ evaluate_arguments-map f h meaning s.store modes (arguments_listed es)) i))
+      continue_with_result s (argument_modes_of (meaning.object_for (f x)) >>= (λ modes. (ap (evaluate_arguments meaning s.store modes) (arguments-map f h es) ∙ evaluate_arguments-map f h meaning s.store modes (call_arguments es)) i))
       (λ args. perform_call (meaning.object_for (f x)) (enter (f x)) args s)
   execute-map f h meaning enter t (branches e statements rest last) = λ i s.
-      use_result s (evaluate-map f h meaning s.store e i)
+      continue_with_result s (evaluate-map f h meaning s.store e i)
       (λ v. choose_by_truth s v (execute_sequence-map f h meaning enter t statements i) (execute_elsifs-map f h meaning enter t rest (execute_else meaning enter t (map_names f h last)) (execute_else (through f h meaning) (λ x. enter (f x)) t last) (execute_else-map f h meaning enter t last) i))
   execute-map f h meaning enter t (while_loop e statements) = λ i s.
       execute_while t (λ s'. evaluate-map f h meaning s'.store e i) (execute_sequence-map f h meaning enter t statements i) s
@@ -56,7 +56,7 @@ mutual
   pub execute_elsifs-map : {N M : Type 0} (f h : N → M) (meaning : Meanings M Place (List Mode)) (enter : CallFunction M) (t : ℕ) (a : Tree N (items elsif_part)) (there here : State → Progress) → there ≡ here → execute_elsifs meaning enter t (map_names f h a) there ≡ execute_elsifs (through f h meaning) (λ x. enter (f x)) t a here
   execute_elsifs-map f h meaning enter t end there here e = λ i s. e i s
   execute_elsifs-map f h meaning enter t (more (elsif_branch c statements) rest) there here e = λ i s.
-      use_result s (evaluate-map f h meaning s.store c i) (λ v. choose_by_truth s v (execute_sequence-map f h meaning enter t statements i) (execute_elsifs-map f h meaning enter t rest there here e i))
+      continue_with_result s (evaluate-map f h meaning s.store c i) (λ v. choose_by_truth s v (execute_sequence-map f h meaning enter t statements i) (execute_elsifs-map f h meaning enter t rest there here e i))
 
   pub execute_else-map : {N M : Type 0} (f h : N → M) (meaning : Meanings M Place (List Mode)) (enter : CallFunction M) (t : ℕ) (a : Tree N (maybe else_part)) → execute_else meaning enter t (map_names f h a) ≡ execute_else (through f h meaning) (λ x. enter (f x)) t a
   execute_else-map f h meaning enter t none = refl

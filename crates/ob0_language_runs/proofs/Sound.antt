@@ -12,11 +12,11 @@ use Rattle.ob0_tree.specs.Tree.{Tree, addend, adds, compares, designator, end, e
 use Rattle.ob0_language_names.specs.Names.{Name, same_name}
 use Rattle.ob0_language_types.specs.Expressions.{Meanings, Object, a_constant, a_procedure, a_standard, a_type, a_variable, element_step, evaluate, evaluate_addends, evaluate_factor, evaluate_multipliers, evaluate_simple, evaluate_term, evaluate_selectors, object_value}
 use Rattle.ob0_language_types.specs.Typing.{addition_type, negation_type, element_type, field_type, multiplication_type, type_of_variable_or_constant, relation_type, shape_of_field, sign_type, type_after_selectors, type_of, type_of_addends, type_of_factor, type_of_multipliers, type_of_simple, type_of_term, value_type}
-use Rattle.ob0_language_values.specs.Values.{FieldShapes, Index, Members, Outcome, Overflow, Place, Shape, Step, Store, Value, Values, add, add_short_circuits, array_shape, at_field, at_index, value_at_path, boolean_shape, count_values, checked_division, division_outcome, elements, ends_run_with, fits_in_32_bits, succeeds_with, checked_number, integer_shape, members, multiply, multiply_short_circuits, named_member, negate, next_field_shape, next_member, next_value, no_field_shape, no_member, no_value, nth_value, number, or_stuck, part, quotient, read_place, record_shape, apply_relation, remainder, apply_sign, truth, ◌>>=◌}
+use Rattle.ob0_language_values.specs.Values.{FieldShapes, Index, Members, Outcome, Overflow, Place, Shape, Step, Store, Value, Values, add, add_short_circuits, array_shape, at_field, at_index, value_at_path, boolean_shape, count_values, checked_division, division_outcome, elements, ends_run_with, fits_in_32_bits, succeeds_with, checked_number, integer_shape, members, multiply, multiply_short_circuits, named_member, negate, next_field_shape, next_member, next_value, no_field_shape, no_member, no_value, nth_value, number, or_stuck, value_at_step, quotient, read_place, record_shape, apply_relation, remainder, apply_sign, truth, ◌>>=◌}
 use Rattle.ob0_language_types.specs.WellTyped.{Mode, Signature, TypeMeanings}
 use Rattle.ob0_language_types.proofs.Conditions.{of_some}
 use Rattle.ob0_language_types.proofs.TypedElsewhere.{then_some}
-use Rattle.ob0_language_runs.specs.TypeAgreement.{EachElementHasShape, HasShape, MembersHaveShapes, RunMeaningsAgree, RunObjectAgrees, PlaceHasType, StoreHasTypes, StoreTyping, part_shape, shape_at_path}
+use Rattle.ob0_language_runs.specs.TypeAgreement.{EachElementHasShape, HasShape, MembersHaveShapes, RunMeaningsAgree, RunObjectAgrees, PlaceHasType, StoreHasTypes, StoreTyping, shape_at_step, shape_at_path}
 use Rattle.ob0_language_runs.proofs.Soundness.{OutcomeFits}
 
 pub fits-then : {A B : Type 0} (P : A → Type 0) (Q : B → Type 0) (o : Outcome A) (next : A → Outcome B) → OutcomeFits P o → ((a : A) → P a → OutcomeFits Q (next a)) → OutcomeFits Q (o >>= next)
@@ -115,24 +115,24 @@ member-fits (next_member y v rest) (next_field_shape z t others) x s e h =
     [ true ↦ λ e. (v, refl, of_some (λ s. HasShape v s) e h.1) | false ↦ λ e. member-fits rest others x s e h.2 ]) e
 member-fits _ _ x s e h = absurd h
 
-pub part-fits : (v : Value) (s : Shape) (step : Step) (t : Shape) → HasShape v s → part_shape s step ≡ Some t → (w : Value) × (part v step ≡ Some w) × HasShape w t
-part-fits (elements vs) (array_shape k n s) (at_index i) t h e =
+pub value_at_step-fits : (v : Value) (s : Shape) (step : Step) (t : Shape) → HasShape v s → shape_at_step s step ≡ Some t → (w : Value) × (value_at_step v step ≡ Some w) × HasShape w t
+value_at_step-fits (elements vs) (array_shape k n s) (at_index i) t h e =
     (elim (nat_lt i n) as (λ b. nat_lt i n ≡ b → (if b then Some s else None) ≡ Some t → (w : Value) × (nth_value vs i ≡ Some w) × HasShape w t) [
       | true ↦ λ below e. of_some (λ t. (w : Value) × (nth_value vs i ≡ Some w) × HasShape w t) e (nth-fits vs s i (below_of i (count_values vs) (ap (λ m. nat_lt i m) h.0 ∙ below)) h.1)
       | false ↦ λ below e. absurd (cc)
     ]) refl e
-part-fits (members j ms) (record_shape k fs) (at_field x) t h e = member-fits ms fs x t e h.1
-part-fits (elements vs) (array_shape k n s) (at_field x) t h e = absurd (cc)
-part-fits (members j ms) (record_shape k fs) (at_index i) t h e = absurd (cc)
-part-fits (number n) integer_shape step t h e = absurd (cc)
-part-fits (truth b) boolean_shape step t h e = absurd (cc)
-part-fits _ _ step t h e = absurd h
+value_at_step-fits (members j ms) (record_shape k fs) (at_field x) t h e = member-fits ms fs x t e h.1
+value_at_step-fits (elements vs) (array_shape k n s) (at_field x) t h e = absurd (cc)
+value_at_step-fits (members j ms) (record_shape k fs) (at_index i) t h e = absurd (cc)
+value_at_step-fits (number n) integer_shape step t h e = absurd (cc)
+value_at_step-fits (truth b) boolean_shape step t h e = absurd (cc)
+value_at_step-fits _ _ step t h e = absurd h
 
 pub path-fits : (path : List Step) (v : Value) (s t : Shape) → HasShape v s → shape_at_path path s ≡ Some t → (w : Value) × (value_at_path path v ≡ Some w) × HasShape w t
 path-fits [] v s t h e = (v, refl, of_some (λ t. HasShape v t) e h)
 path-fits (step ∷ path) v s t h e =
-    let (u, eu, e₁) = then_some (part_shape s step) (shape_at_path path) t e in
-    let (w, ew, hw) = part-fits v s step u h eu in
+    let (u, eu, e₁) = then_some (shape_at_step s step) (shape_at_path path) t e in
+    let (w, ew, hw) = value_at_step-fits v s step u h eu in
     let (z, ez, hz) = path-fits path w u t hw e₁ in
     (z, ap (option_and_then (value_at_path path)) ew ∙ ez, hz)
 
@@ -176,21 +176,21 @@ is_elements (elements vs) k n s h = (vs, refl)
 is_elements _ k n s h = absurd h
 
 -- An index in range gives a step to an element.
-pub index-fits : (vs : Values) (k n : ℕ) (s t : Shape) (i : ℤ) → count_values vs ≡ n → Some s ≡ Some t → OutcomeFits (λ step. part_shape (array_shape k n s) step ≡ Some t) (element_step (elements vs) (number i))
+pub index-fits : (vs : Values) (k n : ℕ) (s t : Shape) (i : ℤ) → count_values vs ≡ n → Some s ≡ Some t → OutcomeFits (λ step. shape_at_step (array_shape k n s) step ≡ Some t) (element_step (elements vs) (number i))
 index-fits vs k n s t (negsuc i) c e = λ e. cc
 index-fits vs k n s t (pos i) c e =
-    (elim (nat_lt i (count_values vs)) as (λ b. nat_lt i (count_values vs) ≡ b → OutcomeFits (λ step. part_shape (array_shape k n s) step ≡ Some t) (if b then succeeds_with (at_index i) else ends_run_with Index))
+    (elim (nat_lt i (count_values vs)) as (λ b. nat_lt i (count_values vs) ≡ b → OutcomeFits (λ step. shape_at_step (array_shape k n s) step ≡ Some t) (if b then succeeds_with (at_index i) else ends_run_with Index))
     [ true ↦ λ below. ap (λ b. if b then Some s else None) (ap (λ m. nat_lt i m) (sym c) ∙ below) ∙ e | false ↦ λ below e. cc ]) refl
 
-pub element_step-fits : (v : Value) (s : Shape) (i : Value) (j t : Shape) → HasShape v s → HasShape i j → element_type s j ≡ Some t → OutcomeFits (λ step. part_shape s step ≡ Some t) (element_step v i)
+pub element_step-fits : (v : Value) (s : Shape) (i : Value) (j t : Shape) → HasShape v s → HasShape i j → element_type s j ≡ Some t → OutcomeFits (λ step. shape_at_step s step ≡ Some t) (element_step v i)
 element_step-fits v (array_shape k n s) i integer_shape t h hi e =
     let (vs, ev) = is_elements v k n s h in
     let (m, em) = is_number i hi in
-    subst₂ (λ v i. OutcomeFits (λ step. part_shape (array_shape k n s) step ≡ Some t) (element_step v i)) (sym ev) (sym em)
+    subst₂ (λ v i. OutcomeFits (λ step. shape_at_step (array_shape k n s) step ≡ Some t) (element_step v i)) (sym ev) (sym em)
     (index-fits vs k n s t m (subst (λ v. HasShape v (array_shape k n s)) ev h).0 e)
 element_step-fits v _ i j t h hi e = absurd (cc)
 
-pub field_part : (t : Shape) (x : Name) (u : Shape) → field_type t x ≡ Some u → part_shape t (at_field x) ≡ Some u
+pub field_part : (t : Shape) (x : Name) (u : Shape) → field_type t x ≡ Some u → shape_at_step t (at_field x) ≡ Some u
 field_part (record_shape k fs) x u e = e
 field_part _ x u e = absurd (cc)
 
@@ -268,18 +268,18 @@ mutual
   follow-sound typing checked active store f v t end s hv h = h
   follow-sound typing checked active store f v t (more (field x) rest) s hv h =
       let (u, eu, h₁) = then_some (field_type t (checked.written x)) (λ u. type_after_selectors checked u rest) s h in
-      let eu' : part_shape t (at_field (checked.written x)) ≡ Some u = field_part t (checked.written x) u eu in
-      let (w, ew, hw) = part-fits v t (at_field (checked.written x)) u hv eu' in
-      subst (λ y. OutcomeFits (λ steps. shape_at_path steps t ≡ Some s) (or_stuck (part v (at_field y)) >>= (λ w. evaluate_selectors active store w rest >>= (λ steps. succeeds_with (at_field y ∷ steps))))) (f.names_fit.1 x)
-      (fits-then (λ w. HasShape w u) (λ steps. shape_at_path steps t ≡ Some s) (or_stuck (part v (at_field (checked.written x)))) (λ w. evaluate_selectors active store w rest >>= (λ steps. succeeds_with (at_field (checked.written x) ∷ steps))) (or_stuck-fits (λ w. HasShape w u) (part v (at_field (checked.written x))) w ew hw)
+      let eu' : shape_at_step t (at_field (checked.written x)) ≡ Some u = field_part t (checked.written x) u eu in
+      let (w, ew, hw) = value_at_step-fits v t (at_field (checked.written x)) u hv eu' in
+      subst (λ y. OutcomeFits (λ steps. shape_at_path steps t ≡ Some s) (or_stuck (value_at_step v (at_field y)) >>= (λ w. evaluate_selectors active store w rest >>= (λ steps. succeeds_with (at_field y ∷ steps))))) (f.names_fit.1 x)
+      (fits-then (λ w. HasShape w u) (λ steps. shape_at_path steps t ≡ Some s) (or_stuck (value_at_step v (at_field (checked.written x)))) (λ w. evaluate_selectors active store w rest >>= (λ steps. succeeds_with (at_field (checked.written x) ∷ steps))) (or_stuck-fits (λ w. HasShape w u) (value_at_step v (at_field (checked.written x))) w ew hw)
       (λ w hw. fits-then (λ steps. shape_at_path steps u ≡ Some s) (λ steps. shape_at_path steps t ≡ Some s) (evaluate_selectors active store w rest) (λ steps. succeeds_with (at_field (checked.written x) ∷ steps)) (follow-sound typing checked active store f w u rest s hw h₁)
       (λ steps e. ap (option_and_then (shape_at_path steps)) eu' ∙ e)))
   follow-sound typing checked active store f v t (more (index e) rest) s hv h =
       let (i, ei, h₁) = then_some (type_of checked e) (λ i. option_and_then (λ u. type_after_selectors checked u rest) (element_type t i)) s h in
       let (u, eu, h₂) = then_some (element_type t i) (λ u. type_after_selectors checked u rest) s h₁ in
-      fits-then (λ j. HasShape j i) (λ steps. shape_at_path steps t ≡ Some s) (evaluate active store e) (λ j. element_step v j >>= (λ step. or_stuck (part v step) >>= (λ w. evaluate_selectors active store w rest >>= (λ steps. succeeds_with (step ∷ steps))))) (evaluate-sound typing checked active store f e i ei)
-      (λ j hj. fits-then (λ step. part_shape t step ≡ Some u) (λ steps. shape_at_path steps t ≡ Some s) (element_step v j) (λ step. or_stuck (part v step) >>= (λ w. evaluate_selectors active store w rest >>= (λ steps. succeeds_with (step ∷ steps)))) (element_step-fits v t j i u hv hj eu)
-      (λ step es. let (w, ew, hw) = part-fits v t step u hv es in
-      fits-then (λ w. HasShape w u) (λ steps. shape_at_path steps t ≡ Some s) (or_stuck (part v step)) (λ w. evaluate_selectors active store w rest >>= (λ steps. succeeds_with (step ∷ steps))) (or_stuck-fits (λ w. HasShape w u) (part v step) w ew hw)
+      fits-then (λ j. HasShape j i) (λ steps. shape_at_path steps t ≡ Some s) (evaluate active store e) (λ j. element_step v j >>= (λ step. or_stuck (value_at_step v step) >>= (λ w. evaluate_selectors active store w rest >>= (λ steps. succeeds_with (step ∷ steps))))) (evaluate-sound typing checked active store f e i ei)
+      (λ j hj. fits-then (λ step. shape_at_step t step ≡ Some u) (λ steps. shape_at_path steps t ≡ Some s) (element_step v j) (λ step. or_stuck (value_at_step v step) >>= (λ w. evaluate_selectors active store w rest >>= (λ steps. succeeds_with (step ∷ steps)))) (element_step-fits v t j i u hv hj eu)
+      (λ step es. let (w, ew, hw) = value_at_step-fits v t step u hv es in
+      fits-then (λ w. HasShape w u) (λ steps. shape_at_path steps t ≡ Some s) (or_stuck (value_at_step v step)) (λ w. evaluate_selectors active store w rest >>= (λ steps. succeeds_with (step ∷ steps))) (or_stuck-fits (λ w. HasShape w u) (value_at_step v step) w ew hw)
       (λ w hw. fits-then (λ steps. shape_at_path steps u ≡ Some s) (λ steps. shape_at_path steps t ≡ Some s) (evaluate_selectors active store w rest) (λ steps. succeeds_with (step ∷ steps)) (follow-sound typing checked active store f w u rest s hw h₂)
       (λ steps e. ap (option_and_then (shape_at_path steps)) es ∙ e))))

@@ -2,12 +2,12 @@
 use Rattle.std.proofs.Common.{◌≡◌, ℕ, zero, suc, ◌+◌, Bool, true, false, ◌&&◌, ◌≢◌, List, [], ◌∷◌, ◌++◌, map, length, ℤ, slice_get, Some, None, Option, option_map, option_and_then, unwrap_or, sym, refl, ap, ◌∙◌, subst, append_assoc, append-nil}
 use Rattle.ob0_tree.specs.Tree.{Tree, begins, block, body, constant, declares, declares_constant, declares_procedure, declares_type, declares_variable, end, expression, further_section, forms_block, is_module, item, items, maybe, module_text, more, none, one, procedure, then_section, type_definition, variable, written_type}
 use Rattle.ob0_language_names.specs.Names.{Naming, naming_by_spelling}
-use Rattle.ob0_language_names.specs.Parts.{block_statements, formal_sections, names_in_list, procedure_formals, procedure_name, section_constants, section_names, section_type, section_types, section_variables}
+use Rattle.ob0_language_names.specs.Parts.{block_statements, formal_sections, names_in_list, procedure_formals, procedure_name, section_constants, parameter_section_names, parameter_section_type, section_types, section_variables}
 use Rattle.ob0_language_names.proofs.SameNames.{map_names-id}
 use Rattle.ob0_language_types.specs.Declarations.{constructors_before_variables, constructors_before_procedures, declare_constants, declare_constants_and_types, declare_types, formals_constructor_count, procedure_constructor_count}
 use Rattle.ob0_language_types.specs.Environments.{environment_from_binding, meanings, newest_object, outermost_environment}
 use Rattle.ob0_language_types.specs.Expressions.{Object, a_constant, a_procedure, a_standard, a_type, a_variable}
-use Rattle.ob0_language_types.specs.Typing.{constant_of, constant_value, constructor_count, denoted_type, type_of_name}
+use Rattle.ob0_language_types.specs.Typing.{constant_of, constant_value, constructor_count, denoted_type, type_of_type_object}
 use Rattle.ob0_language_values.specs.Values.{FieldShapes, Place, Shape, Store, Stuck, Value, array_shape, copies, count_values, fits_in_32_bits, initial_value, initial_members, next_field_shape, no_field_shape, record_shape}
 use Rattle.ob0_language_types.specs.WellTyped.{FormalParameter, Mode, Signature, TypeEnvironment, TypedParameter, WellTyped, bind_names, bind_typed_parameters, block_is_well_typed, body_is_well_typed, declare_typed_variables, passes_type_check, bind_procedure, procedure_is_well_typed, procedures_are_well_typed, section_mode, signature_of, typed_parameters}
 use Rattle.ob0_language_types.proofs.Literals.{some_inverse}
@@ -33,10 +33,10 @@ pub modes-typed : {N : Type 0} (naming : Naming N) (env : TypeEnvironment N) (k 
 unfolding typed_parameters
 modes-typed naming env k end ps e = ap (λ ps. signature_modes (map (λ p. p.formal) ps)) (some_inverse e)
 modes-typed naming env k (more (then_section f) fs) ps e =
-    let (s, es, e₁) = then_some (denoted_type (meanings naming env) k (section_type f)) (λ s. option_and_then (λ rest. Some (map (typed_parameter record { mode = (section_mode f); shape = s }) (section_names f) ++ rest)) (typed_parameters naming (bind_names (section_names f) (a_variable s) env) (k + constructor_count (section_type f)) fs)) ps e in
-    let (rest, er, e₂) = then_some (typed_parameters naming (bind_names (section_names f) (a_variable s) env) (k + constructor_count (section_type f)) fs) (λ rest. Some (map (typed_parameter record { mode = (section_mode f); shape = s }) (section_names f) ++ rest)) ps e₁ in
-    ap (λ ms. map (λ x. (section_mode f)) (section_names f) ++ ms) (modes-typed naming (bind_names (section_names f) (a_variable s) env) (k + constructor_count (section_type f)) fs rest er)
-    ∙ (sym (modes-of_parameters record { mode = (section_mode f); shape = s } (section_names f) rest) ∙ ap (λ ps. signature_modes (map (λ p. p.formal) ps)) (some_inverse e₂))
+    let (s, es, e₁) = then_some (denoted_type (meanings naming env) k (parameter_section_type f)) (λ s. option_and_then (λ rest. Some (map (typed_parameter record { mode = (section_mode f); shape = s }) (parameter_section_names f) ++ rest)) (typed_parameters naming (bind_names (parameter_section_names f) (a_variable s) env) (k + constructor_count (parameter_section_type f)) fs)) ps e in
+    let (rest, er, e₂) = then_some (typed_parameters naming (bind_names (parameter_section_names f) (a_variable s) env) (k + constructor_count (parameter_section_type f)) fs) (λ rest. Some (map (typed_parameter record { mode = (section_mode f); shape = s }) (parameter_section_names f) ++ rest)) ps e₁ in
+    ap (λ ms. map (λ x. (section_mode f)) (parameter_section_names f) ++ ms) (modes-typed naming (bind_names (parameter_section_names f) (a_variable s) env) (k + constructor_count (parameter_section_type f)) fs rest er)
+    ∙ (sym (modes-of_parameters record { mode = (section_mode f); shape = s } (parameter_section_names f) rest) ∙ ap (λ ps. signature_modes (map (λ p. p.formal) ps)) (some_inverse e₂))
 
 pub binding-object : {N : Type 0} (naming : Naming N) (typing : StoreTyping) (checked : TypeEnvironment N) (x : N) (o : Object Shape Signature) (r : Object Place (ProcedureText N)) → RunBindingAgrees naming typing checked x o r → RunObjectAgrees typing (Some o) (object_for_statements (Some r))
 binding-object naming typing checked x (a_procedure signature) (a_procedure code) h =
@@ -113,7 +113,7 @@ pub object_for_statements-constant : {N : Type 0} (o : Option (Object Place (Pro
 object_for_statements-constant (Some (a_type s)) = refl
 object_for_statements-constant _ = refl
 
-pub object_for_statements-type : {N : Type 0} (o : Option (Object Place (ProcedureText N))) → type_of_name (object_for_statements o) ≡ type_of_name o
+pub object_for_statements-type : {N : Type 0} (o : Option (Object Place (ProcedureText N))) → type_of_type_object (object_for_statements o) ≡ type_of_type_object o
 object_for_statements-type (Some (a_type s)) = refl
 object_for_statements-type _ = refl
 
@@ -126,7 +126,7 @@ fit-constant typing (Some (a_procedure s)) (Some (a_procedure t)) h = refl
 fit-constant typing (Some (a_standard s)) (Some (a_standard t)) h = refl
 fit-constant typing _ _ h = absurd h
 
-pub fit-type : (typing : StoreTyping) (checked : Option (Object Shape Signature)) (active : Option (Object Place (List Mode))) → RunObjectAgrees typing checked active → type_of_name active ≡ type_of_name checked
+pub fit-type : (typing : StoreTyping) (checked : Option (Object Shape Signature)) (active : Option (Object Place (List Mode))) → RunObjectAgrees typing checked active → type_of_type_object active ≡ type_of_type_object checked
 fit-type typing None None h = refl
 fit-type typing (Some (a_type s)) (Some (a_type t)) h = ap Some (sym h)
 fit-type typing (Some (a_constant v)) (Some (a_constant w)) h = refl
@@ -139,7 +139,7 @@ pub constants-same : {N : Type 0} (naming : Naming N) (typing : StoreTyping) (ch
 constants-same naming typing checked active h x =
     sym (object_for_statements-constant (newest_object (environment_from_binding naming active x))) ∙ fit-constant typing (newest_object (environment_from_binding naming checked x)) (object_for_statements (newest_object (environment_from_binding naming active x))) (names-fit naming typing checked active h x)
 
-pub types-same : {N : Type 0} (naming : Naming N) (typing : StoreTyping) (checked : TypeEnvironment N) (active : Activation N) → RunEnvironmentAgrees naming typing checked active → (x : N) → type_of_name ((meanings naming active).object_for x) ≡ type_of_name ((meanings naming checked).object_for x)
+pub types-same : {N : Type 0} (naming : Naming N) (typing : StoreTyping) (checked : TypeEnvironment N) (active : Activation N) → RunEnvironmentAgrees naming typing checked active → (x : N) → type_of_type_object ((meanings naming active).object_for x) ≡ type_of_type_object ((meanings naming checked).object_for x)
 types-same naming typing checked active h x =
     sym (object_for_statements-type (newest_object (environment_from_binding naming active x))) ∙ fit-type typing (newest_object (environment_from_binding naming checked x)) (object_for_statements (newest_object (environment_from_binding naming active x))) (names-fit naming typing checked active h x)
 
@@ -242,10 +242,10 @@ pub parameters-of_typed : {N : Type 0} (naming : Naming N) (env : TypeEnvironmen
 unfolding typed_parameters
 parameters-of_typed naming env k end ps e = ap (map as_parameter) (some_inverse {a = []} {b = ps} e)
 parameters-of_typed naming env k (more (then_section f) fs) ps e =
-    let (s, es, e₁) = then_some (denoted_type (meanings naming env) k (section_type f)) (λ s. option_and_then (λ rest. Some (map (typed_parameter record { mode = (section_mode f); shape = s }) (section_names f) ++ rest)) (typed_parameters naming (bind_names (section_names f) (a_variable s) env) (k + constructor_count (section_type f)) fs)) ps e in
-    let (rest, er, e₂) = then_some (typed_parameters naming (bind_names (section_names f) (a_variable s) env) (k + constructor_count (section_type f)) fs) (λ rest. Some (map (typed_parameter record { mode = (section_mode f); shape = s }) (section_names f) ++ rest)) ps e₁ in
-    ap (λ l. map (with_mode (section_mode f)) (section_names f) ++ l) (parameters-of_typed naming (bind_names (section_names f) (a_variable s) env) (k + constructor_count (section_type f)) fs rest er)
-    ∙ (sym (parameters-append record { mode = (section_mode f); shape = s } (section_names f) rest) ∙ ap (map as_parameter) (some_inverse e₂))
+    let (s, es, e₁) = then_some (denoted_type (meanings naming env) k (parameter_section_type f)) (λ s. option_and_then (λ rest. Some (map (typed_parameter record { mode = (section_mode f); shape = s }) (parameter_section_names f) ++ rest)) (typed_parameters naming (bind_names (parameter_section_names f) (a_variable s) env) (k + constructor_count (parameter_section_type f)) fs)) ps e in
+    let (rest, er, e₂) = then_some (typed_parameters naming (bind_names (parameter_section_names f) (a_variable s) env) (k + constructor_count (parameter_section_type f)) fs) (λ rest. Some (map (typed_parameter record { mode = (section_mode f); shape = s }) (parameter_section_names f) ++ rest)) ps e₁ in
+    ap (λ l. map (with_mode (section_mode f)) (parameter_section_names f) ++ l) (parameters-of_typed naming (bind_names (parameter_section_names f) (a_variable s) env) (k + constructor_count (parameter_section_type f)) fs rest er)
+    ∙ (sym (parameters-append record { mode = (section_mode f); shape = s } (parameter_section_names f) rest) ∙ ap (map as_parameter) (some_inverse e₂))
 
 pub ArgumentsMatchSignature-grows : (typing others : StoreTyping) (fs : Signature) (args : List Argument) → ArgumentsMatchSignature typing fs args → ArgumentsMatchSignature (typing ++ others) fs args
 ArgumentsMatchSignature-grows typing others [] [] h = tt

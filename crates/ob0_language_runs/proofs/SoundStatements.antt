@@ -2,16 +2,16 @@
 use Rattle.std.proofs.Common.{◌≡◌, ℕ, zero, suc, ◌-◌, true, false, ◌&&◌, List, [], ◌∷◌, ◌++◌, ℤ, if◌then◌else◌, nat_lt, slice_get, slice_set, Some, None, Option, option_map, option_and_then, unwrap_or, sym, refl, ap, ◌∙◌, subst, append_assoc, append-nil}
 use Rattle.ob0_tree.specs.Tree.{Tree, assigns, branches, calls, else_branch, else_part, elsif_branch, elsif_part, empty, end, expression, further_statement, items, maybe, more, none, one, repeat_loop, runs, selector, sequence, statement, then_statement, while_loop}
 use Rattle.ob0_language_names.specs.Names.{Name, same_name}
-use Rattle.ob0_language_types.specs.Arguments.{arguments_listed}
+use Rattle.ob0_language_types.specs.Arguments.{call_arguments}
 use Rattle.ob0_language_types.specs.Expressions.{Meanings, Object, a_constant, a_procedure, a_standard, a_type, a_variable, designated_place, evaluate, evaluate_selectors, object_place, read_procedure, write_procedure, write_line_procedure}
 use Rattle.ob0_language_types.specs.Typing.{lone_designator, shape_of_field, type_of}
-use Rattle.ob0_language_values.specs.Values.{FieldShapes, Members, Outcome, Place, Shape, Step, Store, TurnBound, Value, Values, array_shape, at_field, at_index, boolean_shape, count_values, elements, ends_run_with, succeeds_with, integer_shape, members, next_field_shape, next_member, next_value, no_field_shape, no_member, no_value, number, or_stuck, read_place, record_shape, truth, with_value_at_path, with_named_member, with_nth_value, with_part, write_place, ◌>>=◌}
+use Rattle.ob0_language_values.specs.Values.{FieldShapes, Members, Outcome, Place, Shape, Step, Store, TurnBound, Value, Values, array_shape, at_field, at_index, boolean_shape, count_values, elements, ends_run_with, succeeds_with, integer_shape, members, next_field_shape, next_member, next_value, no_field_shape, no_member, no_value, number, or_stuck, read_place, record_shape, truth, with_value_at_path, with_named_member, with_nth_value, with_value_at_step, write_place, ◌>>=◌}
 use Rattle.ob0_language_types.specs.WellTyped.{FormalParameter, Mode, Signature, TypeMeanings, same_known_shape, argument_matches, arguments_match, by_place, by_value, condition_is_boolean, else_is_well_typed, elsifs_are_well_typed, sequence_is_well_typed, signature_of, statement_is_well_typed, further_statements_are_well_typed, variable_type}
 use Rattle.ob0_language_types.proofs.Conditions.{same_known_shape-true, both_true, call-typed, of_some, variable-typed}
 use Rattle.ob0_language_types.proofs.TypedElsewhere.{then_some}
-use Rattle.ob0_language_runs.specs.Runs.{Argument, CallFunction, Progress, State, choose_by_truth, evaluate_argument, evaluate_arguments, execute, execute_sequence, execute_else, execute_elsifs, execute_further_statements, continue_with, line_out, modes_of, number_out, perform_call, place_argument, append_output, read_number, running, stopped, store_at, execute_while, execute_repeat, use_result, value_argument}
-use Rattle.ob0_language_runs.proofs.Sound.{TypeAgreement, evaluate-sound, fits-then, follow-sound, is_number, or_stuck-fits, part-fits, place-fits, variable-fits}
-use Rattle.ob0_language_runs.specs.TypeAgreement.{ArgumentsMatchSignature, EachElementHasShape, HasShape, MembersHaveShapes, RunMeaningsAgree, RunObjectAgrees, PlaceHasType, StoreHasTypes, StoreTyping, signature_modes, part_shape, shape_at_path}
+use Rattle.ob0_language_runs.specs.Runs.{Argument, CallFunction, Progress, State, choose_by_truth, evaluate_argument, evaluate_arguments, execute, execute_sequence, execute_else, execute_elsifs, execute_further_statements, continue_with, line_out, argument_modes_of, number_out, perform_call, place_argument, append_output, read_number, running, stopped, store_at, execute_while, execute_repeat, continue_with_result, value_argument}
+use Rattle.ob0_language_runs.proofs.Sound.{TypeAgreement, evaluate-sound, fits-then, follow-sound, is_number, or_stuck-fits, value_at_step-fits, place-fits, variable-fits}
+use Rattle.ob0_language_runs.specs.TypeAgreement.{ArgumentsMatchSignature, EachElementHasShape, HasShape, MembersHaveShapes, RunMeaningsAgree, RunObjectAgrees, PlaceHasType, StoreHasTypes, StoreTyping, signature_modes, shape_at_step, shape_at_path}
 use Rattle.ob0_language_runs.proofs.Soundness.{CallsFit, OutcomeFits, ProgressFits}
 
 -- Facts about a typing also hold after it has grown.
@@ -61,26 +61,26 @@ with_member-fits (next_member y v rest) (next_field_shape z s others) x new t h 
     [ true ↦ λ e. (refl, of_some (λ s. HasShape new s) (sym e) hn, h.2) | false ↦ λ e. (refl, h.1, with_member-fits rest others x new t h.2 e hn) ]) e
 with_member-fits _ _ x new t h e hn = absurd h
 
-pub with_part-fits : (v : Value) (s : Shape) (step : Step) (t : Shape) (new : Value) → HasShape v s → part_shape s step ≡ Some t → HasShape new t → HasShape (with_part v step new) s
-with_part-fits (elements vs) (array_shape k n s) (at_index i) t new h e hn =
+pub with_value_at_step-fits : (v : Value) (s : Shape) (step : Step) (t : Shape) (new : Value) → HasShape v s → shape_at_step s step ≡ Some t → HasShape new t → HasShape (with_value_at_step v step new) s
+with_value_at_step-fits (elements vs) (array_shape k n s) (at_index i) t new h e hn =
     (elim (nat_lt i n) as (λ b. (if b then Some s else None) ≡ Some t → HasShape (elements (with_nth_value vs i new)) (array_shape k n s))
     [ true ↦ λ e. (let g = with_nth-fits vs s i new h.1 (of_some (λ s. HasShape new s) (sym e) hn) in (g.0 ∙ h.0, g.1)) | false ↦ λ e. absurd (cc) ]) e
-with_part-fits (members j ms) (record_shape k fs) (at_field x) t new h e hn = (h.0, with_member-fits ms fs x new t h.1 e hn)
-with_part-fits (elements vs) (array_shape k n s) (at_field x) t new h e hn = h
-with_part-fits (members j ms) (record_shape k fs) (at_index i) t new h e hn = h
-with_part-fits (number n) integer_shape step t new h e hn = h
-with_part-fits (truth b) boolean_shape step t new h e hn = h
-with_part-fits _ _ step t new h e hn = absurd h
+with_value_at_step-fits (members j ms) (record_shape k fs) (at_field x) t new h e hn = (h.0, with_member-fits ms fs x new t h.1 e hn)
+with_value_at_step-fits (elements vs) (array_shape k n s) (at_field x) t new h e hn = h
+with_value_at_step-fits (members j ms) (record_shape k fs) (at_index i) t new h e hn = h
+with_value_at_step-fits (number n) integer_shape step t new h e hn = h
+with_value_at_step-fits (truth b) boolean_shape step t new h e hn = h
+with_value_at_step-fits _ _ step t new h e hn = absurd h
 
 pub with_path-fits : (path : List Step) (v : Value) (s t : Shape) (new : Value) → HasShape v s → shape_at_path path s ≡ Some t → HasShape new t → (w : Value) × (with_value_at_path path new v ≡ Some w) × HasShape w s
 with_path-fits [] v s t new h e hn = (new, refl, of_some (λ s. HasShape new s) (sym e) hn)
 with_path-fits (step ∷ path) v s t new h e hn =
-    let (u, eu, e₁) = then_some (part_shape s step) (shape_at_path path) t e in
-    let (w, ew, hw) = part-fits v s step u h eu in
+    let (u, eu, e₁) = then_some (shape_at_step s step) (shape_at_path path) t e in
+    let (w, ew, hw) = value_at_step-fits v s step u h eu in
     let (z, ez, hz) = with_path-fits path w u t new hw e₁ hn in (
-      with_part v step z,
-      ap (option_and_then (λ old. option_map (with_part v step) (with_value_at_path path new old))) ew ∙ ap (option_map (with_part v step)) ez,
-      with_part-fits v s step u z h eu hz,
+      with_value_at_step v step z,
+      ap (option_and_then (λ old. option_map (with_value_at_step v step) (with_value_at_path path new old))) ew ∙ ap (option_map (with_value_at_step v step)) ez,
+      with_value_at_step-fits v s step u z h eu hz,
     )
 
 pub set-fits : (typing : StoreTyping) (store : Store) (n : ℕ) (s : Shape) (new : Value) → StoreHasTypes typing store → slice_get typing n ≡ Some s → HasShape new s → StoreHasTypes typing (slice_set store n new)
@@ -96,14 +96,14 @@ store_at-fits typing s p shape new h place hn =
     let (w, ew, hw) = with_path-fits p.path v t shape new hv e₁ hn in
     let wrote : write_place s.store p new ≡ Some (slice_set s.store p.variable w) =
     ap (option_and_then (λ old. option_map (slice_set s.store p.variable) (with_value_at_path p.path new old))) ev ∙ ap (option_map (slice_set s.store p.variable)) ew in
-    subst (λ o. ProgressFits typing (use_result s (or_stuck o) (λ store. running record s { store = store }))) (sym wrote)
+    subst (λ o. ProgressFits typing (continue_with_result s (or_stuck o) (λ store. running record s { store = store }))) (sym wrote)
     ([], subst (λ all. StoreHasTypes all (slice_set s.store p.variable w)) (sym (append-nil typing)) (set-fits typing s.store p.variable t w h et hw))
 
 -- A place that is found for a designator has the designator's type.
 
 pub shape_at_path-append : (a b : List Step) (s : Shape) → shape_at_path (a ++ b) s ≡ option_and_then (shape_at_path b) (shape_at_path a s)
 shape_at_path-append [] b s = refl
-shape_at_path-append (step ∷ a) b s = go (part_shape s step) (λ t. shape_at_path-append a b t)
+shape_at_path-append (step ∷ a) b s = go (shape_at_step s step) (λ t. shape_at_path-append a b t)
   where
     go : (o : Option Shape) → ((t : Shape) → shape_at_path (a ++ b) t ≡ option_and_then (shape_at_path b) (shape_at_path a t)) → option_and_then (shape_at_path (a ++ b)) o ≡ option_and_then (shape_at_path b) (option_and_then (shape_at_path a) o)
     go None h = refl
@@ -170,9 +170,9 @@ arguments-sound typing checked active store fit _ _ h = absurd (cc)
 
 -- Calls with arguments that fit preserve the typing.
 
-pub use_result-fits : {A : Type 0} (typing : StoreTyping) (P : A → Type 0) (s : State) (o : Outcome A) (next : A → Progress) → OutcomeFits P o → ((a : A) → P a → ProgressFits typing (next a)) → ProgressFits typing (use_result s o next)
-use_result-fits typing P s (succeeds_with a) next h each = each a h
-use_result-fits typing P s (ends_run_with e) next h each = h
+pub continue_with_result-fits : {A : Type 0} (typing : StoreTyping) (P : A → Type 0) (s : State) (o : Outcome A) (next : A → Progress) → OutcomeFits P o → ((a : A) → P a → ProgressFits typing (next a)) → ProgressFits typing (continue_with_result s o next)
+continue_with_result-fits typing P s (succeeds_with a) next h each = each a h
+continue_with_result-fits typing P s (ends_run_with e) next h each = h
 
 pub same_store-fits : (typing : StoreTyping) (s : State) → StoreHasTypes typing s.store → ProgressFits typing (running s)
 same_store-fits typing s h = ([], subst (λ all. StoreHasTypes all s.store) (sym (append-nil typing)) h)
@@ -181,11 +181,11 @@ pub read-fits : (typing : StoreTyping) (s : State) (p : Place) (input : List ℤ
 read-fits typing s p [] h hp = λ e. cc
 read-fits typing s p (n ∷ rest) h hp = store_at-fits typing record s { input = rest } p integer_shape (number n) h hp tt
 
-pub modes-same_known_shape : (typing : StoreTyping) (checked : Option (Object Shape Signature)) (active : Option (Object Place (List Mode))) (signature : Signature) → RunObjectAgrees typing checked active → signature_of checked ≡ Some signature → modes_of active ≡ succeeds_with (signature_modes signature)
+pub modes-same_known_shape : (typing : StoreTyping) (checked : Option (Object Shape Signature)) (active : Option (Object Place (List Mode))) (signature : Signature) → RunObjectAgrees typing checked active → signature_of checked ≡ Some signature → argument_modes_of active ≡ succeeds_with (signature_modes signature)
 modes-same_known_shape typing (Some (a_procedure t)) (Some (a_procedure modes)) signature h e = ap succeeds_with (h ∙ ap signature_modes (search))
-modes-same_known_shape typing (Some (a_standard read_procedure)) (Some (a_standard q)) signature h e = subst (λ q. modes_of (Some (a_standard q)) ≡ succeeds_with (signature_modes signature)) h (ap (λ t. succeeds_with (signature_modes (unwrap_or t []))) e)
-modes-same_known_shape typing (Some (a_standard write_procedure)) (Some (a_standard q)) signature h e = subst (λ q. modes_of (Some (a_standard q)) ≡ succeeds_with (signature_modes signature)) h (ap (λ t. succeeds_with (signature_modes (unwrap_or t []))) e)
-modes-same_known_shape typing (Some (a_standard write_line_procedure)) (Some (a_standard q)) signature h e = subst (λ q. modes_of (Some (a_standard q)) ≡ succeeds_with (signature_modes signature)) h (ap (λ t. succeeds_with (signature_modes (unwrap_or t []))) e)
+modes-same_known_shape typing (Some (a_standard read_procedure)) (Some (a_standard q)) signature h e = subst (λ q. argument_modes_of (Some (a_standard q)) ≡ succeeds_with (signature_modes signature)) h (ap (λ t. succeeds_with (signature_modes (unwrap_or t []))) e)
+modes-same_known_shape typing (Some (a_standard write_procedure)) (Some (a_standard q)) signature h e = subst (λ q. argument_modes_of (Some (a_standard q)) ≡ succeeds_with (signature_modes signature)) h (ap (λ t. succeeds_with (signature_modes (unwrap_or t []))) e)
+modes-same_known_shape typing (Some (a_standard write_line_procedure)) (Some (a_standard q)) signature h e = subst (λ q. argument_modes_of (Some (a_standard q)) ≡ succeeds_with (signature_modes signature)) h (ap (λ t. succeeds_with (signature_modes (unwrap_or t []))) e)
 modes-same_known_shape typing None active signature h e = absurd (cc)
 modes-same_known_shape typing (Some (a_type t)) active signature h e = absurd (cc)
 modes-same_known_shape typing (Some (a_constant t)) active signature h e = absurd (cc)
@@ -263,10 +263,10 @@ IsCondition typing condition = (others : StoreTyping) (s : State) → StoreHasTy
 
 pub execute_while-keep : (t : ℕ) (typing : StoreTyping) (condition : State → Outcome Value) (statements : State → Progress) → IsCondition typing condition → Keeps typing statements → Keeps typing (execute_while t condition statements)
 execute_while-keep zero typing condition statements is keeps others s h =
-    use_result-fits (typing ++ others) (λ v. HasShape v boolean_shape) s (condition s) (λ v. choose_by_truth s v (λ s'. stopped TurnBound s'.output) running) (is others s h)
+    continue_with_result-fits (typing ++ others) (λ v. HasShape v boolean_shape) s (condition s) (λ v. choose_by_truth s v (λ s'. stopped TurnBound s'.output) running) (is others s h)
     (λ v hv. choose_by_truth-fits (typing ++ others) s v (λ s'. stopped TurnBound s'.output) running hv (λ e. cc) (same_store-fits (typing ++ others) s h))
 execute_while-keep (suc t) typing condition statements is keeps others s h =
-    use_result-fits (typing ++ others) (λ v. HasShape v boolean_shape) s (condition s) (λ v. choose_by_truth s v (λ s'. continue_with (statements s') (execute_while t condition statements)) running) (is others s h)
+    continue_with_result-fits (typing ++ others) (λ v. HasShape v boolean_shape) s (condition s) (λ v. choose_by_truth s v (λ s'. continue_with (statements s') (execute_while t condition statements)) running) (is others s h)
     (λ v hv. choose_by_truth-fits (typing ++ others) s v (λ s'. continue_with (statements s') (execute_while t condition statements)) running hv
     (go_on-fits (typing ++ others) (statements s) (execute_while t condition statements) (keeps others s h)
     (λ later s' h'. subst (λ all. ProgressFits all (execute_while t condition statements s')) (sym (append_assoc typing others later))
@@ -283,12 +283,12 @@ IsCondition-grows typing others condition is later s h = is (others ++ later) s 
 
 pub execute_repeat-keep : (t : ℕ) (typing : StoreTyping) (condition : State → Outcome Value) (turn : State → Progress) → IsCondition typing condition → Keeps typing turn → Keeps typing (execute_repeat t condition turn)
 execute_repeat-keep zero typing condition turn is keeps others s h =
-    go_on-fits (typing ++ others) (turn s) (λ s'. use_result s' (condition s') (λ v. choose_by_truth s' v running (λ s''. stopped TurnBound s''.output))) (keeps others s h)
-    (λ later s' h'. use_result-fits ((typing ++ others) ++ later) (λ v. HasShape v boolean_shape) s' (condition s') (λ v. choose_by_truth s' v running (λ s''. stopped TurnBound s''.output)) (IsCondition-grows typing others condition is later s' h')
+    go_on-fits (typing ++ others) (turn s) (λ s'. continue_with_result s' (condition s') (λ v. choose_by_truth s' v running (λ s''. stopped TurnBound s''.output))) (keeps others s h)
+    (λ later s' h'. continue_with_result-fits ((typing ++ others) ++ later) (λ v. HasShape v boolean_shape) s' (condition s') (λ v. choose_by_truth s' v running (λ s''. stopped TurnBound s''.output)) (IsCondition-grows typing others condition is later s' h')
     (λ v hv. choose_by_truth-fits ((typing ++ others) ++ later) s' v running (λ s''. stopped TurnBound s''.output) hv (same_store-fits ((typing ++ others) ++ later) s' h') (λ e. cc)))
 execute_repeat-keep (suc t) typing condition turn is keeps others s h =
-    go_on-fits (typing ++ others) (turn s) (λ s'. use_result s' (condition s') (λ v. choose_by_truth s' v running (execute_repeat t condition turn))) (keeps others s h)
-    (λ later s' h'. use_result-fits ((typing ++ others) ++ later) (λ v. HasShape v boolean_shape) s' (condition s') (λ v. choose_by_truth s' v running (execute_repeat t condition turn)) (IsCondition-grows typing others condition is later s' h')
+    go_on-fits (typing ++ others) (turn s) (λ s'. continue_with_result s' (condition s') (λ v. choose_by_truth s' v running (execute_repeat t condition turn))) (keeps others s h)
+    (λ later s' h'. continue_with_result-fits ((typing ++ others) ++ later) (λ v. HasShape v boolean_shape) s' (condition s') (λ v. choose_by_truth s' v running (execute_repeat t condition turn)) (IsCondition-grows typing others condition is later s' h')
     (λ v hv. choose_by_truth-fits ((typing ++ others) ++ later) s' v running (execute_repeat t condition turn) hv (same_store-fits ((typing ++ others) ++ later) s' h')
     (Keeps-grows typing others (execute_repeat t condition turn) (execute_repeat-keep t typing condition turn is keeps) later s' h')))
 
@@ -312,17 +312,17 @@ mutual
   execute-keeps typing checked active enter sound t (assigns x path e) h others s store =
       let grown = Sound-grows typing others checked active enter sound in
       let (shape, es, et) = same_known_shape-true (variable_type checked (Some (x, path))) (type_of checked e) h in
-      use_result-fits (typing ++ others) (λ p. PlaceHasType (typing ++ others) p shape) s (designated_place active s.store x path) (λ p. use_result s (evaluate active s.store e) (store_at s p))
+      continue_with_result-fits (typing ++ others) (λ p. PlaceHasType (typing ++ others) p shape) s (designated_place active s.store x path) (λ p. continue_with_result s (evaluate active s.store e) (store_at s p))
       (designated_place-sound (typing ++ others) checked active s.store record { store_fits = store; names_fit = grown.names_fit } x path shape es)
-      (λ p hp. use_result-fits (typing ++ others) (λ v. HasShape v shape) s (evaluate active s.store e) (store_at s p)
+      (λ p hp. continue_with_result-fits (typing ++ others) (λ v. HasShape v shape) s (evaluate active s.store e) (store_at s p)
       (evaluate-sound (typing ++ others) checked active s.store record { store_fits = store; names_fit = grown.names_fit } e shape et)
       (λ v hv. store_at-fits (typing ++ others) s p shape v store hp hv))
   execute-keeps typing checked active enter sound t (calls x es) h others s store =
       let grown = Sound-grows typing others checked active enter sound in
-      let (signature, sig, fit) = call-typed checked (signature_of (checked.object_for x)) (arguments_listed es) h in
-      use_result-fits (typing ++ others) (λ args. ArgumentsMatchSignature (typing ++ others) signature args) s (modes_of (active.object_for x) >>= (λ modes. evaluate_arguments active s.store modes (arguments_listed es))) (λ args. perform_call (active.object_for x) (enter x) args s)
-      (subst (λ o. OutcomeFits (λ args. ArgumentsMatchSignature (typing ++ others) signature args) (o >>= (λ modes. evaluate_arguments active s.store modes (arguments_listed es)))) (sym (modes-same_known_shape (typing ++ others) (checked.object_for x) (active.object_for x) signature (grown.names_fit.0 x) sig))
-      (arguments-sound (typing ++ others) checked active s.store record { store_fits = store; names_fit = grown.names_fit } signature (arguments_listed es) fit))
+      let (signature, sig, fit) = call-typed checked (signature_of (checked.object_for x)) (call_arguments es) h in
+      continue_with_result-fits (typing ++ others) (λ args. ArgumentsMatchSignature (typing ++ others) signature args) s (argument_modes_of (active.object_for x) >>= (λ modes. evaluate_arguments active s.store modes (call_arguments es))) (λ args. perform_call (active.object_for x) (enter x) args s)
+      (subst (λ o. OutcomeFits (λ args. ArgumentsMatchSignature (typing ++ others) signature args) (o >>= (λ modes. evaluate_arguments active s.store modes (call_arguments es)))) (sym (modes-same_known_shape (typing ++ others) (checked.object_for x) (active.object_for x) signature (grown.names_fit.0 x) sig))
+      (arguments-sound (typing ++ others) checked active s.store record { store_fits = store; names_fit = grown.names_fit } signature (call_arguments es) fit))
       (λ args hargs. perform_call-fits (typing ++ others) (checked.object_for x) (active.object_for x) signature (enter x) args s (grown.names_fit.0 x) sig store hargs
       (λ e. call-here (typing ++ others) checked enter grown.calls_fit x signature args s store hargs e))
   execute-keeps typing checked active enter sound t (branches e statements rest last) h others s store =
@@ -330,7 +330,7 @@ mutual
       let h₂ = both_true (sequence_is_well_typed checked statements) (elsifs_are_well_typed checked rest && else_is_well_typed checked last) h₁.1 in
       let h₃ = both_true (elsifs_are_well_typed checked rest) (else_is_well_typed checked last) h₂.1 in
       let grown = Sound-grows typing others checked active enter sound in
-      use_result-fits (typing ++ others) (λ v. HasShape v boolean_shape) s (evaluate active s.store e) (λ v. choose_by_truth s v (execute_sequence active enter t statements) (execute_elsifs active enter t rest (execute_else active enter t last)))
+      continue_with_result-fits (typing ++ others) (λ v. HasShape v boolean_shape) s (evaluate active s.store e) (λ v. choose_by_truth s v (execute_sequence active enter t statements) (execute_elsifs active enter t rest (execute_else active enter t last)))
       (condition-sound (typing ++ others) checked active grown.names_fit e h₁.0 s store)
       (λ v hv. choose_by_truth-fits (typing ++ others) s v (execute_sequence active enter t statements) (execute_elsifs active enter t rest (execute_else active enter t last)) hv
       (execute_sequence-keeps typing checked active enter sound t statements h₂.0 others s store)
@@ -365,7 +365,7 @@ mutual
       let h₁ = both_true (condition_is_boolean checked e) (sequence_is_well_typed checked statements && elsifs_are_well_typed checked rest) h in
       let h₂ = both_true (sequence_is_well_typed checked statements) (elsifs_are_well_typed checked rest) h₁.1 in
       let grown = Sound-grows typing others checked active enter sound in
-      use_result-fits (typing ++ others) (λ v. HasShape v boolean_shape) s (evaluate active s.store e) (λ v. choose_by_truth s v (execute_sequence active enter t statements) (execute_elsifs active enter t rest otherwise))
+      continue_with_result-fits (typing ++ others) (λ v. HasShape v boolean_shape) s (evaluate active s.store e) (λ v. choose_by_truth s v (execute_sequence active enter t statements) (execute_elsifs active enter t rest otherwise))
       (condition-sound (typing ++ others) checked active grown.names_fit e h₁.0 s store)
       (λ v hv. choose_by_truth-fits (typing ++ others) s v (execute_sequence active enter t statements) (execute_elsifs active enter t rest otherwise) hv
       (execute_sequence-keeps typing checked active enter sound t statements h₂.0 others s store) (execute_elsifs-keeps typing checked active enter sound t rest otherwise h₂.1 keeps others s store))

@@ -2,9 +2,9 @@
 -- Rule: none; states laws about edits and runs.
 use Rattle.std.specs.Prelude.{List, Some, ℕ, ℤ, ◌≡◌, ◌≢◌}
 use Rattle.ob0_tree.specs.Tree.{Tree, factor, module_text}
-use Rattle.ob0_language_names.specs.Inlining.{OccurrenceSet, inlined, inlined_everywhere, module_without}
+use Rattle.ob0_language_names.specs.Inlining.{OccurrenceSet, inlined, inlined_everywhere, module_without_constant}
 use Rattle.ob0_language_names.specs.Names.{Name}
-use Rattle.ob0_language_names.specs.Occurrences.{Free, ordinal_bound_at}
+use Rattle.ob0_language_names.specs.Occurrences.{IsFreeName, ordinal_bound_at}
 use Rattle.ob0_language_names.specs.Scopes.{renamed}
 use Rattle.ob0_language_values.specs.Values.{Value}
 use Rattle.ob0_language_types.specs.EditLaws.{AreInlinableUses, IsConstantWithLiteral, MeansPredeclaredTruth}
@@ -20,7 +20,7 @@ HaveSameRuns a b = (input : List ℤ) (c t : ℕ) → run a input c t ≡ run b 
 abbrev pub FreeRenamingKeepsTypingAndRuns : Type 0
 FreeRenamingKeepsTypingAndRuns =
     (m : Tree Name module_text) (d : ℕ) (new : Name)
-    → Free m d new
+    → IsFreeName m d new
     → WellTyped m
     → WellTyped (renamed m d new) × HaveSameRuns (renamed m d new) m
 
@@ -43,7 +43,7 @@ RemovingUnusedKeepsTypingAndRuns =
     → IsConstantWithLiteral m d w v
     → ((k : ℕ) → ordinal_bound_at m k ≢ Some d)
     → WellTyped m
-    → WellTyped (module_without d m) × HaveSameRuns (module_without d m) m
+    → WellTyped (module_without_constant d m) × HaveSameRuns (module_without_constant d m) m
 
 -- States that a well-typed module remains well-typed and has the same runs if a constant is inlined everywhere. The
 -- constant's literal replaces all its uses, and the declaration is removed. If the literal is TRUE or FALSE, this word

@@ -3,9 +3,9 @@
 -- Rule: none; states laws about runs.
 use Rattle.std.specs.Prelude.{◌≡◌, ℕ, ◌≢◌, List, ℤ, Some}
 use Rattle.ob0_tree.specs.Tree.{Tree, factor, module_text, occurrences, statement}
-use Rattle.ob0_language_names.specs.Inlining.{OccurrenceSet, inline_in}
+use Rattle.ob0_language_names.specs.Inlining.{OccurrenceSet, inline_in_tree}
 use Rattle.ob0_language_names.specs.Names.{Label, Name, Naming}
-use Rattle.ob0_language_names.specs.Occurrences.{Free}
+use Rattle.ob0_language_names.specs.Occurrences.{IsFreeName}
 use Rattle.ob0_language_names.specs.Scopes.{numbered, renamed}
 use Rattle.ob0_language_types.specs.Expressions.{Meanings, a_constant, evaluate_factor}
 use Rattle.ob0_language_types.specs.Laws.{EachUseHas}
@@ -35,7 +35,7 @@ NumberedTreeDecidesRuns =
 abbrev pub FreeRenamingKeepsRuns : Type 0
 FreeRenamingKeepsRuns =
     (m : Tree Name module_text) (d : ℕ) (new : Name)
-    → Free m d new
+    → IsFreeName m d new
     → (input : List ℤ) (c t : ℕ)
     → run (renamed m d new) input c t ≡ run m input c t
 
@@ -65,4 +65,4 @@ InliningKeepsExecution =
     (v : Tree Name factor) (w : Value) (k : ℕ) (a : Tree Name statement) (s : State)
     → ((store : Store) → evaluate_factor meaning store v ≡ succeeds_with w)
     → EachUseHas uses (λ x. meaning.object_for x ≡ Some (a_constant w)) k (occurrences a)
-    → execute meaning enter t (inline_in uses v k a) s ≡ execute meaning enter t a s
+    → execute meaning enter t (inline_in_tree uses v k a) s ≡ execute meaning enter t a s

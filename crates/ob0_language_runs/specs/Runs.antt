@@ -5,8 +5,8 @@
 use Rattle.std.specs.Prelude.{ℕ, zero, suc, ◌+◌, ◌-◌, true, false, List, [], ◌∷◌, ◌++◌, map, length, ℤ, Some, None, Option, option_map, option_and_then}
 use Rattle.ob0_tree.specs.Tree.{Tree, assigns, begins, block, body, branches, calls, declares_variable, else_branch, else_part, elsif_branch, elsif_part, empty, end, expression, further_section, further_statement, item, items, maybe, module_text, more, none, one, procedure, repeat_loop, runs, sequence, statement, then_section, then_statement, variable, while_loop}
 use Rattle.ob0_language_names.specs.Names.{Label, Name, Naming, naming_by_label, naming_by_spelling}
-use Rattle.ob0_language_names.specs.Parts.{block_procedures, block_statements, block_variables, module_block, names_in_list, procedure_block, procedure_formals, procedure_name, section_names}
-use Rattle.ob0_language_types.specs.Arguments.{arguments_listed}
+use Rattle.ob0_language_names.specs.Parts.{block_procedures, block_statements, block_variables, module_block, names_in_list, procedure_block, procedure_formals, procedure_name, parameter_section_names}
+use Rattle.ob0_language_types.specs.Arguments.{call_arguments}
 use Rattle.ob0_language_types.specs.Declarations.{constructors_before_procedure_block, constructors_before_variables, constructors_before_procedures, declare_constants_and_types, procedure_constructor_count}
 use Rattle.ob0_language_types.specs.Environments.{Environment, environment_from_binding, meanings, outermost_environment}
 use Rattle.ob0_language_types.specs.Expressions.{Meanings, Object, a_constant, a_procedure, a_standard, a_type, a_variable, designated_place, evaluate, read_procedure, write_procedure, write_line_procedure}
@@ -38,9 +38,9 @@ pub data Argument : Type 0 where
 
 -- continues a run by applying `next` to the result of an evaluation; if the evaluation ends the run, returns this end
 -- with the output of the state `s`
-abbrev pub use_result : {A : Type 0} → State → Outcome A → (A → Progress) → Progress
-use_result s (succeeds_with a) next = next a
-use_result s (ends_run_with e) next = stopped e s.output
+abbrev pub continue_with_result : {A : Type 0} → State → Outcome A → (A → Progress) → Progress
+continue_with_result s (succeeds_with a) next = next a
+continue_with_result s (ends_run_with e) next = stopped e s.output
 
 -- continues a run with the function `next`; a run that has ended is left unchanged
 abbrev pub continue_with : Progress → (State → Progress) → Progress
@@ -61,21 +61,21 @@ append_output s i = record s { output = s.output ++ i ∷ [] }
 -- stores a value at a place; ends the run with Stuck if there is no such place
 abbrev pub store_at : State → Place → Value → Progress
 store_at s p v =
-    use_result s (or_stuck (write_place s.store p v)) (λ store. running record s { store = store })
+    continue_with_result s (or_stuck (write_place s.store p v)) (λ store. running record s { store = store })
 
--- stores the next number of the input at the place `p`; the list has the input that isn't read yet; ends the run with
--- InputEnd if this list is empty
+-- stores the next number of the input at the place `p`; the last argument is the input that isn't
+-- read yet; ends the run with InputEnd if this input is empty
 abbrev pub read_number : State → Place → List ℤ → Progress
 read_number s p [] = stopped InputEnd s.output
 read_number s p (n ∷ rest) = store_at record s { input = rest } p (number n)
 
 -- returns the modes in which the arguments of a call are passed; Stuck if the called object isn't a procedure
-abbrev pub modes_of : Option (Object Place (List Mode)) → Outcome (List Mode)
-modes_of (Some (a_procedure modes)) = succeeds_with modes
-modes_of (Some (a_standard read_procedure)) = succeeds_with (by_place ∷ [])
-modes_of (Some (a_standard write_procedure)) = succeeds_with (by_value ∷ [])
-modes_of (Some (a_standard write_line_procedure)) = succeeds_with []
-modes_of _ = ends_run_with Stuck
+abbrev pub argument_modes_of : Option (Object Place (List Mode)) → Outcome (List Mode)
+argument_modes_of (Some (a_procedure modes)) = succeeds_with modes
+argument_modes_of (Some (a_standard read_procedure)) = succeeds_with (by_place ∷ [])
+argument_modes_of (Some (a_standard write_procedure)) = succeeds_with (by_value ∷ [])
+argument_modes_of (Some (a_standard write_line_procedure)) = succeeds_with []
+argument_modes_of _ = ends_run_with Stuck
 
 -- evaluates an argument: to its place for a VAR parameter, otherwise to a copy of its value (docs/LANGUAGE.md, Runs 6)
 unfoldable pub evaluate_argument : {N P : Type 0}
@@ -128,9 +128,9 @@ perform_call _ enter args s = stopped Stuck s.output
 -- with TurnBound instead of making this iteration.
 abbrev pub execute_while : ℕ → (State → Outcome Value) → (State → Progress) → State → Progress
 execute_while zero condition statements s =
-    use_result s (condition s) (λ v. choose_by_truth s v (λ s'. stopped TurnBound s'.output) running)
+    continue_with_result s (condition s) (λ v. choose_by_truth s v (λ s'. stopped TurnBound s'.output) running)
 execute_while (suc t) condition statements s =
-    use_result s (condition s) (λ v. choose_by_truth s v
+    continue_with_result s (condition s) (λ v. choose_by_truth s v
     (λ s'. continue_with (statements s') (execute_while t condition statements)) running)
 
 -- a function that performs the call of a procedure, given by its name, with these arguments in a state
@@ -142,11 +142,11 @@ CallFunction N = N → List Argument → State → Progress
 -- another iteration is made. If the first argument is 0, the run ends with TurnBound instead of making this iteration.
 abbrev pub execute_repeat : ℕ → (State → Outcome Value) → (State → Progress) → State → Progress
 execute_repeat zero condition turn s =
-    continue_with (turn s) (λ s'. use_result s' (condition s')
+    continue_with (turn s) (λ s'. continue_with_result s' (condition s')
     (λ v. choose_by_truth s' v running (λ s''. stopped TurnBound s''.output)))
 execute_repeat (suc t) condition turn s =
     continue_with (turn s)
-    (λ s'. use_result s' (condition s') (λ v. choose_by_truth s' v running (execute_repeat t condition turn)))
+    (λ s'. continue_with_result s' (condition s') (λ v. choose_by_truth s' v running (execute_repeat t condition turn)))
 
 -- Executes a statement. An assignment first determines the place on its left side, then evaluates its right side, and
 -- then stores a copy of the value.
@@ -163,14 +163,14 @@ unfoldable mutual
       → Progress
   execute meaning enter t empty s = running s
   execute meaning enter t (assigns x path e) s =
-      use_result s (designated_place meaning s.store x path)
-      (λ p. use_result s (evaluate meaning s.store e) (store_at s p))
+      continue_with_result s (designated_place meaning s.store x path)
+      (λ p. continue_with_result s (evaluate meaning s.store e) (store_at s p))
   execute meaning enter t (calls x es) s =
-      use_result s (modes_of (meaning.object_for x) >>=
-      (λ modes. evaluate_arguments meaning s.store modes (arguments_listed es)))
+      continue_with_result s (argument_modes_of (meaning.object_for x) >>=
+      (λ modes. evaluate_arguments meaning s.store modes (call_arguments es)))
       (λ args. perform_call (meaning.object_for x) (enter x) args s)
   execute meaning enter t (branches e statements rest last) s =
-      use_result s (evaluate meaning s.store e) (λ v. choose_by_truth s v
+      continue_with_result s (evaluate meaning s.store e) (λ v. choose_by_truth s v
       (execute_sequence meaning enter t statements)
       (execute_elsifs meaning enter t rest (execute_else meaning enter t last)))
   execute meaning enter t (while_loop e statements) s =
@@ -214,7 +214,7 @@ unfoldable mutual
       → Progress
   execute_elsifs meaning enter t end otherwise s = otherwise s
   execute_elsifs meaning enter t (more (elsif_branch e statements) rest) otherwise s =
-      use_result s (evaluate meaning s.store e) (λ v. choose_by_truth s v
+      continue_with_result s (evaluate meaning s.store e) (λ v. choose_by_truth s v
       (execute_sequence meaning enter t statements) (execute_elsifs meaning enter t rest otherwise))
 
   -- executes the statements of the ELSE part; does nothing if there is no ELSE part
@@ -320,7 +320,7 @@ pub record Parameter (N : Type 0) : Type 0 where
 abbrev pub parameters : {N : Type 0} → Tree N (items further_section) → List (Parameter N)
 parameters end = []
 parameters (more (then_section f) fs) =
-    map (λ x. record { mode = section_mode f; name = x }) (section_names f) ++ parameters fs
+    map (λ x. record { mode = section_mode f; name = x }) (parameter_section_names f) ++ parameters fs
 
 -- returns the frame with all parameters of a procedure bound to the arguments of a call; None if there are more or
 -- fewer arguments than parameters, or if `bind_parameter` returns None for one of them
@@ -338,7 +338,7 @@ bind_parameters _ _ f = None
 abbrev pub formal_modes : {N : Type 0} → Tree N (items further_section) → List Mode
 formal_modes end = []
 formal_modes (more (then_section f) fs) =
-    map (λ x. section_mode f) (section_names f) ++ formal_modes fs
+    map (λ x. section_mode f) (parameter_section_names f) ++ formal_modes fs
 
 -- returns a name's object with only the data that statements need: a procedure keeps only the modes of its parameters,
 -- and any other object is unchanged

@@ -35,15 +35,15 @@ abbrev mutual
 
 -- returns the type of the element or field that one step selects from the type; None if there is no such element or
 -- field, for example because an index isn't below the array's length
-abbrev pub part_shape : Shape → Step → Option Shape
-part_shape (array_shape k n s) (at_index i) = if nat_lt i n then Some s else None
-part_shape (record_shape k fs) (at_field x) = shape_of_field fs x
-part_shape _ _ = None
+abbrev pub shape_at_step : Shape → Step → Option Shape
+shape_at_step (array_shape k n s) (at_index i) = if nat_lt i n then Some s else None
+shape_at_step (record_shape k fs) (at_field x) = shape_of_field fs x
+shape_at_step _ _ = None
 
 -- returns the type of the part that a path selects from the type; None if there is no such part
 abbrev pub shape_at_path : List Step → Shape → Option Shape
 shape_at_path [] s = Some s
-shape_at_path (step ∷ path) s = option_and_then (shape_at_path path) (part_shape s step)
+shape_at_path (step ∷ path) s = option_and_then (shape_at_path path) (shape_at_step s step)
 
 -- the types of a store's variables, in the order of the store; the proofs extend this list when a run adds variables
 abbrev pub StoreTyping : Type 0

@@ -1,10 +1,10 @@
 -- In a well-typed block, each use of a constant is a whole factor.
 use Rattle.std.proofs.Common.{Bool, List, None, Option, Some, ap, arith, eq-eqb, if◌then◌else◌, le_of_lt, le_refl, length, map, ne_eqb, option_and_then, option_map, subst, suc, sym, true, ℕ, ◌&&◌, ◌++◌, ◌+◌, ◌<◌, ◌==◌, ◌∙◌, ◌∷◌, ◌≡◌, ◌≤◌}
 use Rattle.ob0_tree.specs.Tree.{Tree, begins, block, body, constant, declares, declares_constant, declares_procedure, declares_type, declares_variable, end, further_section, forms_block, item, items, maybe, more, none, occurrences, one, procedure, then_section, type_definition, variable, written_type}
-use Rattle.ob0_language_names.specs.NonFactorNames.{non_factor_names}
+use Rattle.ob0_language_names.specs.NonFactorNames.{non_factor_occurrences}
 use Rattle.ob0_language_names.specs.Names.{Name, naming_by_spelling}
-use Rattle.ob0_language_names.specs.Parts.{block_constants, block_types, block_variables, constant_names, formal_names, formal_sections, declared_type_names, names_in_list, section_constants, section_names, section_type, section_types, section_variables, variable_names}
-use Rattle.ob0_language_names.specs.Scopes.{Scope, ordinal_after_block, ordinal_after_names, ordinal_after_procedure, ordinal_after_procedures, declare_names, declare_procedure_names, first_procedure_ordinal, first_type_ordinal, first_variable_ordinal, ordinal_of, procedures_scope, types_scope, variables_scope}
+use Rattle.ob0_language_names.specs.Parts.{block_constants, block_types, block_variables, constant_names, formal_names, formal_sections, declared_type_names, names_in_list, section_constants, parameter_section_names, parameter_section_type, section_types, section_variables, variable_names}
+use Rattle.ob0_language_names.specs.Scopes.{Scope, ordinal_after_block, ordinal_after_names, ordinal_after_procedure, ordinal_after_procedures, declare_names, declare_procedure_names, first_procedure_ordinal, first_type_ordinal, first_variable_ordinal, ordinal_of, scope_before_procedures, scope_before_types, scope_before_variables}
 use Rattle.ob0_language_names.proofs.EditedTrees.{Edit, edited_block, edited_constants, leaf}
 use Rattle.ob0_language_names.proofs.InliningLeavesNoUse.{NoneOf}
 use Rattle.ob0_language_names.proofs.Ordinals.{ordinal_after_names-append, le-ordinal_after_names, le-ordinal_after_procedure}
@@ -33,7 +33,7 @@ abbrev pub IsOf : ℕ → Scope Name → Name → Type 0
 IsOf d scope x = ordinal_of naming_by_spelling scope x ≡ Some d
 
 abbrev pub UsesAreFactors : ℕ → Placed
-UsesAreFactors d s j scope t = NoneOf (IsOf d scope) (non_factor_names t)
+UsesAreFactors d s j scope t = NoneOf (IsOf d scope) (non_factor_occurrences t)
 
 pub holds-constant : {V P Q : Type 0} (edit : Edit) (w : Value) (X : Marks V P → Name → ℕ → P → Type 0) (p : ℕ → P → Q) (n : ℕ) (marks : Marks V P) → Sound edit w X n marks → AreConstant (IsOf edit.constant (scope_marked marks)) (read_meanings p marks) w
 holds-constant edit w X p n marks s x k = read-object_for p marks x ∙ has_value-found edit w p (found marks x) (found-right edit w X n marks x s) (sym (ordinal-found marks x) ∙ k)
@@ -108,9 +108,9 @@ pub alone-sections : (edit : Edit) (w : Value) (i j k : ℕ) (marks : Marks Shap
 unfolding typed_parameters
 alone-sections edit w i j k marks s seven end outside ps h = tt
 alone-sections edit w i j k marks s seven (more (then_section f) fs) outside ps h =
-    let xs : List Name = section_names f in
+    let xs : List Name = parameter_section_names f in
     let ys : List Name = formal_names fs in
-    let t : Tree Name written_type = section_type f in
+    let t : Tree Name written_type = parameter_section_type f in
     let n : ℕ = ordinal_after_names k xs in
     let (shape, es, h₁) = then_some (denoted_type (read_meanings as_signed marks) i t)
     (λ s. option_and_then (λ rest. Some (map (λ x. record { name = x; formal = record { mode = section_mode f; shape = s } }) xs ++ rest)) (typed_parameters naming_by_spelling (bind_names xs (a_variable s) (read as_signed marks)) (i + constructor_count t) fs)) ps h in
@@ -127,7 +127,7 @@ alone-sections edit w i j k marks s seven (more (then_section f) fs) outside ps 
           (ap (λ env. typed_parameters naming_by_spelling env (i + constructor_count t) fs) (sym bound.1) ∙ er)),
     )
 
-pub alone-body : (edit : Edit) (w : Value) (n : ℕ) (marks : Marks Shape Signature) → Checked edit w n marks → (statements : Tree Name (maybe body)) → body_is_well_typed naming_by_spelling (read as_signed marks) statements ≡ true → NoneOf (IsOf edit.constant (scope_marked marks)) (non_factor_names statements)
+pub alone-body : (edit : Edit) (w : Value) (n : ℕ) (marks : Marks Shape Signature) → Checked edit w n marks → (statements : Tree Name (maybe body)) → body_is_well_typed naming_by_spelling (read as_signed marks) statements ≡ true → NoneOf (IsOf edit.constant (scope_marked marks)) (non_factor_occurrences statements)
 unfolding body_is_well_typed
 alone-body edit w n marks s none h = tt
 alone-body edit w n marks s (one (begins a)) h = sequence-elsewhere (IsOf edit.constant (scope_marked marks)) (read_meanings as_signed marks) w (holds-constant edit w anything as_signed n marks s) a h
@@ -156,14 +156,14 @@ mutual
       let (env₂, e₂, fits) = hold-true (option_and_then (declare_typed_variables naming_by_spelling (constructors_before_variables i b) (section_variables vs)) (declare_constants_and_types naming_by_spelling (read as_signed marks) i b)) (λ inner. procedures_are_well_typed naming_by_spelling inner (constructors_before_procedures i b) statements ps) h in
       let (env₁, e₁, f₁) = then_some (declare_constants_and_types naming_by_spelling (read as_signed marks) i b) (declare_typed_variables naming_by_spelling (constructors_before_variables i b) (section_variables vs)) env₂ e₂ in
       let (env₀, e₀, f₀) = constants_first (read as_signed marks) i b env₁ e₁ in
-      let (inner₀, left₀, r₀) = agree-some (read as_signed) (read_edited edit as_signed) (LeftTyped edit w (first_type_ordinal k b) (types_scope k b (scope_marked marks)) (declare_constants naming_by_spelling (knowns marks) (section_constants cs)))
+      let (inner₀, left₀, r₀) = agree-some (read as_signed) (read_edited edit as_signed) (LeftTyped edit w (first_type_ordinal k b) (scope_before_types k b (scope_marked marks)) (declare_constants naming_by_spelling (knowns marks) (section_constants cs)))
       (declare_constants naming_by_spelling (read as_signed marks) (section_constants cs)) (declare_constants naming_by_spelling (read_edited edit as_signed marks) (edited_constants edit j k (section_constants cs)))
       (constants-edited edit w lit anything as_signed as_signed j k marks s seven (section_constants cs) here.0 (constants-has_value edit w (knowns marks) k b has_value)) env₀ e₀ in
-      let (inner₁, left₁, r₁) = agree-some (read as_signed) (read_edited edit as_signed) (LeftTyped edit w (first_variable_ordinal k b) (variables_scope k b (scope_marked marks)) (option_map (bind_names (declared_type_names (section_types ts)) non_constant) (declare_constants naming_by_spelling (knowns marks) (section_constants cs))))
+      let (inner₁, left₁, r₁) = agree-some (read as_signed) (read_edited edit as_signed) (LeftTyped edit w (first_variable_ordinal k b) (scope_before_variables k b (scope_marked marks)) (option_map (bind_names (declared_type_names (section_types ts)) non_constant) (declare_constants naming_by_spelling (knowns marks) (section_constants cs))))
       (declare_constants_and_types naming_by_spelling (read as_signed marks) i b) (declare_constants_and_types naming_by_spelling (read_edited edit as_signed marks) i (edited_block edit j k b))
       (first-edited edit w lit anything as_signed as_signed i j k marks s seven b here has_value) env₁ e₁ in
       let (inner₂, left₂, r₂) = agree-some (read as_signed) (read_edited edit as_signed)
-      (LeftTyped edit w (first_procedure_ordinal k b) (procedures_scope k b (scope_marked marks)) (option_map (bind_names (variable_names (section_variables vs)) non_constant) (option_map (bind_names (declared_type_names (section_types ts)) non_constant) (declare_constants naming_by_spelling (knowns marks) (section_constants cs)))))
+      (LeftTyped edit w (first_procedure_ordinal k b) (scope_before_procedures k b (scope_marked marks)) (option_map (bind_names (variable_names (section_variables vs)) non_constant) (option_map (bind_names (declared_type_names (section_types ts)) non_constant) (declare_constants naming_by_spelling (knowns marks) (section_constants cs)))))
       (option_and_then (declare_typed_variables naming_by_spelling (constructors_before_variables i b) (section_variables vs)) (declare_constants_and_types naming_by_spelling (read as_signed marks) i b))
       (option_and_then (declare_typed_variables naming_by_spelling (constructors_before_variables i (edited_block edit j k b)) (block_variables (edited_block edit j k b))) (declare_constants_and_types naming_by_spelling (read_edited edit as_signed marks) i (edited_block edit j k b)))
       (declarations-edited edit w lit i j k marks s seven b here has_value) env₂ e₂ in
@@ -178,13 +178,13 @@ mutual
             (alone-variables edit w (constructors_before_variables i b) jv (first_variable_ordinal k b) inner₁ left₁.sound (omega (arith, seven, above, types)) (section_variables vs) (λ l m. types-outside edit w (knowns marks) k b has_value (omega (arith, l, types)) m) env₂
             (ap (declare_typed_variables naming_by_spelling (constructors_before_variables i b) (section_variables vs)) r₁ ∙ f₁)),
         subst (λ scope. EachProcedure (UsesAreFactors d) jp scope (first_procedure_ordinal k b) ps) left₂.scoped later.0,
-        subst (λ scope. NoneOf (IsOf d (declare_procedure_names (first_procedure_ordinal k b) ps scope)) (non_factor_names statements)) left₂.scoped later.1,
+        subst (λ scope. NoneOf (IsOf d (declare_procedure_names (first_procedure_ordinal k b) ps scope)) (non_factor_occurrences statements)) left₂.scoped later.1,
       )
 
   pub alone-procedures : (edit : Edit) (w : Value) → Literal edit w → (i j js k : ℕ) (marks : Marks Shape Signature) → Checked edit w k marks → 7 ≤ k → (statements : Tree Name (maybe body)) (ps : Tree Name (items procedure))
       → EachProcedure (Here edit w) j (scope_marked marks) k ps → HasValueBetween edit w k (ordinal_after_procedures k ps) (value_in_procedures (knowns marks) edit.constant k ps)
       → procedures_are_well_typed naming_by_spelling (read as_signed marks) i statements ps ≡ true
-      → EachProcedure (UsesAreFactors edit.constant) j (scope_marked marks) k ps × NoneOf (IsOf edit.constant (declare_procedure_names k ps (scope_marked marks))) (non_factor_names statements)
+      → EachProcedure (UsesAreFactors edit.constant) j (scope_marked marks) k ps × NoneOf (IsOf edit.constant (declare_procedure_names k ps (scope_marked marks))) (non_factor_occurrences statements)
   alone-procedures edit w lit i j js k marks s seven statements end here has_value h = (tt, alone-body edit w k marks s statements h)
   alone-procedures edit w lit i j js k marks s seven statements (more (declares_procedure x fs b closing) rest) here has_value h =
       let p : Tree Name (item procedure) = declares_procedure x fs b closing in

@@ -4,7 +4,7 @@ use Rattle.ob0_tree.specs.Tree.{Tree, addend, adds, compares, designator, end, e
 use Rattle.ob0_language_types.specs.Expressions.{Meanings, Object, a_constant, a_procedure, a_standard, a_type, a_variable, element_step, evaluate, evaluate_addends, evaluate_factor, evaluate_multipliers, evaluate_simple, evaluate_term, evaluate_selectors, object_value}
 use Rattle.ob0_language_types.specs.Laws.{ConstantValuesAgree}
 use Rattle.ob0_language_types.specs.Typing.{constant_of, constant_value, constant_meanings, outcome_value, type_of}
-use Rattle.ob0_language_values.specs.Values.{Outcome, Place, Step, Store, Value, add, add_short_circuits, at_field, value_at_path, ends_run_with, succeeds_with, multiply, multiply_short_circuits, negate, or_stuck, part, apply_relation, apply_sign, ◌>>=◌}
+use Rattle.ob0_language_values.specs.Values.{Outcome, Place, Step, Store, Value, add, add_short_circuits, at_field, value_at_path, ends_run_with, succeeds_with, multiply, multiply_short_circuits, negate, or_stuck, value_at_step, apply_relation, apply_sign, ◌>>=◌}
 
 pub then-gives : {A B : Type 0} (o : Outcome A) (next : A → Outcome B) (b : B) → o >>= next ≡ succeeds_with b → (a : A) × (o ≡ succeeds_with a) × (next a ≡ succeeds_with b)
 then-gives (succeeds_with a) next b h = (a, refl, h)
@@ -99,19 +99,19 @@ mutual
       → evaluate_selectors {P = Unit {0}} (constant_meanings checked) [] w a ≡ succeeds_with steps → evaluate_selectors active store w a ≡ succeeds_with steps
   follow-held checked active store has w end steps h = h
   follow-held checked active store has w (more (field x) rest) steps h =
-      subst (λ y. or_stuck (part w (at_field y)) >>= (λ u. evaluate_selectors active store u rest >>= (λ steps. succeeds_with (at_field y ∷ steps))) ≡ succeeds_with steps) (has.0 x) (
-      let (u, eu, h₁) = then-gives (or_stuck (part w (at_field (checked.written x)))) (λ u. evaluate_selectors {P = Unit {0}} (constant_meanings checked) [] u rest >>= (λ steps. succeeds_with (at_field (checked.written x) ∷ steps))) steps h in
+      subst (λ y. or_stuck (value_at_step w (at_field y)) >>= (λ u. evaluate_selectors active store u rest >>= (λ steps. succeeds_with (at_field y ∷ steps))) ≡ succeeds_with steps) (has.0 x) (
+      let (u, eu, h₁) = then-gives (or_stuck (value_at_step w (at_field (checked.written x)))) (λ u. evaluate_selectors {P = Unit {0}} (constant_meanings checked) [] u rest >>= (λ steps. succeeds_with (at_field (checked.written x) ∷ steps))) steps h in
       let (others, em, h₂) = then-gives (evaluate_selectors {P = Unit {0}} (constant_meanings checked) [] u rest) (λ steps. succeeds_with (at_field (checked.written x) ∷ steps)) steps h₁ in
-      then-goes (or_stuck (part w (at_field (checked.written x)))) (λ u. evaluate_selectors active store u rest >>= (λ steps. succeeds_with (at_field (checked.written x) ∷ steps))) u steps eu
+      then-goes (or_stuck (value_at_step w (at_field (checked.written x)))) (λ u. evaluate_selectors active store u rest >>= (λ steps. succeeds_with (at_field (checked.written x) ∷ steps))) u steps eu
       (then-goes (evaluate_selectors active store u rest) (λ steps. succeeds_with (at_field (checked.written x) ∷ steps)) others steps (follow-held checked active store has u rest others em) h₂))
   follow-held checked active store has w (more (index e) rest) steps h =
-      let (i, ei, h₁) = then-gives (evaluate {P = Unit {0}} (constant_meanings checked) [] e) (λ i. element_step w i >>= (λ s. or_stuck (part w s) >>= (λ u. evaluate_selectors {P = Unit {0}} (constant_meanings checked) [] u rest >>= (λ steps. succeeds_with (s ∷ steps))))) steps h in
-      let (s, es, h₂) = then-gives (element_step w i) (λ s. or_stuck (part w s) >>= (λ u. evaluate_selectors {P = Unit {0}} (constant_meanings checked) [] u rest >>= (λ steps. succeeds_with (s ∷ steps)))) steps h₁ in
-      let (u, eu, h₃) = then-gives (or_stuck (part w s)) (λ u. evaluate_selectors {P = Unit {0}} (constant_meanings checked) [] u rest >>= (λ steps. succeeds_with (s ∷ steps))) steps h₂ in
+      let (i, ei, h₁) = then-gives (evaluate {P = Unit {0}} (constant_meanings checked) [] e) (λ i. element_step w i >>= (λ s. or_stuck (value_at_step w s) >>= (λ u. evaluate_selectors {P = Unit {0}} (constant_meanings checked) [] u rest >>= (λ steps. succeeds_with (s ∷ steps))))) steps h in
+      let (s, es, h₂) = then-gives (element_step w i) (λ s. or_stuck (value_at_step w s) >>= (λ u. evaluate_selectors {P = Unit {0}} (constant_meanings checked) [] u rest >>= (λ steps. succeeds_with (s ∷ steps)))) steps h₁ in
+      let (u, eu, h₃) = then-gives (or_stuck (value_at_step w s)) (λ u. evaluate_selectors {P = Unit {0}} (constant_meanings checked) [] u rest >>= (λ steps. succeeds_with (s ∷ steps))) steps h₂ in
       let (others, em, h₄) = then-gives (evaluate_selectors {P = Unit {0}} (constant_meanings checked) [] u rest) (λ steps. succeeds_with (s ∷ steps)) steps h₃ in
-      then-goes (evaluate active store e) (λ i. element_step w i >>= (λ s. or_stuck (part w s) >>= (λ u. evaluate_selectors active store u rest >>= (λ steps. succeeds_with (s ∷ steps))))) i steps (evaluate-held checked active store has e i ei)
-      (then-goes (element_step w i) (λ s. or_stuck (part w s) >>= (λ u. evaluate_selectors active store u rest >>= (λ steps. succeeds_with (s ∷ steps)))) s steps es
-      (then-goes (or_stuck (part w s)) (λ u. evaluate_selectors active store u rest >>= (λ steps. succeeds_with (s ∷ steps))) u steps eu
+      then-goes (evaluate active store e) (λ i. element_step w i >>= (λ s. or_stuck (value_at_step w s) >>= (λ u. evaluate_selectors active store u rest >>= (λ steps. succeeds_with (s ∷ steps))))) i steps (evaluate-held checked active store has e i ei)
+      (then-goes (element_step w i) (λ s. or_stuck (value_at_step w s) >>= (λ u. evaluate_selectors active store u rest >>= (λ steps. succeeds_with (s ∷ steps)))) s steps es
+      (then-goes (or_stuck (value_at_step w s)) (λ u. evaluate_selectors active store u rest >>= (λ steps. succeeds_with (s ∷ steps))) u steps eu
       (then-goes (evaluate_selectors active store u rest) (λ steps. succeeds_with (s ∷ steps)) others steps (follow-held checked active store has u rest others em) h₄)))
 
 pub given-value : (o : Outcome Value) (v : Value) → outcome_value o ≡ Some v → o ≡ succeeds_with v

@@ -8,7 +8,7 @@ use Rattle.std.proofs.lemmas.List.{append-nil}
 use Rattle.ob0_tree.specs.Tree.{Tree, block, body, constant, declares, declares_constant, declares_procedure, declares_type, declares_variable, end, expression, formals, forms_block, is_module, item, items, maybe, module_text, more, procedure, type_definition, variable}
 use Rattle.ob0_language_names.specs.Names.{Label, Name, naming_by_label, naming_by_spelling, declared, same_label, same_name}
 use Rattle.ob0_language_names.specs.Parts.{block_constants, block_procedures, block_statements, block_types, block_variables, constant_names, formal_names, formal_sections, module_block, declared_type_names, names_in_list, section_constants, section_types, section_variables, variable_names}
-use Rattle.ob0_language_names.specs.Scopes.{Scope, ordinal_after_block, ordinal_after_names, ordinal_after_procedure, ordinal_after_procedures, label_from_ordinal, declare_names, first_procedure_ordinal, first_type_ordinal, first_variable_ordinal, numbered, procedures_scope, relabel_block, relabel_constants, relabel_formals, relabel_names, relabel_procedures, relabel_sections, relabel_types, relabel_uses, relabel_variables, types_scope, variables_scope}
+use Rattle.ob0_language_names.specs.Scopes.{Scope, ordinal_after_block, ordinal_after_names, ordinal_after_procedure, ordinal_after_procedures, label_from_ordinal, declare_names, first_procedure_ordinal, first_type_ordinal, first_variable_ordinal, numbered, scope_before_procedures, relabel_block, relabel_constants, relabel_formals, relabel_names, relabel_procedures, relabel_sections, relabel_types, relabel_uses, relabel_variables, scope_before_types, scope_before_variables}
 use Rattle.ob0_language_names.proofs.Ordinals.{ordinal_after_names-append, declare_names-append, le-ordinal_after_names, le-ordinal_after_block, le-ordinal_after_procedure, le-ordinal_after_procedures}
 use Rattle.ob0_language_names.proofs.Relabelled.{constants-section, formals-section, names-relabel, types-section, variables-section}
 use Rattle.ob0_language_types.specs.Bindings.{block_bindings, declared_object, list_if_some, object_of_ordinal, procedure_bindings, procedures_bindings, bindings_since}
@@ -323,7 +323,7 @@ pub record Opened (known : ConstantEnvironment) (noted : TypeNoted Name) (k : �
   pub last : TypeNoted Name
   pub reads : inner ≡ typed_by_ordinal last
   pub others : Plain constants.after (first_type_ordinal k b) (declared_type_names (block_types b) ++ variable_names (block_variables b)) last
-  pub scoped : typed_scope last ≡ procedures_scope k b (typed_scope noted)
+  pub scoped : typed_scope last ≡ scope_before_procedures k b (typed_scope noted)
   pub below : TypedBelow (first_procedure_ordinal k b) last
 
 pub block-opened : (known : ConstantEnvironment) (noted : TypeNoted Name) (j k : ℕ) → Knows known noted → TypedBelow k noted → (b : Tree Name block) (inner : TypeEnvironment Label)
@@ -340,10 +340,10 @@ block-opened known noted j k knows below (forms_block (declares cs ts vs ps) sta
     let c : Constants known noted k (section_constants cs) one.0 =
     constants-bound known noted k knows below (section_constants cs) one.0 (ap (declare_constants naming_by_label env) (sym (constants-section naming_by_spelling (label_from_ordinal naming_by_spelling) scope k cs)) ∙ one.1) in
     let t : LeavesPlain c.after kt (declared_type_names (section_types ts)) two.0 = types-bound c.after j kt c.within.1 (section_types ts) two.0
-    ((λ i. declare_types naming_by_label (sym c.reads i) j ((ap (λ s. relabel_types naming_by_spelling (label_from_ordinal naming_by_spelling) s kt (section_types ts)) c.within.0 ∙ sym (types-section naming_by_spelling (label_from_ordinal naming_by_spelling) (types_scope k b scope) kt ts)) i)) ∙ one.2) in
-    let at_types : typed_scope t.0 ≡ variables_scope k b scope = t.2.within.0 ∙ ap (declare_names kt (declared_type_names (section_types ts))) c.within.0 in
+    ((λ i. declare_types naming_by_label (sym c.reads i) j ((ap (λ s. relabel_types naming_by_spelling (label_from_ordinal naming_by_spelling) s kt (section_types ts)) c.within.0 ∙ sym (types-section naming_by_spelling (label_from_ordinal naming_by_spelling) (scope_before_types k b scope) kt ts)) i)) ∙ one.2) in
+    let at_types : typed_scope t.0 ≡ scope_before_variables k b scope = t.2.within.0 ∙ ap (declare_names kt (declared_type_names (section_types ts))) c.within.0 in
     let v : LeavesPlain t.0 kv (variable_names (section_variables vs)) inner = variables-bound t.0 (constructors_before_variables j b') kv t.2.within.1 (section_variables vs) inner
-    ((λ i. declare_typed_variables naming_by_label (constructors_before_variables j b') ((ap (λ s. relabel_variables naming_by_spelling (label_from_ordinal naming_by_spelling) s kv (section_variables vs)) at_types ∙ sym (variables-section naming_by_spelling (label_from_ordinal naming_by_spelling) (variables_scope k b scope) kv vs)) i) (sym t.1 i)) ∙ two.2) in
+    ((λ i. declare_typed_variables naming_by_label (constructors_before_variables j b') ((ap (λ s. relabel_variables naming_by_spelling (label_from_ordinal naming_by_spelling) s kv (section_variables vs)) at_types ∙ sym (variables-section naming_by_spelling (label_from_ordinal naming_by_spelling) (scope_before_variables k b scope) kv vs)) i) (sym t.1 i)) ∙ two.2) in
     record {
       mid = one.0;
       constants = c;

@@ -2,9 +2,9 @@
 use Rattle.std.proofs.Common.{◌≡◌, ℕ, suc, ◌+◌, ◌∷◌, None, refl, ap, ◌∙◌}
 use Rattle.ob0_tree.specs.Tree.{Tree, block, declares, declares_procedure, declares_type, declares_variable, end, further_section, forms_block, item, items, more, procedure, then_section, type_definition, variable}
 use Rattle.ob0_language_names.specs.Names.{Naming}
-use Rattle.ob0_language_names.specs.Parts.{formal_names, formal_sections, names_in_list, procedure_name, section_names, section_type, section_types, section_variables}
-use Rattle.ob0_language_names.specs.Scopes.{Labelling, Scope, ordinal_after_names, ordinal_after_procedure, declare_names, first_procedure_ordinal, first_type_ordinal, first_variable_ordinal, label_of, procedures_scope, relabel_block, relabel_procedure, relabel_procedures, relabel_sections, relabel_types, relabel_variables, types_scope, variables_scope}
-use Rattle.ob0_language_names.proofs.Relabelled.{formals-section, section_type-relabel, types-section, variables-section}
+use Rattle.ob0_language_names.specs.Parts.{formal_names, formal_sections, names_in_list, procedure_name, parameter_section_names, parameter_section_type, section_types, section_variables}
+use Rattle.ob0_language_names.specs.Scopes.{Labelling, Scope, ordinal_after_names, ordinal_after_procedure, declare_names, first_procedure_ordinal, first_type_ordinal, first_variable_ordinal, label_of, scope_before_procedures, relabel_block, relabel_procedure, relabel_procedures, relabel_sections, relabel_types, relabel_variables, scope_before_types, scope_before_variables}
+use Rattle.ob0_language_names.proofs.Relabelled.{formals-section, parameter_section_type-relabel, types-section, variables-section}
 use Rattle.ob0_language_types.specs.Declarations.{block_constructor_count, formals_constructor_count, procedure_constructor_count, procedures_constructor_count, types_constructor_count, variables_constructor_count}
 use Rattle.ob0_language_types.specs.Typing.{constructor_count}
 use Rattle.ob0_language_types.proofs.TypeNaturality.{constructor_count-map}
@@ -22,14 +22,14 @@ variables_constructor_count-relabel naming label scope k (more (declares_variabl
 pub formals_constructor_count-relabel : {N M : Type 0} (naming : Naming N) (label : Labelling N M) (scope : Scope N) (k : ℕ) (fs : Tree N (items further_section)) → formals_constructor_count (relabel_sections naming label scope k fs) ≡ formals_constructor_count fs
 formals_constructor_count-relabel naming label scope k end = refl
 formals_constructor_count-relabel naming label scope k (more (then_section f) fs) = λ i.
-    (ap constructor_count (section_type-relabel naming label scope k f) ∙ constructor_count-map (label_of naming label scope) (label None) (section_type f)) i + formals_constructor_count-relabel naming label (declare_names k (section_names f) scope) (ordinal_after_names k (section_names f)) fs i
+    (ap constructor_count (parameter_section_type-relabel naming label scope k f) ∙ constructor_count-map (label_of naming label scope) (label None) (parameter_section_type f)) i + formals_constructor_count-relabel naming label (declare_names k (parameter_section_names f) scope) (ordinal_after_names k (parameter_section_names f)) fs i
 
 mutual
   pub block_constructor_count-relabel : {N M : Type 0} (naming : Naming N) (label : Labelling N M) (scope : Scope N) (k : ℕ) (b : Tree N block) → block_constructor_count (relabel_block naming label scope k b) ≡ block_constructor_count b
   block_constructor_count-relabel naming label scope k (forms_block (declares cs ts vs ps) statements) = λ i.
-      (ap types_constructor_count (types-section naming label (types_scope k (forms_block (declares cs ts vs ps) statements) scope) (first_type_ordinal k (forms_block (declares cs ts vs ps) statements)) ts) ∙ types_constructor_count-relabel naming label (types_scope k (forms_block (declares cs ts vs ps) statements) scope) (first_type_ordinal k (forms_block (declares cs ts vs ps) statements)) (section_types ts)) i
-      + ((ap variables_constructor_count (variables-section naming label (variables_scope k (forms_block (declares cs ts vs ps) statements) scope) (first_variable_ordinal k (forms_block (declares cs ts vs ps) statements)) vs) ∙ variables_constructor_count-relabel naming label (variables_scope k (forms_block (declares cs ts vs ps) statements) scope) (first_variable_ordinal k (forms_block (declares cs ts vs ps) statements)) (section_variables vs)) i
-      + procedures_constructor_count-relabel naming label (procedures_scope k (forms_block (declares cs ts vs ps) statements) scope) (first_procedure_ordinal k (forms_block (declares cs ts vs ps) statements)) ps i)
+      (ap types_constructor_count (types-section naming label (scope_before_types k (forms_block (declares cs ts vs ps) statements) scope) (first_type_ordinal k (forms_block (declares cs ts vs ps) statements)) ts) ∙ types_constructor_count-relabel naming label (scope_before_types k (forms_block (declares cs ts vs ps) statements) scope) (first_type_ordinal k (forms_block (declares cs ts vs ps) statements)) (section_types ts)) i
+      + ((ap variables_constructor_count (variables-section naming label (scope_before_variables k (forms_block (declares cs ts vs ps) statements) scope) (first_variable_ordinal k (forms_block (declares cs ts vs ps) statements)) vs) ∙ variables_constructor_count-relabel naming label (scope_before_variables k (forms_block (declares cs ts vs ps) statements) scope) (first_variable_ordinal k (forms_block (declares cs ts vs ps) statements)) (section_variables vs)) i
+      + procedures_constructor_count-relabel naming label (scope_before_procedures k (forms_block (declares cs ts vs ps) statements) scope) (first_procedure_ordinal k (forms_block (declares cs ts vs ps) statements)) ps i)
 
   pub procedures_constructor_count-relabel : {N M : Type 0} (naming : Naming N) (label : Labelling N M) (scope : Scope N) (k : ℕ) (ps : Tree N (items procedure)) → procedures_constructor_count (relabel_procedures naming label scope k ps) ≡ procedures_constructor_count ps
   procedures_constructor_count-relabel naming label scope k end = refl

@@ -2,7 +2,7 @@
 -- unchanged.
 use Rattle.std.proofs.Common.{List, Some, [], ap, length, map, option_and_then, option_map, refl, suc, ℕ, ◌+◌, ◌∙◌, ◌∷◌, ◌≡◌}
 use Rattle.ob0_tree.specs.Tree.{Tree, array_type, end, expression, factor, fields, further_fields, items, more, named_type, no_fields, occurrences, record_type, some_fields, then_fields, written_type}
-use Rattle.ob0_language_names.specs.Inlining.{OccurrenceSet, inline_in}
+use Rattle.ob0_language_names.specs.Inlining.{OccurrenceSet, inline_in_tree}
 use Rattle.ob0_language_names.specs.Names.{Name}
 use Rattle.ob0_language_names.specs.Parts.{names_in_list}
 use Rattle.ob0_language_values.specs.Values.{FieldShapes, Place, Shape, Value, array_shape, succeeds_with, record_shape}
@@ -25,7 +25,7 @@ abbrev pub NamesConstant : {V P : Type 0} → Meanings Name V P → Value → Na
 NamesConstant meaning w x = meaning.object_for x ≡ Some (a_constant w)
 
 pub constant_value-written : {V P : Type 0} (meaning : Meanings Name V P) (uses : OccurrenceSet) (v : Tree Name factor) (w : Value) → ConstantWritten meaning v w → (k : ℕ) (e : Tree Name expression) → EachUseHas uses (NamesConstant meaning w) k (occurrences e)
-    → constant_value meaning (inline_in uses v k e) ≡ constant_value meaning e
+    → constant_value meaning (inline_in_tree uses v k e) ≡ constant_value meaning e
 unfolding constant_value
 constant_value-written {V} {P} meaning uses v w h k e u =
     let u₁ : EachUseHas uses (NamesConstant {V = Shape} {P = Unit {0}} (constant_meanings meaning) w) k (occurrences e) = uses-map uses (NamesConstant meaning w) (NamesConstant (constant_meanings meaning) w) (λ x e. ap (λ o. option_map a_constant (constant_of o)) e) k (occurrences e) u in
@@ -34,16 +34,16 @@ constant_value-written {V} {P} meaning uses v w h k e u =
     (type_of-inlined {P = Unit {0}} (constant_meanings meaning) uses v w record { typed = h.typed } k e u₁ i)
 
 mutual
-  pub constructor_count-inlined : (uses : OccurrenceSet) (v : Tree Name factor) (k : ℕ) (t : Tree Name written_type) → constructor_count (inline_in uses v k t) ≡ constructor_count t
+  pub constructor_count-inlined : (uses : OccurrenceSet) (v : Tree Name factor) (k : ℕ) (t : Tree Name written_type) → constructor_count (inline_in_tree uses v k t) ≡ constructor_count t
   constructor_count-inlined uses v k (named_type x) = refl
   constructor_count-inlined uses v k (array_type e t) = λ i. suc (constructor_count-inlined uses v (k + length (occurrences e)) t i)
   constructor_count-inlined uses v k (record_type g rest) = λ i. suc (group_constructor_count-inlined uses v k g i + groups_constructor_count-inlined uses v (k + length (occurrences g)) rest i)
 
-  pub group_constructor_count-inlined : (uses : OccurrenceSet) (v : Tree Name factor) (k : ℕ) (g : Tree Name fields) → group_constructor_count (inline_in uses v k g) ≡ group_constructor_count g
+  pub group_constructor_count-inlined : (uses : OccurrenceSet) (v : Tree Name factor) (k : ℕ) (g : Tree Name fields) → group_constructor_count (inline_in_tree uses v k g) ≡ group_constructor_count g
   group_constructor_count-inlined uses v k no_fields = refl
   group_constructor_count-inlined uses v k (some_fields ns t) = constructor_count-inlined uses v k t
 
-  pub groups_constructor_count-inlined : (uses : OccurrenceSet) (v : Tree Name factor) (k : ℕ) (gs : Tree Name (items further_fields)) → groups_constructor_count (inline_in uses v k gs) ≡ groups_constructor_count gs
+  pub groups_constructor_count-inlined : (uses : OccurrenceSet) (v : Tree Name factor) (k : ℕ) (gs : Tree Name (items further_fields)) → groups_constructor_count (inline_in_tree uses v k gs) ≡ groups_constructor_count gs
   groups_constructor_count-inlined uses v k end = refl
   groups_constructor_count-inlined uses v k (more (then_fields g) rest) = λ i. group_constructor_count-inlined uses v k g i + groups_constructor_count-inlined uses v (k + length (occurrences g)) rest i
 
@@ -51,26 +51,26 @@ mutual
   unfolding denoted_type
 
   pub denoted_type-written : {V P : Type 0} (meaning : Meanings Name V P) (uses : OccurrenceSet) (v : Tree Name factor) (w : Value) → ConstantWritten meaning v w → (k j : ℕ) (t : Tree Name written_type) → EachUseHas uses (NamesConstant meaning w) k (occurrences t)
-      → denoted_type meaning j (inline_in uses v k t) ≡ denoted_type meaning j t
+      → denoted_type meaning j (inline_in_tree uses v k t) ≡ denoted_type meaning j t
   denoted_type-written meaning uses v w h k j (named_type x) u = refl
   denoted_type-written meaning uses v w h k j (array_type e t) u =
       let s = uses-split uses (NamesConstant meaning w) k (occurrences e) (occurrences t) u in
       λ i. constant_value-written meaning uses v w h k e s.0 i >>= (λ z. array_length z >>= (λ n. denoted_type-written meaning uses v w h (k + length (occurrences e)) (suc j) t s.1 i >>= (λ s. type_within_limits (array_shape j n s))))
   denoted_type-written meaning uses v w h k j (record_type g rest) u =
       let s = uses-split uses (NamesConstant meaning w) k (occurrences g) (occurrences rest) u in
-      λ i. ((λ m. denoted_further_fields meaning (suc j + group_constructor_count-inlined uses v k g m) (inline_in uses v (k + length (occurrences g)) rest)) ∙ denoted_further_fields-written meaning uses v w h (k + length (occurrences g)) (suc j + group_constructor_count g) rest s.1) i
+      λ i. ((λ m. denoted_further_fields meaning (suc j + group_constructor_count-inlined uses v k g m) (inline_in_tree uses v (k + length (occurrences g)) rest)) ∙ denoted_further_fields-written meaning uses v w h (k + length (occurrences g)) (suc j + group_constructor_count g) rest s.1) i
       >>= (λ later. denoted_group_fields-written meaning uses v w h k (suc j) later g s.0 i >>= (λ fs. type_within_limits (record_shape j fs)))
 
   pub denoted_group_fields-written : {V P : Type 0} (meaning : Meanings Name V P) (uses : OccurrenceSet) (v : Tree Name factor) (w : Value) → ConstantWritten meaning v w → (k j : ℕ) (later : FieldShapes) (g : Tree Name fields) → EachUseHas uses (NamesConstant meaning w) k (occurrences g)
-      → denoted_group_fields meaning j later (inline_in uses v k g) ≡ denoted_group_fields meaning j later g
+      → denoted_group_fields meaning j later (inline_in_tree uses v k g) ≡ denoted_group_fields meaning j later g
   denoted_group_fields-written meaning uses v w h k j later no_fields u = refl
   denoted_group_fields-written meaning uses v w h k j later (some_fields ns t) u = λ i.
       denoted_type-written meaning uses v w h k j t u i >>= (λ s. Some (prepend_fields (map meaning.written (names_in_list ns)) s later))
 
   pub denoted_further_fields-written : {V P : Type 0} (meaning : Meanings Name V P) (uses : OccurrenceSet) (v : Tree Name factor) (w : Value) → ConstantWritten meaning v w → (k j : ℕ) (gs : Tree Name (items further_fields)) → EachUseHas uses (NamesConstant meaning w) k (occurrences gs)
-      → denoted_further_fields meaning j (inline_in uses v k gs) ≡ denoted_further_fields meaning j gs
+      → denoted_further_fields meaning j (inline_in_tree uses v k gs) ≡ denoted_further_fields meaning j gs
   denoted_further_fields-written meaning uses v w h k j end u = refl
   denoted_further_fields-written meaning uses v w h k j (more (then_fields g) rest) u =
       let s = uses-split uses (NamesConstant meaning w) k (occurrences g) (occurrences rest) u in
-      λ i. ((λ m. denoted_further_fields meaning (j + group_constructor_count-inlined uses v k g m) (inline_in uses v (k + length (occurrences g)) rest)) ∙ denoted_further_fields-written meaning uses v w h (k + length (occurrences g)) (j + group_constructor_count g) rest s.1) i
+      λ i. ((λ m. denoted_further_fields meaning (j + group_constructor_count-inlined uses v k g m) (inline_in_tree uses v (k + length (occurrences g)) rest)) ∙ denoted_further_fields-written meaning uses v w h (k + length (occurrences g)) (j + group_constructor_count g) rest s.1) i
       >>= (λ later. denoted_group_fields-written meaning uses v w h k j later g s.0 i)

@@ -1,7 +1,7 @@
 -- An edited module is well-typed, because the facts that are known about the edit suffice for each part of the module.
 use Rattle.std.proofs.Common.{IsTrue, List, None, Option, Some, [], add-zero, ap, arith, codes, false, if◌then◌else◌, le_refl, lit<, ltb-false, nat_lt, option_and_then, refl, slice_get, subst, suc, sym, true, true≢false, zero-add, ℕ, ◌+◌, ◌<◌, ◌∙◌, ◌∷◌, ◌≡◌, ◌≢◌, ◌≤◌}
 use Rattle.ob0_tree.specs.Tree.{Tree, factor, is_module, module_text, occurrences}
-use Rattle.ob0_language_names.specs.Inlining.{OccurrenceSet, inline_in}
+use Rattle.ob0_language_names.specs.Inlining.{OccurrenceSet, inline_in_tree}
 use Rattle.ob0_language_names.specs.Occurrences.{ordinal_bound_at, label_ordinal}
 use Rattle.ob0_language_names.specs.Parts.{module_block}
 use Rattle.ob0_language_names.specs.OccurrenceLookup.{naming_for_lookup_of}
@@ -156,7 +156,7 @@ written-fitted (is_module x b closing) d w v uses c u =
     record {
       literal = record { written = c.literal; scalar = c.scalar; ordinal = seven.0 };
       here = each-block naming_by_spelling (naming_for_lookup_of (truth_name w)) (IsBound uses d) (IsShownAs uses w) (Here (writing uses v d) w)
-          (λ s j scope t both. (writes_at uses j scope (occurrences t) both, all-stay scope (occurrences (inline_in uses v j t))))
+          (λ s j scope t both. (writes_at uses j scope (occurrences t) both, all-stay scope (occurrences (inline_in_tree uses v j t))))
           0 (predeclared_scope naming_by_spelling) 7 b
           (all-at (IsBound uses d) 0 (occurrences (relabel_module naming_by_spelling (label_from_ordinal naming_by_spelling) m)) (λ i l e t. sym (ap (option_and_then label_ordinal) e) ∙ u.bound i (ap uses (sym (zero-add i)) ∙ t)))
           (all-shown m w uses u.seen);

@@ -3,8 +3,8 @@
 use Rattle.std.proofs.Common.{List, None, Option, Some, [], ap, arith, if◌then◌else◌, le-ltb, le_refl, le_trans, length, lt-ltb, nat_lt, option_and_then, option_map, refl, subst, subst₂, suc, sym, ℕ, ◌++◌, ◌+◌, ◌∙◌, ◌∷◌, ◌≡◌, ◌≤◌}
 use Rattle.ob0_tree.specs.Tree.{Tree, block, constants, declares, declares_constants, declares_procedure, declares_type, declares_types, declares_variable, declares_variables, end, formals, further_section, forms_block, item, items, maybe, more, no_formals, none, occurrences, one, procedure, section, some_formals, then_section, type_definition, type_definitions, value_section, variable, variable_section, variables}
 use Rattle.ob0_language_names.specs.Names.{Name, naming_by_spelling}
-use Rattle.ob0_language_names.specs.Parts.{block_constants, block_procedures, block_types, block_variables, constant_names, formal_names, formal_sections, declared_type_names, procedure_name, section_constants, section_names, section_type, section_types, section_variables, variable_names}
-use Rattle.ob0_language_names.specs.Scopes.{Scope, ordinal_after_block, ordinal_after_names, ordinal_after_procedure, ordinal_after_procedures, declare_names, first_procedure_ordinal, first_type_ordinal, first_variable_ordinal, types_scope, variables_scope}
+use Rattle.ob0_language_names.specs.Parts.{block_constants, block_procedures, block_types, block_variables, constant_names, formal_names, formal_sections, declared_type_names, procedure_name, section_constants, parameter_section_names, parameter_section_type, section_types, section_variables, variable_names}
+use Rattle.ob0_language_names.specs.Scopes.{Scope, ordinal_after_block, ordinal_after_names, ordinal_after_procedure, ordinal_after_procedures, declare_names, first_procedure_ordinal, first_type_ordinal, first_variable_ordinal, scope_before_types, scope_before_variables}
 use Rattle.ob0_language_names.proofs.EditedTrees.{Edit, edited_block, edited_constants, edited_procedure, edited_procedures, edited_section, leaf}
 use Rattle.ob0_language_names.proofs.Ordinals.{ordinal_after_names-append, declare_names-append, le-ordinal_after_block, le-ordinal_after_names, le-ordinal_after_procedure, le-ordinal_after_procedures}
 use Rattle.ob0_language_names.proofs.Places.{EachBlock, EachType}
@@ -111,13 +111,13 @@ formals-of edit j none = refl
 formals-of edit j (one no_formals) = refl
 formals-of edit j (one (some_formals s fs)) = refl
 
-pub section_type-leaf : (edit : Edit) (j : ℕ) (s : Tree Name section) → section_type (leaf edit j s) ≡ leaf edit j (section_type s)
-section_type-leaf edit j (value_section ns t) = refl
-section_type-leaf edit j (variable_section ns t) = refl
+pub parameter_section_type-leaf : (edit : Edit) (j : ℕ) (s : Tree Name section) → parameter_section_type (leaf edit j s) ≡ leaf edit j (parameter_section_type s)
+parameter_section_type-leaf edit j (value_section ns t) = refl
+parameter_section_type-leaf edit j (variable_section ns t) = refl
 
-pub section_names-leaf : (edit : Edit) (j : ℕ) (s : Tree Name section) → section_names (leaf edit j s) ≡ section_names s
-section_names-leaf edit j (value_section ns t) = refl
-section_names-leaf edit j (variable_section ns t) = refl
+pub parameter_section_names-leaf : (edit : Edit) (j : ℕ) (s : Tree Name section) → parameter_section_names (leaf edit j s) ≡ parameter_section_names s
+parameter_section_names-leaf edit j (value_section ns t) = refl
+parameter_section_names-leaf edit j (variable_section ns t) = refl
 
 pub section_mode-leaf : (edit : Edit) (j : ℕ) (s : Tree Name section) → section_mode (leaf edit j s) ≡ section_mode s
 section_mode-leaf edit j (value_section ns t) = refl
@@ -136,7 +136,7 @@ variables_constructor_count-leaf edit j (more (declares_variable ns t) gs) = λ 
 pub formals_constructor_count-leaf : (edit : Edit) (j : ℕ) (fs : Tree Name (items further_section)) → formals_constructor_count (leaf edit j fs) ≡ formals_constructor_count fs
 formals_constructor_count-leaf edit j end = refl
 formals_constructor_count-leaf edit j (more (then_section s) fs) = λ i.
-    (ap constructor_count (section_type-leaf edit j s) ∙ constructor_count-inlined edit.uses edit.literal j (section_type s)) i + formals_constructor_count-leaf edit (j + length (occurrences s)) fs i
+    (ap constructor_count (parameter_section_type-leaf edit j s) ∙ constructor_count-inlined edit.uses edit.literal j (parameter_section_type s)) i + formals_constructor_count-leaf edit (j + length (occurrences s)) fs i
 
 mutual
   pub block_constructor_count-edited : (edit : Edit) (j k : ℕ) (b : Tree Name block) → block_constructor_count (edited_block edit j k b) ≡ block_constructor_count b
@@ -251,7 +251,7 @@ body-has_value edit w known k x closing fs b has_value l m =
 -- one.
 pub first-edited : {V P Q : Type 0} (edit : Edit) (w : Value) → Literal edit w → (X : Marks V P → Name → ℕ → P → Type 0) (p q : ℕ → P → Q) (i j k : ℕ) (marks : Marks V P) → Sound edit w X k marks → 7 ≤ k → (b : Tree Name block)
     → EachBlock (Here edit w) j (scope_marked marks) k b → HasValueBetween edit w k (ordinal_after_block k b) (value_in_block (knowns marks) edit.constant k b)
-    → Agree (read p) (read_edited edit q) (Left edit w X (first_variable_ordinal k b) (variables_scope k b (scope_marked marks)) (option_map (bind_names (declared_type_names (block_types b)) non_constant) (declare_constants naming_by_spelling (knowns marks) (block_constants b))))
+    → Agree (read p) (read_edited edit q) (Left edit w X (first_variable_ordinal k b) (scope_before_variables k b (scope_marked marks)) (option_map (bind_names (declared_type_names (block_types b)) non_constant) (declare_constants naming_by_spelling (knowns marks) (block_constants b))))
     (declare_constants_and_types naming_by_spelling (read p marks) i b) (declare_constants_and_types naming_by_spelling (read_edited edit q marks) i (edited_block edit j k b))
 unfolding declare_constants_and_types
 first-edited {V} {P} {Q} edit w lit X p q i j k marks s seven (forms_block (declares cs ts vs ps) statements) here has_value =
@@ -259,8 +259,8 @@ first-edited {V} {P} {Q} edit w lit X p q i j k marks s seven (forms_block (decl
     let known : Option ConstantEnvironment = declare_constants naming_by_spelling (knowns marks) (section_constants cs) in
     let above : k ≤ first_type_ordinal k b = le-ordinal_after_names k (constant_names (section_constants cs)) in
     let variables : first_variable_ordinal k b ≤ first_procedure_ordinal k b = le-ordinal_after_names (first_variable_ordinal k b) (variable_names (section_variables vs)) in
-    let Middle : Marks V P → Type 0 = Left edit w X (first_type_ordinal k b) (types_scope k b (scope_marked marks)) known in
-    let Result : Marks V P → Type 0 = Left edit w X (first_variable_ordinal k b) (variables_scope k b (scope_marked marks)) (option_map (bind_names (declared_type_names (section_types ts)) non_constant) known) in
+    let Middle : Marks V P → Type 0 = Left edit w X (first_type_ordinal k b) (scope_before_types k b (scope_marked marks)) known in
+    let Result : Marks V P → Type 0 = Left edit w X (first_variable_ordinal k b) (scope_before_variables k b (scope_marked marks)) (option_map (bind_names (declared_type_names (section_types ts)) non_constant) known) in
     subst₂ (λ cs' ts'. Agree (read p) (read_edited edit q) Result (option_and_then (λ env. declare_types naming_by_spelling env i (section_types ts)) (declare_constants naming_by_spelling (read p marks) (section_constants cs)))
     (option_and_then (λ env. declare_types naming_by_spelling env i ts') (declare_constants naming_by_spelling (read_edited edit q marks) cs')))
     (sym (constants-of edit j k cs)) (sym (types-of edit (j + length (occurrences cs)) ts))
@@ -271,7 +271,7 @@ first-edited {V} {P} {Q} edit w lit X p q i j k marks s seven (forms_block (decl
     (λ inner left. agree-weaken (read p) (read_edited edit q)
     (Left edit w X (first_variable_ordinal k b) (declare_names (first_type_ordinal k b) (declared_type_names (section_types ts)) (scope_marked inner)) (Some (bind_names (declared_type_names (section_types ts)) non_constant (knowns inner)))) Result
     (declare_types naming_by_spelling (read p inner) i (section_types ts)) (declare_types naming_by_spelling (read_edited edit q inner) i (leaf edit (j + length (occurrences cs)) (section_types ts)))
-    (λ m last. left-then edit w X (first_variable_ordinal k b) (declare_names (first_type_ordinal k b) (declared_type_names (section_types ts)) (scope_marked inner)) (scope_marked inner) (variables_scope k b (scope_marked marks)) (bind_names (declared_type_names (section_types ts)) non_constant) known (knowns inner) m
+    (λ m last. left-then edit w X (first_variable_ordinal k b) (declare_names (first_type_ordinal k b) (declared_type_names (section_types ts)) (scope_marked inner)) (scope_marked inner) (scope_before_variables k b (scope_marked marks)) (bind_names (declared_type_names (section_types ts)) non_constant) known (knowns inner) m
     (ap (declare_names (first_type_ordinal k b) (declared_type_names (section_types ts))) left.scoped) left.value last)
     (types-edited edit w lit X p q i (j + length (occurrences cs)) (first_type_ordinal k b) inner left.sound (omega (arith, seven, above)) (section_types ts)
     (subst (λ scope. EachType (Here edit w) (j + length (occurrences cs)) scope (first_type_ordinal k b) (section_types ts)) (sym left.scoped) here.1)

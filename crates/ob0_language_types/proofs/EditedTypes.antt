@@ -2,8 +2,8 @@
 use Rattle.std.proofs.Common.{List, None, Option, Some, [], ap, arith, false, if◌then◌else◌, le_of_lt, le_refl, le_trans, length, map, nat_lt, negsuc, option_and_then, option_map, pos, refl, subst, subst₂, suc, sym, true, ℕ, ⊎_elim, ◌&&◌, ◌++◌, ◌+◌, ◌<◌, ◌∙◌, ◌∷◌, ◌≡◌, ◌≤◌}
 use Rattle.ob0_tree.specs.Tree.{Tree, adds, begins, block, body, compares, declares, declares_procedure, declares_variable, end, factor, further_section, forms_block, integer, item, items, maybe, more, none, occurrences, one, parenthesised, procedure, product, sequence, sum, then_section, variable, written_type}
 use Rattle.ob0_language_names.specs.Names.{Name, naming_by_spelling}
-use Rattle.ob0_language_names.specs.Parts.{block_constants, block_types, block_variables, constant_names, formal_names, formal_sections, declared_type_names, names_in_list, section_constants, section_names, section_type, section_types, section_variables, variable_names}
-use Rattle.ob0_language_names.specs.Scopes.{Scope, ordinal_after_block, ordinal_after_names, ordinal_after_procedure, ordinal_after_procedures, declare_names, declare_procedure_names, first_procedure_ordinal, first_type_ordinal, first_variable_ordinal, procedures_scope, variables_scope}
+use Rattle.ob0_language_names.specs.Parts.{block_constants, block_types, block_variables, constant_names, formal_names, formal_sections, declared_type_names, names_in_list, section_constants, parameter_section_names, parameter_section_type, section_types, section_variables, variable_names}
+use Rattle.ob0_language_names.specs.Scopes.{Scope, ordinal_after_block, ordinal_after_names, ordinal_after_procedure, ordinal_after_procedures, declare_names, declare_procedure_names, first_procedure_ordinal, first_type_ordinal, first_variable_ordinal, scope_before_procedures, scope_before_variables}
 use Rattle.ob0_language_names.proofs.EditedTrees.{Edit, SameAt, edited_block, edited_procedure, edited_procedures, inline-nothing, leaf, map_names-same}
 use Rattle.ob0_language_names.proofs.Ordinals.{ordinal_after_names-append, le-ordinal_after_names, le-ordinal_after_procedure}
 use Rattle.ob0_language_names.proofs.Places.{EachBlock, EachProcedure, EachSection, EachVariable}
@@ -19,7 +19,7 @@ use Rattle.ob0_language_types.specs.Written.{value_literal}
 use Rattle.ob0_language_types.proofs.Agreeing.{Agree, agree-then}
 use Rattle.ob0_language_types.proofs.DenotedInlined.{constructor_count-inlined}
 use Rattle.ob0_language_types.proofs.EditedDeclarations.{Left, Outside, HasValueBetween, agree-known, not-constant, outside-right}
-use Rattle.ob0_language_types.proofs.EditedParts.{agree-weaken, all-left, bind_all, bind_all-names, body-has_value, edited-all, first-edited, formals-of, formals_constructor_count-leaf, bind_procedure-outside, left-join, left-then, mark_all, names_of, names_of-with_value, own-has_value, procedure_constructor_count-edited, procedures-has_value, read-all, rest-has_value, section_mode-leaf, section_names-leaf, section_type-leaf, types-below, types-of, types-outside, types_constructor_count-leaf, variables-of, variables_constructor_count-leaf, with_value}
+use Rattle.ob0_language_types.proofs.EditedParts.{agree-weaken, all-left, bind_all, bind_all-names, body-has_value, edited-all, first-edited, formals-of, formals_constructor_count-leaf, bind_procedure-outside, left-join, left-then, mark_all, names_of, names_of-with_value, own-has_value, procedure_constructor_count-edited, procedures-has_value, read-all, rest-has_value, section_mode-leaf, parameter_section_names-leaf, parameter_section_type-leaf, types-below, types-of, types-outside, types_constructor_count-leaf, variables-of, variables_constructor_count-leaf, with_value}
 use Rattle.ob0_language_types.proofs.FitInlined.{alone, sequence_is_well_typed-written}
 use Rattle.ob0_language_types.proofs.FitNaturality.{sequence_is_well_typed-map}
 use Rattle.ob0_language_types.proofs.Leaves.{AllStay, Here, Literal, Tag, as_field, denoted_type-leaf, edited-object_for, edited_meanings, none-used, read-object_for, read_meanings, seen-read, shown, tagged, uses-read}
@@ -141,10 +141,10 @@ pub parameters-edited : (edit : Edit) (w : Value) → Literal edit w → (i j k 
 unfolding typed_parameters
 parameters-edited edit w lit i j k marks s seven end here outside = (Some [], refl, refl, refl)
 parameters-edited edit w lit i j k marks s seven (more (then_section f) fs) here outside =
-    let xs : List Name = section_names f in
+    let xs : List Name = parameter_section_names f in
     let ys : List Name = formal_names fs in
     let n : ℕ = ordinal_after_names k xs in
-    let t : Tree Name written_type = section_type f in
+    let t : Tree Name written_type = parameter_section_type f in
     let fs' : Tree Name (items further_section) = leaf edit (j + length (occurrences f)) fs in
     let above : k ≤ n = le-ordinal_after_names k xs in
     let joined : ordinal_after_names k (xs ++ ys) ≡ ordinal_after_names n ys = ordinal_after_names-append k xs ys in
@@ -153,8 +153,8 @@ parameters-edited edit w lit i j k marks s seven (more (then_section f) fs) here
     let before : Shape → Option (List (TypedParameter Name)) = λ shape. whole (section_mode f) xs shape (typed_parameters naming_by_spelling (bind_names xs (a_variable shape) (read as_signed marks)) (i + constructor_count t) fs) in
     let after : Shape → Option (List (TypedParameter Name)) = λ shape. whole (section_mode f) xs shape (typed_parameters naming_by_spelling (bind_names xs (a_variable shape) (read_edited edit as_signed marks)) (i + constructor_count t) fs') in
     subst (λ z. Agree (λ ps. ps) (λ ps. ps) (λ ps. typed_names ps ≡ xs ++ ys) (option_and_then before (denoted_type (read_meanings as_signed marks) i t)) z)
-    (sym (λ m. option_and_then (λ shape. whole (section_mode-leaf edit j f m) (section_names-leaf edit j f m) shape (typed_parameters naming_by_spelling (bind_names (section_names-leaf edit j f m) (a_variable shape) (read_edited edit as_signed marks)) (i + (ap constructor_count (section_type-leaf edit j f) ∙ constructor_count-inlined edit.uses edit.literal j t) m) fs'))
-    (denoted_type (edited_meanings edit as_signed marks) i (section_type-leaf edit j f m))))
+    (sym (λ m. option_and_then (λ shape. whole (section_mode-leaf edit j f m) (parameter_section_names-leaf edit j f m) shape (typed_parameters naming_by_spelling (bind_names (parameter_section_names-leaf edit j f m) (a_variable shape) (read_edited edit as_signed marks)) (i + (ap constructor_count (parameter_section_type-leaf edit j f) ∙ constructor_count-inlined edit.uses edit.literal j t) m) fs'))
+    (denoted_type (edited_meanings edit as_signed marks) i (parameter_section_type-leaf edit j f m))))
     (agree-known (λ ps. ps) (λ ps. ps) (λ ps. typed_names ps ≡ xs ++ ys) before after
     (denoted_type (read_meanings as_signed marks) i t) (denoted_type (edited_meanings edit as_signed marks) i (leaf edit j t)) (denoted_type-leaf edit w lit anything as_signed as_signed k marks s j i t here.0)
     (λ shape known.
@@ -172,7 +172,7 @@ parameters-edited edit w lit i j k marks s seven (more (then_section f) fs) here
 pub declarations-edited : (edit : Edit) (w : Value) → Literal edit w → (i j k : ℕ) (marks : Marks Shape Signature) → Checked edit w k marks → 7 ≤ k → (b : Tree Name block)
     → EachBlock (Here edit w) j (scope_marked marks) k b → HasValueBetween edit w k (ordinal_after_block k b) (value_in_block (knowns marks) edit.constant k b)
     → Agree (read as_signed) (read_edited edit as_signed)
-    (LeftTyped edit w (first_procedure_ordinal k b) (procedures_scope k b (scope_marked marks)) (option_map (bind_names (variable_names (block_variables b)) non_constant) (option_map (bind_names (declared_type_names (block_types b)) non_constant) (declare_constants naming_by_spelling (knowns marks) (block_constants b)))))
+    (LeftTyped edit w (first_procedure_ordinal k b) (scope_before_procedures k b (scope_marked marks)) (option_map (bind_names (variable_names (block_variables b)) non_constant) (option_map (bind_names (declared_type_names (block_types b)) non_constant) (declare_constants naming_by_spelling (knowns marks) (block_constants b)))))
     (option_and_then (declare_typed_variables naming_by_spelling (constructors_before_variables i b) (block_variables b)) (declare_constants_and_types naming_by_spelling (read as_signed marks) i b))
     (option_and_then (declare_typed_variables naming_by_spelling (constructors_before_variables i (edited_block edit j k b)) (block_variables (edited_block edit j k b))) (declare_constants_and_types naming_by_spelling (read_edited edit as_signed marks) i (edited_block edit j k b)))
 declarations-edited edit w lit i j k marks s seven (forms_block (declares cs ts vs ps) statements) here has_value =
@@ -182,8 +182,8 @@ declarations-edited edit w lit i j k marks s seven (forms_block (declares cs ts 
     let known : Option ConstantEnvironment = option_map (bind_names (declared_type_names (section_types ts)) non_constant) (declare_constants naming_by_spelling (knowns marks) (section_constants cs)) in
     let types : first_type_ordinal k b ≤ first_variable_ordinal k b = le-ordinal_after_names (first_type_ordinal k b) (declared_type_names (section_types ts)) in
     let above : k ≤ first_type_ordinal k b = le-ordinal_after_names k (constant_names (section_constants cs)) in
-    let Middle : Marks Shape Signature → Type 0 = LeftTyped edit w (first_variable_ordinal k b) (variables_scope k b (scope_marked marks)) known in
-    let Result : Marks Shape Signature → Type 0 = LeftTyped edit w (first_procedure_ordinal k b) (procedures_scope k b (scope_marked marks)) (option_map (bind_names (variable_names (section_variables vs)) non_constant) known) in
+    let Middle : Marks Shape Signature → Type 0 = LeftTyped edit w (first_variable_ordinal k b) (scope_before_variables k b (scope_marked marks)) known in
+    let Result : Marks Shape Signature → Type 0 = LeftTyped edit w (first_procedure_ordinal k b) (scope_before_procedures k b (scope_marked marks)) (option_map (bind_names (variable_names (section_variables vs)) non_constant) known) in
     subst₂ (λ n gs. Agree (read as_signed) (read_edited edit as_signed) Result (option_and_then (declare_typed_variables naming_by_spelling (constructors_before_variables i b) (section_variables vs)) (declare_constants_and_types naming_by_spelling (read as_signed marks) i b))
     (option_and_then (declare_typed_variables naming_by_spelling (i + n) gs) (declare_constants_and_types naming_by_spelling (read_edited edit as_signed marks) i (edited_block edit j k b))))
     (sym (ap types_constructor_count (types-of edit jt ts) ∙ types_constructor_count-leaf edit jt (section_types ts))) (sym (variables-of edit jv vs))
@@ -194,7 +194,7 @@ declarations-edited edit w lit i j k marks s seven (forms_block (declares cs ts 
     (λ inner left. agree-weaken (read as_signed) (read_edited edit as_signed)
     (LeftTyped edit w (first_procedure_ordinal k b) (declare_names (first_variable_ordinal k b) (variable_names (section_variables vs)) (scope_marked inner)) (Some (bind_names (variable_names (section_variables vs)) non_constant (knowns inner)))) Result
     (declare_typed_variables naming_by_spelling (constructors_before_variables i b) (section_variables vs) (read as_signed inner)) (declare_typed_variables naming_by_spelling (constructors_before_variables i b) (leaf edit jv (section_variables vs)) (read_edited edit as_signed inner))
-    (λ m last. left-then edit w anything (first_procedure_ordinal k b) (declare_names (first_variable_ordinal k b) (variable_names (section_variables vs)) (scope_marked inner)) (scope_marked inner) (procedures_scope k b (scope_marked marks)) (bind_names (variable_names (section_variables vs)) non_constant) known (knowns inner) m
+    (λ m last. left-then edit w anything (first_procedure_ordinal k b) (declare_names (first_variable_ordinal k b) (variable_names (section_variables vs)) (scope_marked inner)) (scope_marked inner) (scope_before_procedures k b (scope_marked marks)) (bind_names (variable_names (section_variables vs)) non_constant) known (knowns inner) m
     (ap (declare_names (first_variable_ordinal k b) (variable_names (section_variables vs))) left.scoped) left.value last)
     (variables-edited edit w lit (constructors_before_variables i b) jv (first_variable_ordinal k b) inner left.sound (omega (arith, seven, above, types)) (section_variables vs)
     (subst (λ scope. EachVariable (Here edit w) jv scope (first_variable_ordinal k b) (section_variables vs)) (sym left.scoped) here.2)
@@ -229,7 +229,7 @@ mutual
       let js : ℕ = j + length (occurrences (declares cs ts vs ps)) in
       let above : k ≤ first_procedure_ordinal k b = procedures-below k b in
       hold-agrees (read as_signed) (read_edited edit as_signed)
-      (LeftTyped edit w (first_procedure_ordinal k b) (procedures_scope k b (scope_marked marks)) (option_map (bind_names (variable_names (section_variables vs)) non_constant) (option_map (bind_names (declared_type_names (section_types ts)) non_constant) (declare_constants naming_by_spelling (knowns marks) (section_constants cs)))))
+      (LeftTyped edit w (first_procedure_ordinal k b) (scope_before_procedures k b (scope_marked marks)) (option_map (bind_names (variable_names (section_variables vs)) non_constant) (option_map (bind_names (declared_type_names (section_types ts)) non_constant) (declare_constants naming_by_spelling (knowns marks) (section_constants cs)))))
       (option_and_then (declare_typed_variables naming_by_spelling (constructors_before_variables i b) (section_variables vs)) (declare_constants_and_types naming_by_spelling (read as_signed marks) i b))
       (option_and_then (declare_typed_variables naming_by_spelling (constructors_before_variables i b') (block_variables b')) (declare_constants_and_types naming_by_spelling (read_edited edit as_signed marks) i b'))
       (λ inner. procedures_are_well_typed naming_by_spelling inner (constructors_before_procedures i b) statements ps)

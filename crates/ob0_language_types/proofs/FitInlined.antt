@@ -1,10 +1,10 @@
 -- Replacing uses of a constant by its literal leaves a statement well-typed exactly if it was.
 use Rattle.std.proofs.Common.{List, None, Option, Some, [], ap, false, if◌then◌else◌, length, refl, suc, sym, true, ℕ, ◌&&◌, ◌++◌, ◌+◌, ◌∙◌, ◌∷◌, ◌≡◌}
 use Rattle.ob0_tree.specs.Tree.{Tree, addend, arguments, assigns, branches, calls, compares, comparison, designator, else_branch, else_part, elsif_branch, elsif_part, empty, end, expression, factor, further_argument, further_statement, integer, item, items, maybe, more, multiplier, negation, no_arguments, none, occurrences, one, parenthesised, product, repeat_loop, runs, selector, sequence, some_arguments, statement, sum, then_argument, then_statement, while_loop}
-use Rattle.ob0_language_names.specs.Inlining.{OccurrenceSet, inline_in}
+use Rattle.ob0_language_names.specs.Inlining.{OccurrenceSet, inline_in_tree}
 use Rattle.ob0_language_names.specs.Names.{Name}
 use Rattle.ob0_language_values.specs.Values.{Value, boolean_shape}
-use Rattle.ob0_language_types.specs.Arguments.{arguments_listed, further_arguments}
+use Rattle.ob0_language_types.specs.Arguments.{call_arguments, further_arguments}
 use Rattle.ob0_language_types.specs.Expressions.{a_constant, a_variable}
 use Rattle.ob0_language_types.specs.Laws.{EachUseHas}
 use Rattle.ob0_language_types.specs.Typing.{lone_designator, type_after_selectors, type_of, type_of_factor, value_type}
@@ -42,11 +42,11 @@ pub record Written (checked : TypeMeanings Name) (v : Tree Name factor) (w : Val
 abbrev pub AreUses : TypeMeanings Name → Value → OccurrenceSet → ℕ → List Name → Type 0
 AreUses checked w uses k xs = EachUseHas uses (IsConstant checked w) k xs
 
-pub type-written : (checked : TypeMeanings Name) (uses : OccurrenceSet) (v : Tree Name factor) (w : Value) → Written checked v w → (k : ℕ) (e : Tree Name expression) → AreUses checked w uses k (occurrences e) → type_of checked (inline_in uses v k e) ≡ type_of checked e
+pub type-written : (checked : TypeMeanings Name) (uses : OccurrenceSet) (v : Tree Name factor) (w : Value) → Written checked v w → (k : ℕ) (e : Tree Name expression) → AreUses checked w uses k (occurrences e) → type_of checked (inline_in_tree uses v k e) ≡ type_of checked e
 type-written checked uses v w h k e u = type_of-inlined checked uses v w record { typed = h.typed } k e u
 
 pub variable-written : (checked : TypeMeanings Name) (uses : OccurrenceSet) (v : Tree Name factor) (w : Value) → Written checked v w → (k : ℕ) (x : Name) (path : Tree Name (items selector)) → AreUses checked w uses k (occurrences path)
-    → variable_type checked (Some (x, inline_in uses v k path)) ≡ variable_type checked (Some (x, path))
+    → variable_type checked (Some (x, inline_in_tree uses v k path)) ≡ variable_type checked (Some (x, path))
 unfolding variable_type
 variable-written checked uses v w h k x path u = λ i.
     elim (checked.object_for x) [ Some (a_variable s) ↦ type_after_selectors-inlined checked uses v w record { typed = h.typed } k s path u i | _ ↦ None ]
@@ -56,7 +56,7 @@ unfolding variable_type
 use-no_variable checked x w e = ap (λ o. elim o [ Some (a_variable s) ↦ type_after_selectors checked s end | _ ↦ None ]) e
 
 pub lone_designator-written : (checked : TypeMeanings Name) (uses : OccurrenceSet) (v : Tree Name factor) (w : Value) → Written checked v w → (k : ℕ) (e : Tree Name expression) → AreUses checked w uses k (occurrences e)
-    → variable_type checked (lone_designator (inline_in uses v k e)) ≡ variable_type checked (lone_designator e)
+    → variable_type checked (lone_designator (inline_in_tree uses v k e)) ≡ variable_type checked (lone_designator e)
 lone_designator-written checked uses v w h k (compares (sum None (product (designator x end) end) end) none) u =
     (elim (uses k) as (λ b. uses k ≡ b → variable_type checked (lone_designator (alone (if b then v else designator x end))) ≡ variable_type checked (Some (x, end)))
     [ true ↦ λ e. h.no_variable ∙ sym (use-no_variable checked x w (u.0 e)) | false ↦ λ e. refl ]) refl
@@ -71,13 +71,13 @@ lone_designator-written checked uses v w h k (compares (sum None (product (desig
 lone_designator-written checked uses v w h k _ u = refl
 
 pub argument_matches-written : (checked : TypeMeanings Name) (uses : OccurrenceSet) (v : Tree Name factor) (w : Value) → Written checked v w → (f : FormalParameter) (k : ℕ) (e : Tree Name expression) → AreUses checked w uses k (occurrences e)
-    → argument_matches checked f (inline_in uses v k e) ≡ argument_matches checked f e
+    → argument_matches checked f (inline_in_tree uses v k e) ≡ argument_matches checked f e
 unfolding argument_matches
 argument_matches-written checked uses v w h f k e u = λ i.
     same_known_shape (Some f.shape) (elim f.mode [ by_value ↦ type-written checked uses v w h k e u i | by_place ↦ lone_designator-written checked uses v w h k e u i ])
 
 pub further_fit-written : (checked : TypeMeanings Name) (uses : OccurrenceSet) (v : Tree Name factor) (w : Value) → Written checked v w → (fs : Signature) (k : ℕ) (es : Tree Name (items further_argument)) → AreUses checked w uses k (occurrences es)
-    → arguments_match checked fs (further_arguments (inline_in uses v k es)) ≡ arguments_match checked fs (further_arguments es)
+    → arguments_match checked fs (further_arguments (inline_in_tree uses v k es)) ≡ arguments_match checked fs (further_arguments es)
 unfolding arguments_match
 further_fit-written checked uses v w h [] k end u = refl
 further_fit-written checked uses v w h (f ∷ fs) k end u = refl
@@ -87,7 +87,7 @@ further_fit-written checked uses v w h (f ∷ fs) k (more (then_argument e) es) 
     λ i. argument_matches-written checked uses v w h f k e s.0 i && further_fit-written checked uses v w h fs (k + length (occurrences e)) es s.1 i
 
 pub arguments_match-written : (checked : TypeMeanings Name) (uses : OccurrenceSet) (v : Tree Name factor) (w : Value) → Written checked v w → (fs : Signature) (k : ℕ) (es : Tree Name (maybe arguments)) → AreUses checked w uses k (occurrences es)
-    → arguments_match checked fs (arguments_listed (inline_in uses v k es)) ≡ arguments_match checked fs (arguments_listed es)
+    → arguments_match checked fs (call_arguments (inline_in_tree uses v k es)) ≡ arguments_match checked fs (call_arguments es)
 unfolding arguments_match
 arguments_match-written checked uses v w h fs k none u = refl
 arguments_match-written checked uses v w h fs k (one no_arguments) u = refl
@@ -97,13 +97,13 @@ arguments_match-written checked uses v w h (f ∷ fs) k (one (some_arguments e e
     λ i. argument_matches-written checked uses v w h f k e s.0 i && further_fit-written checked uses v w h fs (k + length (occurrences e)) es s.1 i
 
 pub call_is_well_typed-written : (checked : TypeMeanings Name) (uses : OccurrenceSet) (v : Tree Name factor) (w : Value) → Written checked v w → (signature : Option Signature) (k : ℕ) (es : Tree Name (maybe arguments)) → AreUses checked w uses k (occurrences es)
-    → call_is_well_typed checked signature (arguments_listed (inline_in uses v k es)) ≡ call_is_well_typed checked signature (arguments_listed es)
+    → call_is_well_typed checked signature (call_arguments (inline_in_tree uses v k es)) ≡ call_is_well_typed checked signature (call_arguments es)
 unfolding call_is_well_typed
 call_is_well_typed-written checked uses v w h None k es u = refl
 call_is_well_typed-written checked uses v w h (Some fs) k es u = arguments_match-written checked uses v w h fs k es u
 
 pub condition_is_boolean-written : (checked : TypeMeanings Name) (uses : OccurrenceSet) (v : Tree Name factor) (w : Value) → Written checked v w → (k : ℕ) (e : Tree Name expression) → AreUses checked w uses k (occurrences e)
-    → condition_is_boolean checked (inline_in uses v k e) ≡ condition_is_boolean checked e
+    → condition_is_boolean checked (inline_in_tree uses v k e) ≡ condition_is_boolean checked e
 unfolding condition_is_boolean
 condition_is_boolean-written checked uses v w h k e u = λ i. same_known_shape (Some boolean_shape) (type-written checked uses v w h k e u i)
 
@@ -111,7 +111,7 @@ mutual
   unfolding statement_is_well_typed
 
   pub statement_is_well_typed-written : (checked : TypeMeanings Name) (uses : OccurrenceSet) (v : Tree Name factor) (w : Value) → Written checked v w → (k : ℕ) (a : Tree Name statement) → AreUses checked w uses k (occurrences a)
-      → statement_is_well_typed checked (inline_in uses v k a) ≡ statement_is_well_typed checked a
+      → statement_is_well_typed checked (inline_in_tree uses v k a) ≡ statement_is_well_typed checked a
   statement_is_well_typed-written checked uses v w h k empty u = refl
   statement_is_well_typed-written checked uses v w h k (assigns x path e) u =
       let s = uses-split uses (IsConstant checked w) (suc k) (occurrences path) (occurrences e) u.1 in
@@ -133,20 +133,20 @@ mutual
       λ i. sequence_is_well_typed-written checked uses v w h k statements s.0 i && condition_is_boolean-written checked uses v w h (k + length (occurrences statements)) e s.1 i
 
   pub sequence_is_well_typed-written : (checked : TypeMeanings Name) (uses : OccurrenceSet) (v : Tree Name factor) (w : Value) → Written checked v w → (k : ℕ) (a : Tree Name sequence) → AreUses checked w uses k (occurrences a)
-      → sequence_is_well_typed checked (inline_in uses v k a) ≡ sequence_is_well_typed checked a
+      → sequence_is_well_typed checked (inline_in_tree uses v k a) ≡ sequence_is_well_typed checked a
   sequence_is_well_typed-written checked uses v w h k (runs a rest) u =
       let s = uses-split uses (IsConstant checked w) k (occurrences a) (occurrences rest) u in
       λ i. statement_is_well_typed-written checked uses v w h k a s.0 i && further_statements_are_well_typed-written checked uses v w h (k + length (occurrences a)) rest s.1 i
 
   pub further_statements_are_well_typed-written : (checked : TypeMeanings Name) (uses : OccurrenceSet) (v : Tree Name factor) (w : Value) → Written checked v w → (k : ℕ) (a : Tree Name (items further_statement)) → AreUses checked w uses k (occurrences a)
-      → further_statements_are_well_typed checked (inline_in uses v k a) ≡ further_statements_are_well_typed checked a
+      → further_statements_are_well_typed checked (inline_in_tree uses v k a) ≡ further_statements_are_well_typed checked a
   further_statements_are_well_typed-written checked uses v w h k end u = refl
   further_statements_are_well_typed-written checked uses v w h k (more (then_statement a) rest) u =
       let s = uses-split uses (IsConstant checked w) k (occurrences a) (occurrences rest) u in
       λ i. statement_is_well_typed-written checked uses v w h k a s.0 i && further_statements_are_well_typed-written checked uses v w h (k + length (occurrences a)) rest s.1 i
 
   pub elsifs_are_well_typed-written : (checked : TypeMeanings Name) (uses : OccurrenceSet) (v : Tree Name factor) (w : Value) → Written checked v w → (k : ℕ) (a : Tree Name (items elsif_part)) → AreUses checked w uses k (occurrences a)
-      → elsifs_are_well_typed checked (inline_in uses v k a) ≡ elsifs_are_well_typed checked a
+      → elsifs_are_well_typed checked (inline_in_tree uses v k a) ≡ elsifs_are_well_typed checked a
   elsifs_are_well_typed-written checked uses v w h k end u = refl
   elsifs_are_well_typed-written checked uses v w h k (more (elsif_branch e statements) rest) u =
       let s = uses-split uses (IsConstant checked w) k (occurrences e ++ occurrences statements) (occurrences rest) u in
@@ -155,6 +155,6 @@ mutual
       && (sequence_is_well_typed-written checked uses v w h (k + length (occurrences e)) statements s₁.1 i && elsifs_are_well_typed-written checked uses v w h (k + length (occurrences e ++ occurrences statements)) rest s.1 i)
 
   pub else_is_well_typed-written : (checked : TypeMeanings Name) (uses : OccurrenceSet) (v : Tree Name factor) (w : Value) → Written checked v w → (k : ℕ) (a : Tree Name (maybe else_part)) → AreUses checked w uses k (occurrences a)
-      → else_is_well_typed checked (inline_in uses v k a) ≡ else_is_well_typed checked a
+      → else_is_well_typed checked (inline_in_tree uses v k a) ≡ else_is_well_typed checked a
   else_is_well_typed-written checked uses v w h k none u = refl
   else_is_well_typed-written checked uses v w h k (one (else_branch statements)) u = sequence_is_well_typed-written checked uses v w h k statements u

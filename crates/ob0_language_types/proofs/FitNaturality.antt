@@ -3,7 +3,7 @@
 use Rattle.std.proofs.Common.{◌≡◌, ◌&&◌, List, [], ◌∷◌, map, Some, None, Option, option_map, refl, ap, ◌∙◌}
 use Rattle.ob0_tree.specs.Tree.{Tree, arguments, assigns, branches, calls, else_branch, else_part, elsif_branch, elsif_part, empty, end, expression, further_statement, items, maybe, more, none, one, repeat_loop, runs, selector, sequence, statement, then_statement, while_loop}
 use Rattle.ob0_language_names.specs.Mapping.{map_names}
-use Rattle.ob0_language_types.specs.Arguments.{arguments_listed}
+use Rattle.ob0_language_types.specs.Arguments.{call_arguments}
 use Rattle.ob0_language_types.specs.Expressions.{Meanings, a_variable}
 use Rattle.ob0_language_types.specs.Typing.{lone_designator}
 use Rattle.ob0_language_values.specs.Values.{Shape, boolean_shape}
@@ -28,10 +28,10 @@ arguments_match-map f h meaning [] (e ∷ es) = refl
 arguments_match-map f h meaning (g ∷ gs) [] = refl
 arguments_match-map f h meaning (g ∷ gs) (e ∷ es) = λ i. argument_matches-map f h meaning g e i && arguments_match-map f h meaning gs es i
 
-pub call_is_well_typed-map : {N M P : Type 0} (f h : N → M) (meaning : Meanings M Shape P) (signature : Option Signature) (es : Tree N (maybe arguments)) → call_is_well_typed meaning signature (arguments_listed (map_names f h es)) ≡ call_is_well_typed (through f h meaning) signature (arguments_listed es)
+pub call_is_well_typed-map : {N M P : Type 0} (f h : N → M) (meaning : Meanings M Shape P) (signature : Option Signature) (es : Tree N (maybe arguments)) → call_is_well_typed meaning signature (call_arguments (map_names f h es)) ≡ call_is_well_typed (through f h meaning) signature (call_arguments es)
 unfolding call_is_well_typed
 call_is_well_typed-map f h meaning None es = refl
-call_is_well_typed-map f h meaning (Some gs) es = ap (arguments_match meaning gs) (arguments-map f h es) ∙ arguments_match-map f h meaning gs (arguments_listed es)
+call_is_well_typed-map f h meaning (Some gs) es = ap (arguments_match meaning gs) (arguments-map f h es) ∙ arguments_match-map f h meaning gs (call_arguments es)
 
 pub condition_is_boolean-map : {N M P : Type 0} (f h : N → M) (meaning : Meanings M Shape P) (e : Tree N expression) → condition_is_boolean meaning (map_names f h e) ≡ condition_is_boolean (through f h meaning) e
 unfolding condition_is_boolean

@@ -1,7 +1,7 @@
 -- Replacing uses of a constant by its value leaves the type of an expression unchanged.
 use Rattle.std.proofs.Common.{None, Option, Some, [], add-zero, ap, false, if◌then◌else◌, length, refl, subst, suc, sym, true, ℕ, ◌+◌, ◌∙◌, ◌≡◌}
 use Rattle.ob0_tree.specs.Tree.{Tree, addend, adds, compares, designator, end, expression, factor, field, index, integer, items, more, multiplier, multiplies, negation, none, occurrences, one, parenthesised, product, relates, selector, simple, sum, term}
-use Rattle.ob0_language_names.specs.Inlining.{OccurrenceSet, inline_in}
+use Rattle.ob0_language_names.specs.Inlining.{OccurrenceSet, inline_in_tree}
 use Rattle.ob0_language_names.specs.Names.{Name}
 use Rattle.ob0_language_values.specs.Values.{Shape, Value}
 use Rattle.ob0_language_types.specs.Expressions.{Meanings, a_constant}
@@ -22,35 +22,35 @@ then-some (Some s) = refl
 mutual
   unfolding type_of
 
-  pub type_of-inlined : {P : Type 0} (checked : Meanings Name Shape P) (uses : OccurrenceSet) (v : Tree Name factor) (w : Value) → Typing checked v w → (k : ℕ) (a : Tree Name expression) → EachUseHas uses (IsConstant checked w) k (occurrences a) → type_of checked (inline_in uses v k a) ≡ type_of checked a
+  pub type_of-inlined : {P : Type 0} (checked : Meanings Name Shape P) (uses : OccurrenceSet) (v : Tree Name factor) (w : Value) → Typing checked v w → (k : ℕ) (a : Tree Name expression) → EachUseHas uses (IsConstant checked w) k (occurrences a) → type_of checked (inline_in_tree uses v k a) ≡ type_of checked a
   type_of-inlined checked uses v w h k (compares a none) u = type_of_simple-inlined checked uses v w h k a (uses-split uses (IsConstant checked w) k (occurrences a) [] u).0
   type_of-inlined checked uses v w h k (compares a (one (relates r b))) u =
       let s = uses-split uses (IsConstant checked w) k (occurrences a) (occurrences b) u in
       λ i. type_of_simple-inlined checked uses v w h k a s.0 i >>= (λ x. type_of_simple-inlined checked uses v w h (k + length (occurrences a)) b s.1 i >>= (λ y. relation_type r x y))
 
-  pub type_of_simple-inlined : {P : Type 0} (checked : Meanings Name Shape P) (uses : OccurrenceSet) (v : Tree Name factor) (w : Value) → Typing checked v w → (k : ℕ) (a : Tree Name simple) → EachUseHas uses (IsConstant checked w) k (occurrences a) → type_of_simple checked (inline_in uses v k a) ≡ type_of_simple checked a
+  pub type_of_simple-inlined : {P : Type 0} (checked : Meanings Name Shape P) (uses : OccurrenceSet) (v : Tree Name factor) (w : Value) → Typing checked v w → (k : ℕ) (a : Tree Name simple) → EachUseHas uses (IsConstant checked w) k (occurrences a) → type_of_simple checked (inline_in_tree uses v k a) ≡ type_of_simple checked a
   type_of_simple-inlined checked uses v w h k (sum sign t rest) u =
       let s = uses-split uses (IsConstant checked w) k (occurrences t) (occurrences rest) u in
       λ i. type_of_term-inlined checked uses v w h k t s.0 i >>= (λ x. sign_type sign x >>= (λ y. type_of_addends-inlined checked uses v w h (k + length (occurrences t)) y rest s.1 i))
 
-  pub type_of_addends-inlined : {P : Type 0} (checked : Meanings Name Shape P) (uses : OccurrenceSet) (v : Tree Name factor) (w : Value) → Typing checked v w → (k : ℕ) (x : Shape) (a : Tree Name (items addend)) → EachUseHas uses (IsConstant checked w) k (occurrences a) → type_of_addends checked x (inline_in uses v k a) ≡ type_of_addends checked x a
+  pub type_of_addends-inlined : {P : Type 0} (checked : Meanings Name Shape P) (uses : OccurrenceSet) (v : Tree Name factor) (w : Value) → Typing checked v w → (k : ℕ) (x : Shape) (a : Tree Name (items addend)) → EachUseHas uses (IsConstant checked w) k (occurrences a) → type_of_addends checked x (inline_in_tree uses v k a) ≡ type_of_addends checked x a
   type_of_addends-inlined checked uses v w h k x end u = refl
   type_of_addends-inlined checked uses v w h k x (more (adds o t) rest) u =
       let s = uses-split uses (IsConstant checked w) k (occurrences t) (occurrences rest) u in
       λ i. type_of_term-inlined checked uses v w h k t s.0 i >>= (λ y. addition_type o x y >>= (λ z. type_of_addends-inlined checked uses v w h (k + length (occurrences t)) z rest s.1 i))
 
-  pub type_of_term-inlined : {P : Type 0} (checked : Meanings Name Shape P) (uses : OccurrenceSet) (v : Tree Name factor) (w : Value) → Typing checked v w → (k : ℕ) (a : Tree Name term) → EachUseHas uses (IsConstant checked w) k (occurrences a) → type_of_term checked (inline_in uses v k a) ≡ type_of_term checked a
+  pub type_of_term-inlined : {P : Type 0} (checked : Meanings Name Shape P) (uses : OccurrenceSet) (v : Tree Name factor) (w : Value) → Typing checked v w → (k : ℕ) (a : Tree Name term) → EachUseHas uses (IsConstant checked w) k (occurrences a) → type_of_term checked (inline_in_tree uses v k a) ≡ type_of_term checked a
   type_of_term-inlined checked uses v w h k (product f rest) u =
       let s = uses-split uses (IsConstant checked w) k (occurrences f) (occurrences rest) u in
       λ i. type_of_factor-inlined checked uses v w h k f s.0 i >>= (λ x. type_of_multipliers-inlined checked uses v w h (k + length (occurrences f)) x rest s.1 i)
 
-  pub type_of_multipliers-inlined : {P : Type 0} (checked : Meanings Name Shape P) (uses : OccurrenceSet) (v : Tree Name factor) (w : Value) → Typing checked v w → (k : ℕ) (x : Shape) (a : Tree Name (items multiplier)) → EachUseHas uses (IsConstant checked w) k (occurrences a) → type_of_multipliers checked x (inline_in uses v k a) ≡ type_of_multipliers checked x a
+  pub type_of_multipliers-inlined : {P : Type 0} (checked : Meanings Name Shape P) (uses : OccurrenceSet) (v : Tree Name factor) (w : Value) → Typing checked v w → (k : ℕ) (x : Shape) (a : Tree Name (items multiplier)) → EachUseHas uses (IsConstant checked w) k (occurrences a) → type_of_multipliers checked x (inline_in_tree uses v k a) ≡ type_of_multipliers checked x a
   type_of_multipliers-inlined checked uses v w h k x end u = refl
   type_of_multipliers-inlined checked uses v w h k x (more (multiplies o f) rest) u =
       let s = uses-split uses (IsConstant checked w) k (occurrences f) (occurrences rest) u in
       λ i. type_of_factor-inlined checked uses v w h k f s.0 i >>= (λ y. multiplication_type o x y >>= (λ z. type_of_multipliers-inlined checked uses v w h (k + length (occurrences f)) z rest s.1 i))
 
-  pub type_of_factor-inlined : {P : Type 0} (checked : Meanings Name Shape P) (uses : OccurrenceSet) (v : Tree Name factor) (w : Value) → Typing checked v w → (k : ℕ) (a : Tree Name factor) → EachUseHas uses (IsConstant checked w) k (occurrences a) → type_of_factor checked (inline_in uses v k a) ≡ type_of_factor checked a
+  pub type_of_factor-inlined : {P : Type 0} (checked : Meanings Name Shape P) (uses : OccurrenceSet) (v : Tree Name factor) (w : Value) → Typing checked v w → (k : ℕ) (a : Tree Name factor) → EachUseHas uses (IsConstant checked w) k (occurrences a) → type_of_factor checked (inline_in_tree uses v k a) ≡ type_of_factor checked a
   type_of_factor-inlined checked uses v w h k (designator x end) u =
       (elim (uses k) as (λ b. uses k ≡ b → type_of_factor checked (if b then v else designator x end) ≡ type_of_factor checked (designator x end))
       [ true ↦ λ e. h.typed ∙ (sym (then-some (value_type w)) ∙ sym (ap (λ o. type_of_variable_or_constant o >>= (λ s. Some s)) (u.0 e))) | false ↦ λ e. refl ]) refl
@@ -60,7 +60,7 @@ mutual
   type_of_factor-inlined checked uses v w h k (parenthesised e) u = type_of-inlined checked uses v w h k e u
   type_of_factor-inlined checked uses v w h k (negation f) u = λ i. type_of_factor-inlined checked uses v w h k f u i >>= negation_type
 
-  pub type_after_selectors-inlined : {P : Type 0} (checked : Meanings Name Shape P) (uses : OccurrenceSet) (v : Tree Name factor) (w : Value) → Typing checked v w → (k : ℕ) (t : Shape) (a : Tree Name (items selector)) → EachUseHas uses (IsConstant checked w) k (occurrences a) → type_after_selectors checked t (inline_in uses v k a) ≡ type_after_selectors checked t a
+  pub type_after_selectors-inlined : {P : Type 0} (checked : Meanings Name Shape P) (uses : OccurrenceSet) (v : Tree Name factor) (w : Value) → Typing checked v w → (k : ℕ) (t : Shape) (a : Tree Name (items selector)) → EachUseHas uses (IsConstant checked w) k (occurrences a) → type_after_selectors checked t (inline_in_tree uses v k a) ≡ type_after_selectors checked t a
   type_after_selectors-inlined checked uses v w h k t end u = refl
   type_after_selectors-inlined checked uses v w h k t (more (field x) rest) u = λ i.
       field_type t (checked.written x) >>= (λ y. type_after_selectors-inlined checked uses v w h (k + 0) y rest (subst (λ n. EachUseHas uses (IsConstant checked w) n (occurrences rest)) (sym (add-zero k)) u) i)

@@ -15,7 +15,7 @@ use Rattle.ob0_language_types.specs.EditLaws.{IsScalar}
 use Rattle.ob0_language_types.specs.Environments.{Environment, meanings, newest_object}
 use Rattle.ob0_language_types.specs.Expressions.{Meanings, Object, a_constant, a_procedure, a_standard, a_type, a_variable}
 use Rattle.ob0_language_types.specs.Laws.{EachUseHas}
-use Rattle.ob0_language_types.specs.Typing.{constant_of, constant_value, constant_meanings, denoted_type, type_of_name}
+use Rattle.ob0_language_types.specs.Typing.{constant_of, constant_value, constant_meanings, denoted_type, type_of_type_object}
 use Rattle.ob0_language_types.specs.Written.{value_literal}
 use Rattle.ob0_language_types.proofs.DenotedInlined.{ConstantWritten, NamesConstant, constant_value-written, denoted_type-written}
 use Rattle.ob0_language_types.proofs.Literals.{IsSeen, literal-typed, literal-has_value}
@@ -134,13 +134,13 @@ constant_of-plain (Some (a_variable p)) = refl
 constant_of-plain (Some (a_procedure p)) = refl
 constant_of-plain (Some (a_standard p)) = refl
 
-pub type_of_name-plain : {V P : Type 0} (o : Option (Object V P)) → type_of_name (option_map plain_object o) ≡ type_of_name o
-type_of_name-plain None = refl
-type_of_name-plain (Some (a_type s)) = refl
-type_of_name-plain (Some (a_constant v)) = refl
-type_of_name-plain (Some (a_variable p)) = refl
-type_of_name-plain (Some (a_procedure p)) = refl
-type_of_name-plain (Some (a_standard p)) = refl
+pub type_of_type_object-plain : {V P : Type 0} (o : Option (Object V P)) → type_of_type_object (option_map plain_object o) ≡ type_of_type_object o
+type_of_type_object-plain None = refl
+type_of_type_object-plain (Some (a_type s)) = refl
+type_of_type_object-plain (Some (a_constant v)) = refl
+type_of_type_object-plain (Some (a_variable p)) = refl
+type_of_type_object-plain (Some (a_procedure p)) = refl
+type_of_type_object-plain (Some (a_standard p)) = refl
 
 constant_value-tagged : {V P : Type 0} (env : Environment Name V P) (e : Tree Name expression) → constant_value tagged (map_names (plain_tag env) as_field e) ≡ constant_value (meanings naming_by_spelling env) e
 constant_value-tagged env e =
@@ -148,7 +148,7 @@ constant_value-tagged env e =
 
 denoted_type-tagged : {V P : Type 0} (env : Environment Name V P) (k : ℕ) (t : Tree Name written_type) → denoted_type tagged k (map_names (plain_tag env) as_field t) ≡ denoted_type (meanings naming_by_spelling env) k t
 denoted_type-tagged env k t =
-    denoted_type-map (plain_tag env) as_field tagged (meanings naming_by_spelling env) (λ x. constant_of-plain ((meanings naming_by_spelling env).object_for x)) (λ x. type_of_name-plain ((meanings naming_by_spelling env).object_for x)) (λ x. refl) k t
+    denoted_type-map (plain_tag env) as_field tagged (meanings naming_by_spelling env) (λ x. constant_of-plain ((meanings naming_by_spelling env).object_for x)) (λ x. type_of_type_object-plain ((meanings naming_by_spelling env).object_for x)) (λ x. refl) k t
 
 pub constant_value-alike : {V P W Q : Type 0} (there : Environment Name V P) (here : Environment Name W Q) (e : Tree Name expression) → SameAt (plain_tag there) (plain_tag here) (occurrences e) → constant_value (meanings naming_by_spelling there) e ≡ constant_value (meanings naming_by_spelling here) e
 constant_value-alike there here e same =

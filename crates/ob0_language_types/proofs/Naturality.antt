@@ -2,10 +2,10 @@
 use Rattle.std.proofs.Common.{◌≡◌, true, false, ◌∷◌, ◌++◌, map, None, option_map, refl}
 use Rattle.ob0_tree.specs.Tree.{Tree, addend, adds, arguments, compares, designator, end, expression, factor, field, further_argument, index, integer, items, maybe, more, multiplier, multiplies, negation, no_arguments, none, one, parenthesised, product, relates, selector, simple, some_arguments, sum, term, then_argument}
 use Rattle.ob0_language_names.specs.Mapping.{map_names}
-use Rattle.ob0_language_types.specs.Arguments.{arguments_listed, further_arguments}
+use Rattle.ob0_language_types.specs.Arguments.{call_arguments, further_arguments}
 use Rattle.ob0_language_types.specs.Expressions.{Meanings, designated_place, element_step, evaluate, evaluate_addends, evaluate_factor, evaluate_multipliers, evaluate_simple, evaluate_term, evaluate_selectors, object_place, object_value}
 use Rattle.ob0_language_types.specs.Typing.{lone_designator}
-use Rattle.ob0_language_values.specs.Values.{Place, Store, Value, add, add_short_circuits, at_field, value_at_path, succeeds_with, multiply, multiply_short_circuits, negate, or_stuck, part, read_place, apply_relation, apply_sign, ◌>>=◌}
+use Rattle.ob0_language_values.specs.Values.{Place, Store, Value, add, add_short_circuits, at_field, value_at_path, succeeds_with, multiply, multiply_short_circuits, negate, or_stuck, value_at_step, read_place, apply_relation, apply_sign, ◌>>=◌}
 
 -- returns the meanings of names, each looked up under its new name
 abbrev pub through : {N M V P : Type 0} → (N → M) → (N → M) → Meanings M V P → Meanings N V P
@@ -49,9 +49,9 @@ mutual
   pub follow-map : {N M P : Type 0} (f h : N → M) (meaning : Meanings M Place P) (store : Store) (v : Value) (path : Tree N (items selector)) → evaluate_selectors meaning store v (map_names f h path) ≡ evaluate_selectors (through f h meaning) store v path
   follow-map f h meaning store v end = refl
   follow-map f h meaning store v (more (field x) rest) = λ i.
-      or_stuck (part v (at_field (meaning.written (h x)))) >>= (λ w. follow-map f h meaning store w rest i >>= (λ steps. succeeds_with (at_field (meaning.written (h x)) ∷ steps)))
+      or_stuck (value_at_step v (at_field (meaning.written (h x)))) >>= (λ w. follow-map f h meaning store w rest i >>= (λ steps. succeeds_with (at_field (meaning.written (h x)) ∷ steps)))
   follow-map f h meaning store v (more (index e) rest) = λ i.
-      evaluate-map f h meaning store e i >>= (λ j. element_step v j >>= (λ s. or_stuck (part v s) >>= (λ w. follow-map f h meaning store w rest i >>= (λ steps. succeeds_with (s ∷ steps)))))
+      evaluate-map f h meaning store e i >>= (λ j. element_step v j >>= (λ s. or_stuck (value_at_step v s) >>= (λ w. follow-map f h meaning store w rest i >>= (λ steps. succeeds_with (s ∷ steps)))))
 
 pub designated_place-map : {N M P : Type 0} (f h : N → M) (meaning : Meanings M Place P) (store : Store) (x : N) (path : Tree N (items selector)) → designated_place meaning store (f x) (map_names f h path) ≡ designated_place (through f h meaning) store x path
 unfolding designated_place
@@ -70,7 +70,7 @@ pub further_arguments-map : {N M : Type 0} (f h : N → M) (es : Tree N (items f
 further_arguments-map f h end = refl
 further_arguments-map f h (more (then_argument e) es) = λ i. map_names f h e ∷ further_arguments-map f h es i
 
-pub arguments-map : {N M : Type 0} (f h : N → M) (es : Tree N (maybe arguments)) → arguments_listed (map_names f h es) ≡ map (map_names f h) (arguments_listed es)
+pub arguments-map : {N M : Type 0} (f h : N → M) (es : Tree N (maybe arguments)) → call_arguments (map_names f h es) ≡ map (map_names f h) (call_arguments es)
 arguments-map f h none = refl
 arguments-map f h (one no_arguments) = refl
 arguments-map f h (one (some_arguments e es)) = λ i. map_names f h e ∷ further_arguments-map f h es i

@@ -5,7 +5,7 @@ use Rattle.ob0_tree.specs.Tree.{Tree, addend, adds, array_type, compares, design
 use Rattle.ob0_language_names.specs.Mapping.{map_names}
 use Rattle.ob0_language_names.specs.Parts.{further_names, names_in_list}
 use Rattle.ob0_language_types.specs.Expressions.{Meanings, a_constant, evaluate}
-use Rattle.ob0_language_types.specs.Typing.{addition_type, array_length, negation_type, constant_of, constant_value, constant_meanings, constructor_count, denoted_type, denoted_group_fields, denoted_further_fields, element_type, field_type, outcome_value, group_constructor_count, groups_constructor_count, multiplication_type, type_of_variable_or_constant, relation_type, sign_type, type_after_selectors, type_of, type_of_addends, type_of_factor, type_of_multipliers, type_of_name, type_of_simple, type_of_term, prepend_fields, type_within_limits, ◌>>=◌}
+use Rattle.ob0_language_types.specs.Typing.{addition_type, array_length, negation_type, constant_of, constant_value, constant_meanings, constructor_count, denoted_type, denoted_group_fields, denoted_further_fields, element_type, field_type, outcome_value, group_constructor_count, groups_constructor_count, multiplication_type, type_of_variable_or_constant, relation_type, sign_type, type_after_selectors, type_of, type_of_addends, type_of_factor, type_of_multipliers, type_of_type_object, type_of_simple, type_of_term, prepend_fields, type_within_limits, ◌>>=◌}
 use Rattle.ob0_language_values.specs.Values.{FieldShapes, Shape, array_shape, record_shape}
 use Rattle.ob0_language_types.proofs.Naturality.{evaluate-map, through}
 
@@ -83,7 +83,7 @@ mutual
   unfolding denoted_type
 
   pub denoted_type-map : {N M V P W Q : Type 0} (f h : N → M) (there : Meanings M V P) (here : Meanings N W Q)
-      → ((x : N) → constant_of (there.object_for (f x)) ≡ constant_of (here.object_for x)) → ((x : N) → type_of_name (there.object_for (f x)) ≡ type_of_name (here.object_for x)) → ((x : N) → there.written (h x) ≡ here.written x)
+      → ((x : N) → constant_of (there.object_for (f x)) ≡ constant_of (here.object_for x)) → ((x : N) → type_of_type_object (there.object_for (f x)) ≡ type_of_type_object (here.object_for x)) → ((x : N) → there.written (h x) ≡ here.written x)
       → (k : ℕ) (t : Tree N written_type) → denoted_type there k (map_names f h t) ≡ denoted_type here k t
   denoted_type-map f h there here hc ht hw k (named_type x) = ht x
   denoted_type-map f h there here hc ht hw k (array_type e t) = λ i.
@@ -93,13 +93,13 @@ mutual
       >>= (λ later. denoted_group_fields-map f h there here hc ht hw (suc k) later g i >>= (λ fs. type_within_limits (record_shape k fs)))
 
   pub denoted_group_fields-map : {N M V P W Q : Type 0} (f h : N → M) (there : Meanings M V P) (here : Meanings N W Q)
-      → ((x : N) → constant_of (there.object_for (f x)) ≡ constant_of (here.object_for x)) → ((x : N) → type_of_name (there.object_for (f x)) ≡ type_of_name (here.object_for x)) → ((x : N) → there.written (h x) ≡ here.written x)
+      → ((x : N) → constant_of (there.object_for (f x)) ≡ constant_of (here.object_for x)) → ((x : N) → type_of_type_object (there.object_for (f x)) ≡ type_of_type_object (here.object_for x)) → ((x : N) → there.written (h x) ≡ here.written x)
       → (k : ℕ) (later : FieldShapes) (g : Tree N fields) → denoted_group_fields there k later (map_names f h g) ≡ denoted_group_fields here k later g
   denoted_group_fields-map f h there here hc ht hw k later no_fields = refl
   denoted_group_fields-map f h there here hc ht hw k later (some_fields ns t) = λ i. denoted_type-map f h there here hc ht hw k t i >>= (λ s. Some (prepend_fields (fields_written f h there here hw ns i) s later))
 
   pub denoted_further_fields-map : {N M V P W Q : Type 0} (f h : N → M) (there : Meanings M V P) (here : Meanings N W Q)
-      → ((x : N) → constant_of (there.object_for (f x)) ≡ constant_of (here.object_for x)) → ((x : N) → type_of_name (there.object_for (f x)) ≡ type_of_name (here.object_for x)) → ((x : N) → there.written (h x) ≡ here.written x)
+      → ((x : N) → constant_of (there.object_for (f x)) ≡ constant_of (here.object_for x)) → ((x : N) → type_of_type_object (there.object_for (f x)) ≡ type_of_type_object (here.object_for x)) → ((x : N) → there.written (h x) ≡ here.written x)
       → (k : ℕ) (gs : Tree N (items further_fields)) → denoted_further_fields there k (map_names f h gs) ≡ denoted_further_fields here k gs
   denoted_further_fields-map f h there here hc ht hw k end = refl
   denoted_further_fields-map f h there here hc ht hw k (more (then_fields g) rest) = λ i.

@@ -3,14 +3,14 @@ use Rattle.std.proofs.Common.{◌≡◌, ℕ, suc, ◌+◌, ◌<◌, ◌≤◌, 
 use Rattle.ob0_tree.specs.Tree.{Tree, begins, block, body, constant, declares, declares_constant, declares_procedure, declares_type, declares_variable, end, further_section, forms_block, is_module, item, items, maybe, module_text, more, none, one, procedure, section, then_section, type_definition, value_section, variable, variable_section, written_type}
 use Rattle.ob0_language_names.specs.Mapping.{map_names}
 use Rattle.ob0_language_names.specs.Names.{Label, Naming, naming_by_label, declared, same_label}
-use Rattle.ob0_language_names.specs.Parts.{block_variables, constant_names, formal_names, formal_sections, declared_type_names, names_in_list, section_constants, section_names, section_type, section_types, section_variables, variable_names}
-use Rattle.ob0_language_names.specs.Scopes.{Labelling, Scope, ordinal_after_names, ordinal_after_procedure, label_from_ordinal, body_scope, declare_names, declare_procedure_names, first_procedure_ordinal, first_type_ordinal, first_variable_ordinal, label_names, label_of, ordinal_of, procedures_scope, relabel_block, relabel_constants, relabel_formals, relabel_procedure, relabel_procedures, relabel_section, relabel_sections, relabel_types, relabel_uses, relabel_variables, relabel_module, types_scope, variables_scope}
+use Rattle.ob0_language_names.specs.Parts.{block_variables, constant_names, formal_names, formal_sections, declared_type_names, names_in_list, section_constants, parameter_section_names, parameter_section_type, section_types, section_variables, variable_names}
+use Rattle.ob0_language_names.specs.Scopes.{Labelling, Scope, ordinal_after_names, ordinal_after_procedure, label_from_ordinal, body_scope, declare_names, declare_procedure_names, first_procedure_ordinal, first_type_ordinal, first_variable_ordinal, labels_of_declared_names, label_of, ordinal_of, scope_before_procedures, relabel_block, relabel_constants, relabel_formals, relabel_procedure, relabel_procedures, relabel_section, relabel_sections, relabel_types, relabel_uses, relabel_variables, relabel_module, scope_before_types, scope_before_variables}
 use Rattle.ob0_language_names.proofs.Ordinals.{ordinal_after_names-append, declare_names-append, le-ordinal_after_procedure}
-use Rattle.ob0_language_names.proofs.Relabelled.{constants-section, formals-section, names-relabel, section_names-relabel, section_type-relabel, types-section, variables-section}
+use Rattle.ob0_language_names.proofs.Relabelled.{constants-section, formals-section, names-relabel, parameter_section_names-relabel, parameter_section_type-relabel, types-section, variables-section}
 use Rattle.ob0_language_types.specs.Declarations.{constructors_before_variables, constructors_before_procedures, declare_constants, declare_constants_and_types, declare_types, formals_constructor_count, procedure_constructor_count, types_constructor_count, variables_constructor_count}
 use Rattle.ob0_language_types.specs.Environments.{environment_from_binding, meanings, newest_object}
 use Rattle.ob0_language_types.specs.Expressions.{Object, a_constant, a_procedure, a_standard, a_type, a_variable, read_procedure, write_procedure, write_line_procedure}
-use Rattle.ob0_language_types.specs.Typing.{constant_of, constant_value, constructor_count, denoted_type, type_of_name}
+use Rattle.ob0_language_types.specs.Typing.{constant_of, constant_value, constructor_count, denoted_type, type_of_type_object}
 use Rattle.ob0_language_values.specs.Values.{Shape, boolean_shape, integer_shape, truth}
 use Rattle.ob0_language_types.specs.WellTyped.{FormalParameter, Signature, TypeEnvironment, TypedParameter, bind_names, bind_typed_parameters, block_is_well_typed, body_is_well_typed, declare_typed_variables, passes_type_check, bind_procedure, option_satisfies, procedure_is_well_typed, procedures_are_well_typed, section_mode, sequence_is_well_typed, typed_parameters}
 use Rattle.ob0_language_types.proofs.Agreeing.{Agree, HoldsOf, agree-then, agree-value}
@@ -91,7 +91,7 @@ TypedWithin n scope noted = (typed_scope noted ≡ scope) × TypedBelow n noted
 pub denoted_type-agrees : {N : Type 0} (naming : Naming N) (n : ℕ) (noted : TypeNoted N) → TypedBelow n noted → (j : ℕ) (t : Tree N written_type) → denoted_type (meanings naming_by_label (typed_by_ordinal noted)) j (relabel_uses naming (label_from_ordinal naming) (typed_scope noted) t) ≡ denoted_type (meanings naming (typed_by_name noted)) j t
 denoted_type-agrees naming n noted below j t =
     denoted_type-map (typed_label naming noted) (label_from_ordinal naming None) (meanings naming_by_label (typed_by_ordinal noted)) (meanings naming (typed_by_name noted))
-    (λ x. ap constant_of (typed_meanings-agree naming n noted below x)) (λ x. ap type_of_name (typed_meanings-agree naming n noted below x)) (λ x. refl) j t
+    (λ x. ap constant_of (typed_meanings-agree naming n noted below x)) (λ x. ap type_of_type_object (typed_meanings-agree naming n noted below x)) (λ x. refl) j t
 
 pub constants_typed : {N : Type 0} (naming : Naming N) (k : ℕ) (noted : TypeNoted N) → TypedBelow k noted → (cs : Tree N (items constant))
     → Agree typed_by_name typed_by_ordinal (TypedWithin (ordinal_after_names k (constant_names cs)) (declare_names k (constant_names cs) (typed_scope noted)))
@@ -128,7 +128,7 @@ pub bind_names-by_name : {N : Type 0} (k : ℕ) (xs : List N) (o : Object Shape 
 bind_names-by_name k [] o noted = refl
 bind_names-by_name k (x ∷ xs) o noted = bind_names-by_name (suc k) xs o (record { name = x; ordinal = k; object = o } ∷ noted)
 
-pub bind_names-by_ordinal : {N : Type 0} (naming : Naming N) (k : ℕ) (xs : List N) (o : Object Shape Signature) (noted : TypeNoted N) → bind_names (label_names (label_from_ordinal naming) k xs) o (typed_by_ordinal noted) ≡ typed_by_ordinal (noted_names k xs o noted)
+pub bind_names-by_ordinal : {N : Type 0} (naming : Naming N) (k : ℕ) (xs : List N) (o : Object Shape Signature) (noted : TypeNoted N) → bind_names (labels_of_declared_names (label_from_ordinal naming) k xs) o (typed_by_ordinal noted) ≡ typed_by_ordinal (noted_names k xs o noted)
 bind_names-by_ordinal naming k [] o noted = refl
 bind_names-by_ordinal naming k (x ∷ xs) o noted = bind_names-by_ordinal naming (suc k) xs o (record { name = x; ordinal = k; object = o } ∷ noted)
 
@@ -139,9 +139,9 @@ noted_names-within k (x ∷ xs) o noted below = noted_names-within (suc k) xs o 
 -- Moves a fact along the scope and the environments to which names are added.
 pub typed_moved : {N : Type 0} (naming : Naming N) (Goal : Scope N → TypeEnvironment N → TypeEnvironment Label → Type 0) (k : ℕ) (xs : List N) (o : Object Shape Signature) (noted : TypeNoted N) → TypedBelow k noted
     → Goal (typed_scope (noted_names k xs o noted)) (typed_by_name (noted_names k xs o noted)) (typed_by_ordinal (noted_names k xs o noted))
-    → Goal (declare_names k xs (typed_scope noted)) (bind_names xs o (typed_by_name noted)) (bind_names (label_names (label_from_ordinal naming) k xs) o (typed_by_ordinal noted))
+    → Goal (declare_names k xs (typed_scope noted)) (bind_names xs o (typed_by_name noted)) (bind_names (labels_of_declared_names (label_from_ordinal naming) k xs) o (typed_by_ordinal noted))
 typed_moved naming Goal k xs o noted below h =
-    subst (λ s. Goal s (bind_names xs o (typed_by_name noted)) (bind_names (label_names (label_from_ordinal naming) k xs) o (typed_by_ordinal noted))) (noted_names-within k xs o noted below).0
+    subst (λ s. Goal s (bind_names xs o (typed_by_name noted)) (bind_names (labels_of_declared_names (label_from_ordinal naming) k xs) o (typed_by_ordinal noted))) (noted_names-within k xs o noted below).0
     (subst₂ (λ a b. Goal (typed_scope (noted_names k xs o noted)) a b) (sym (bind_names-by_name k xs o noted)) (sym (bind_names-by_ordinal naming k xs o noted)) h)
 
 pub variables_typed : {N : Type 0} (naming : Naming N) (j k : ℕ) (noted : TypeNoted N) → TypedBelow k noted → (gs : Tree N (items variable))
@@ -153,12 +153,12 @@ variables_typed naming j k noted below (more (declares_variable ns u) gs) =
     rw (constructor_count-map (label_of naming (label_from_ordinal naming) (typed_scope noted)) (label_from_ordinal naming None) u, names-relabel (label_from_ordinal naming) k ns)
     (agree-value typed_by_name typed_by_ordinal (TypedWithin (ordinal_after_names k (names_in_list ns ++ variable_names gs)) (declare_names k (names_in_list ns ++ variable_names gs) (typed_scope noted)))
     (λ s. declare_typed_variables naming (j + constructor_count u) gs (bind_names (names_in_list ns) (a_variable s) (typed_by_name noted)))
-    (λ s. declare_typed_variables naming_by_label (j + constructor_count u) (relabel_variables naming (label_from_ordinal naming) (declare_names k (names_in_list ns) (typed_scope noted)) (ordinal_after_names k (names_in_list ns)) gs) (bind_names (label_names (label_from_ordinal naming) k (names_in_list ns)) (a_variable s) (typed_by_ordinal noted)))
+    (λ s. declare_typed_variables naming_by_label (j + constructor_count u) (relabel_variables naming (label_from_ordinal naming) (declare_names k (names_in_list ns) (typed_scope noted)) (ordinal_after_names k (names_in_list ns)) gs) (bind_names (labels_of_declared_names (label_from_ordinal naming) k (names_in_list ns)) (a_variable s) (typed_by_ordinal noted)))
     (denoted_type (meanings naming (typed_by_name noted)) j u) (denoted_type (meanings naming_by_label (typed_by_ordinal noted)) j (relabel_uses naming (label_from_ordinal naming) (typed_scope noted) u))
     (denoted_type-agrees naming k noted below j u)
     (λ s. subst₂ (λ n scope. Agree typed_by_name typed_by_ordinal (TypedWithin n scope)
     (declare_typed_variables naming (j + constructor_count u) gs (bind_names (names_in_list ns) (a_variable s) (typed_by_name noted)))
-    (declare_typed_variables naming_by_label (j + constructor_count u) (relabel_variables naming (label_from_ordinal naming) (declare_names k (names_in_list ns) (typed_scope noted)) (ordinal_after_names k (names_in_list ns)) gs) (bind_names (label_names (label_from_ordinal naming) k (names_in_list ns)) (a_variable s) (typed_by_ordinal noted))))
+    (declare_typed_variables naming_by_label (j + constructor_count u) (relabel_variables naming (label_from_ordinal naming) (declare_names k (names_in_list ns) (typed_scope noted)) (ordinal_after_names k (names_in_list ns)) gs) (bind_names (labels_of_declared_names (label_from_ordinal naming) k (names_in_list ns)) (a_variable s) (typed_by_ordinal noted))))
     (sym (ordinal_after_names-append k (names_in_list ns) (variable_names gs))) (sym (declare_names-append k (names_in_list ns) (variable_names gs) (typed_scope noted)))
     (typed_moved naming (λ scope a b. Agree typed_by_name typed_by_ordinal (TypedWithin (ordinal_after_names (ordinal_after_names k (names_in_list ns)) (variable_names gs)) (declare_names (ordinal_after_names k (names_in_list ns)) (variable_names gs) scope))
     (declare_typed_variables naming (j + constructor_count u) gs a) (declare_typed_variables naming_by_label (j + constructor_count u) (relabel_variables naming (label_from_ordinal naming) scope (ordinal_after_names k (names_in_list ns)) gs) b))
@@ -178,7 +178,7 @@ label_typed k (p ∷ ps) = record { name = declared k; formal = p.formal } ∷ l
 abbrev pub typed_parameter : {N : Type 0} → FormalParameter → N → TypedParameter N
 typed_parameter g x = record { name = x; formal = g }
 
-pub label_typed-append : {N : Type 0} (naming : Naming N) (g : FormalParameter) (k : ℕ) (xs : List N) (ps : List (TypedParameter N)) → map (typed_parameter g) (label_names (label_from_ordinal naming) k xs) ++ label_typed (ordinal_after_names k xs) ps ≡ label_typed k (map (typed_parameter g) xs ++ ps)
+pub label_typed-append : {N : Type 0} (naming : Naming N) (g : FormalParameter) (k : ℕ) (xs : List N) (ps : List (TypedParameter N)) → map (typed_parameter g) (labels_of_declared_names (label_from_ordinal naming) k xs) ++ label_typed (ordinal_after_names k xs) ps ≡ label_typed k (map (typed_parameter g) xs ++ ps)
 label_typed-append naming g k [] ps = refl
 label_typed-append naming g k (x ∷ xs) ps = λ i. record { name = declared k; formal = g } ∷ label_typed-append naming g (suc k) xs ps i
 
@@ -196,25 +196,25 @@ pub parameters_typed : {N : Type 0} (naming : Naming N) (j k : ℕ) (noted : Typ
 unfolding typed_parameters
 parameters_typed naming j k noted below end = (Some [], refl, refl, refl)
 parameters_typed {N} naming j k noted below (more (then_section f) fs) =
-    rw (section_type-relabel naming (label_from_ordinal naming) (typed_scope noted) k f, section_names-relabel naming (label_from_ordinal naming) (typed_scope noted) k f, section_mode-relabel naming (label_from_ordinal naming) (typed_scope noted) k f, constructor_count-map (label_of naming (label_from_ordinal naming) (typed_scope noted)) (label_from_ordinal naming None) (section_type f))
-    (agree-value (λ ps. ps) (label_typed k) (λ ps. typed_names ps ≡ section_names f ++ formal_names fs)
-    (λ s. option_and_then (λ rest. Some (map (typed_parameter record { mode = (section_mode f); shape = s }) (section_names f) ++ rest)) (typed_parameters naming (bind_names (section_names f) (a_variable s) (typed_by_name noted)) (j + constructor_count (section_type f)) fs))
-    (λ s. option_and_then (λ rest. Some (map (typed_parameter record { mode = (section_mode f); shape = s }) (label_names (label_from_ordinal naming) k (section_names f)) ++ rest)) (typed_parameters naming_by_label (bind_names (label_names (label_from_ordinal naming) k (section_names f)) (a_variable s) (typed_by_ordinal noted)) (j + constructor_count (section_type f)) (relabel_sections naming (label_from_ordinal naming) (declare_names k (section_names f) (typed_scope noted)) (ordinal_after_names k (section_names f)) fs)))
-    (denoted_type (meanings naming (typed_by_name noted)) j (section_type f)) (denoted_type (meanings naming_by_label (typed_by_ordinal noted)) j (relabel_uses naming (label_from_ordinal naming) (typed_scope noted) (section_type f)))
-    (denoted_type-agrees naming k noted below j (section_type f))
-    (λ s. agree-then (λ ps. ps) (label_typed (ordinal_after_names k (section_names f))) (λ ps. typed_names ps ≡ formal_names fs) (λ ps. ps) (label_typed k) (λ ps. typed_names ps ≡ section_names f ++ formal_names fs)
-    (λ rest. Some (map (typed_parameter record { mode = (section_mode f); shape = s }) (section_names f) ++ rest)) (λ rest. Some (map (typed_parameter record { mode = (section_mode f); shape = s }) (label_names (label_from_ordinal naming) k (section_names f)) ++ rest))
-    (typed_parameters naming (bind_names (section_names f) (a_variable s) (typed_by_name noted)) (j + constructor_count (section_type f)) fs)
-    (typed_parameters naming_by_label (bind_names (label_names (label_from_ordinal naming) k (section_names f)) (a_variable s) (typed_by_ordinal noted)) (j + constructor_count (section_type f)) (relabel_sections naming (label_from_ordinal naming) (declare_names k (section_names f) (typed_scope noted)) (ordinal_after_names k (section_names f)) fs))
-    (typed_moved naming (λ scope a b. Agree (λ ps. ps) (label_typed (ordinal_after_names k (section_names f))) (λ ps. typed_names ps ≡ formal_names fs) (typed_parameters naming a (j + constructor_count (section_type f)) fs)
-    (typed_parameters naming_by_label b (j + constructor_count (section_type f)) (relabel_sections naming (label_from_ordinal naming) scope (ordinal_after_names k (section_names f)) fs)))
-    k (section_names f) (a_variable s) noted below
-    (parameters_typed naming (j + constructor_count (section_type f)) (ordinal_after_names k (section_names f)) (noted_names k (section_names f) (a_variable s) noted) (noted_names-within k (section_names f) (a_variable s) noted below).1 fs))
+    rw (parameter_section_type-relabel naming (label_from_ordinal naming) (typed_scope noted) k f, parameter_section_names-relabel naming (label_from_ordinal naming) (typed_scope noted) k f, section_mode-relabel naming (label_from_ordinal naming) (typed_scope noted) k f, constructor_count-map (label_of naming (label_from_ordinal naming) (typed_scope noted)) (label_from_ordinal naming None) (parameter_section_type f))
+    (agree-value (λ ps. ps) (label_typed k) (λ ps. typed_names ps ≡ parameter_section_names f ++ formal_names fs)
+    (λ s. option_and_then (λ rest. Some (map (typed_parameter record { mode = (section_mode f); shape = s }) (parameter_section_names f) ++ rest)) (typed_parameters naming (bind_names (parameter_section_names f) (a_variable s) (typed_by_name noted)) (j + constructor_count (parameter_section_type f)) fs))
+    (λ s. option_and_then (λ rest. Some (map (typed_parameter record { mode = (section_mode f); shape = s }) (labels_of_declared_names (label_from_ordinal naming) k (parameter_section_names f)) ++ rest)) (typed_parameters naming_by_label (bind_names (labels_of_declared_names (label_from_ordinal naming) k (parameter_section_names f)) (a_variable s) (typed_by_ordinal noted)) (j + constructor_count (parameter_section_type f)) (relabel_sections naming (label_from_ordinal naming) (declare_names k (parameter_section_names f) (typed_scope noted)) (ordinal_after_names k (parameter_section_names f)) fs)))
+    (denoted_type (meanings naming (typed_by_name noted)) j (parameter_section_type f)) (denoted_type (meanings naming_by_label (typed_by_ordinal noted)) j (relabel_uses naming (label_from_ordinal naming) (typed_scope noted) (parameter_section_type f)))
+    (denoted_type-agrees naming k noted below j (parameter_section_type f))
+    (λ s. agree-then (λ ps. ps) (label_typed (ordinal_after_names k (parameter_section_names f))) (λ ps. typed_names ps ≡ formal_names fs) (λ ps. ps) (label_typed k) (λ ps. typed_names ps ≡ parameter_section_names f ++ formal_names fs)
+    (λ rest. Some (map (typed_parameter record { mode = (section_mode f); shape = s }) (parameter_section_names f) ++ rest)) (λ rest. Some (map (typed_parameter record { mode = (section_mode f); shape = s }) (labels_of_declared_names (label_from_ordinal naming) k (parameter_section_names f)) ++ rest))
+    (typed_parameters naming (bind_names (parameter_section_names f) (a_variable s) (typed_by_name noted)) (j + constructor_count (parameter_section_type f)) fs)
+    (typed_parameters naming_by_label (bind_names (labels_of_declared_names (label_from_ordinal naming) k (parameter_section_names f)) (a_variable s) (typed_by_ordinal noted)) (j + constructor_count (parameter_section_type f)) (relabel_sections naming (label_from_ordinal naming) (declare_names k (parameter_section_names f) (typed_scope noted)) (ordinal_after_names k (parameter_section_names f)) fs))
+    (typed_moved naming (λ scope a b. Agree (λ ps. ps) (label_typed (ordinal_after_names k (parameter_section_names f))) (λ ps. typed_names ps ≡ formal_names fs) (typed_parameters naming a (j + constructor_count (parameter_section_type f)) fs)
+    (typed_parameters naming_by_label b (j + constructor_count (parameter_section_type f)) (relabel_sections naming (label_from_ordinal naming) scope (ordinal_after_names k (parameter_section_names f)) fs)))
+    k (parameter_section_names f) (a_variable s) noted below
+    (parameters_typed naming (j + constructor_count (parameter_section_type f)) (ordinal_after_names k (parameter_section_names f)) (noted_names k (parameter_section_names f) (a_variable s) noted) (noted_names-within k (parameter_section_names f) (a_variable s) noted below).1 fs))
     (λ rest e. (
-      Some (map (typed_parameter record { mode = (section_mode f); shape = s }) (section_names f) ++ rest),
+      Some (map (typed_parameter record { mode = (section_mode f); shape = s }) (parameter_section_names f) ++ rest),
       refl,
-      ap Some (label_typed-append naming record { mode = (section_mode f); shape = s } k (section_names f) rest),
-      typed_names-append record { mode = (section_mode f); shape = s } (section_names f) rest ∙ ap (λ ys. section_names f ++ ys) e,
+      ap Some (label_typed-append naming record { mode = (section_mode f); shape = s } k (parameter_section_names f) rest),
+      typed_names-append record { mode = (section_mode f); shape = s } (parameter_section_names f) rest ∙ ap (λ ys. parameter_section_names f ++ ys) e,
     ))))
 
 abbrev pub noted_parameters : {N : Type 0} → ℕ → List (TypedParameter N) → TypeNoted N → TypeNoted N
@@ -249,17 +249,17 @@ hold-agrees p q P r s here there (a, e, e', holds) next =
     go (Some x) holds = next x holds
 
 pub firsts_typed : {N : Type 0} (naming : Naming N) (j k : ℕ) (noted : TypeNoted N) → TypedBelow k noted → (b : Tree N block)
-    → Agree typed_by_name typed_by_ordinal (TypedWithin (first_variable_ordinal k b) (variables_scope k b (typed_scope noted)))
+    → Agree typed_by_name typed_by_ordinal (TypedWithin (first_variable_ordinal k b) (scope_before_variables k b (typed_scope noted)))
     (declare_constants_and_types naming (typed_by_name noted) j b) (declare_constants_and_types naming_by_label (typed_by_ordinal noted) j (relabel_block naming (label_from_ordinal naming) (typed_scope noted) k b))
 unfolding declare_constants_and_types
 firsts_typed {N} naming j k noted below (forms_block (declares cs ts vs ps) statements) =
     let b : Tree N block = forms_block (declares cs ts vs ps) statements in
-    subst₂ (λ u v. Agree typed_by_name typed_by_ordinal (TypedWithin (first_variable_ordinal k b) (variables_scope k b (typed_scope noted)))
+    subst₂ (λ u v. Agree typed_by_name typed_by_ordinal (TypedWithin (first_variable_ordinal k b) (scope_before_variables k b (typed_scope noted)))
     (declare_constants_and_types naming (typed_by_name noted) j b) (option_and_then (λ env. declare_types naming_by_label env j v) (declare_constants naming_by_label (typed_by_ordinal noted) u)))
     (sym (constants-section naming (label_from_ordinal naming) (typed_scope noted) k cs))
-    (sym (types-section naming (label_from_ordinal naming) (types_scope k b (typed_scope noted)) (first_type_ordinal k b) ts))
-    (agree-then typed_by_name typed_by_ordinal (TypedWithin (first_type_ordinal k b) (types_scope k b (typed_scope noted))) typed_by_name typed_by_ordinal (TypedWithin (first_variable_ordinal k b) (variables_scope k b (typed_scope noted)))
-    (λ env. declare_types naming env j (section_types ts)) (λ env. declare_types naming_by_label env j (relabel_types naming (label_from_ordinal naming) (types_scope k b (typed_scope noted)) (first_type_ordinal k b) (section_types ts)))
+    (sym (types-section naming (label_from_ordinal naming) (scope_before_types k b (typed_scope noted)) (first_type_ordinal k b) ts))
+    (agree-then typed_by_name typed_by_ordinal (TypedWithin (first_type_ordinal k b) (scope_before_types k b (typed_scope noted))) typed_by_name typed_by_ordinal (TypedWithin (first_variable_ordinal k b) (scope_before_variables k b (typed_scope noted)))
+    (λ env. declare_types naming env j (section_types ts)) (λ env. declare_types naming_by_label env j (relabel_types naming (label_from_ordinal naming) (scope_before_types k b (typed_scope noted)) (first_type_ordinal k b) (section_types ts)))
     (declare_constants naming (typed_by_name noted) (section_constants cs)) (declare_constants naming_by_label (typed_by_ordinal noted) (relabel_constants naming (label_from_ordinal naming) (typed_scope noted) k (section_constants cs)))
     (constants_typed naming k noted below (section_constants cs))
     (λ inner within. subst (λ s. Agree typed_by_name typed_by_ordinal (TypedWithin (first_variable_ordinal k b) (declare_names (first_type_ordinal k b) (declared_type_names (section_types ts)) s))
@@ -268,20 +268,20 @@ firsts_typed {N} naming j k noted below (forms_block (declares cs ts vs ps) stat
 
 -- A block's constants, types and variables have the same bindings by names and by ordinals.
 pub declarations_typed : {N : Type 0} (naming : Naming N) (j k : ℕ) (noted : TypeNoted N) → TypedBelow k noted → (b : Tree N block)
-    → Agree typed_by_name typed_by_ordinal (TypedWithin (first_procedure_ordinal k b) (procedures_scope k b (typed_scope noted)))
+    → Agree typed_by_name typed_by_ordinal (TypedWithin (first_procedure_ordinal k b) (scope_before_procedures k b (typed_scope noted)))
     (option_and_then (declare_typed_variables naming (constructors_before_variables j b) (block_variables b)) (declare_constants_and_types naming (typed_by_name noted) j b))
     (option_and_then (declare_typed_variables naming_by_label (constructors_before_variables j (relabel_block naming (label_from_ordinal naming) (typed_scope noted) k b)) (block_variables (relabel_block naming (label_from_ordinal naming) (typed_scope noted) k b)))
     (declare_constants_and_types naming_by_label (typed_by_ordinal noted) j (relabel_block naming (label_from_ordinal naming) (typed_scope noted) k b)))
 declarations_typed {N} naming j k noted below (forms_block (declares cs ts vs ps) statements) =
     let b : Tree N block = forms_block (declares cs ts vs ps) statements in
     let scope : Scope N = typed_scope noted in
-    subst₂ (λ n gs. Agree typed_by_name typed_by_ordinal (TypedWithin (first_procedure_ordinal k b) (procedures_scope k b scope))
+    subst₂ (λ n gs. Agree typed_by_name typed_by_ordinal (TypedWithin (first_procedure_ordinal k b) (scope_before_procedures k b scope))
     (option_and_then (declare_typed_variables naming (constructors_before_variables j b) (section_variables vs)) (declare_constants_and_types naming (typed_by_name noted) j b))
     (option_and_then (declare_typed_variables naming_by_label (j + n) gs) (declare_constants_and_types naming_by_label (typed_by_ordinal noted) j (relabel_block naming (label_from_ordinal naming) scope k b))))
-    (sym (ap types_constructor_count (types-section naming (label_from_ordinal naming) (types_scope k b scope) (first_type_ordinal k b) ts) ∙ types_constructor_count-relabel naming (label_from_ordinal naming) (types_scope k b scope) (first_type_ordinal k b) (section_types ts)))
-    (sym (variables-section naming (label_from_ordinal naming) (variables_scope k b scope) (first_variable_ordinal k b) vs))
-    (agree-then typed_by_name typed_by_ordinal (TypedWithin (first_variable_ordinal k b) (variables_scope k b scope)) typed_by_name typed_by_ordinal (TypedWithin (first_procedure_ordinal k b) (procedures_scope k b scope))
-    (declare_typed_variables naming (constructors_before_variables j b) (section_variables vs)) (declare_typed_variables naming_by_label (constructors_before_variables j b) (relabel_variables naming (label_from_ordinal naming) (variables_scope k b scope) (first_variable_ordinal k b) (section_variables vs)))
+    (sym (ap types_constructor_count (types-section naming (label_from_ordinal naming) (scope_before_types k b scope) (first_type_ordinal k b) ts) ∙ types_constructor_count-relabel naming (label_from_ordinal naming) (scope_before_types k b scope) (first_type_ordinal k b) (section_types ts)))
+    (sym (variables-section naming (label_from_ordinal naming) (scope_before_variables k b scope) (first_variable_ordinal k b) vs))
+    (agree-then typed_by_name typed_by_ordinal (TypedWithin (first_variable_ordinal k b) (scope_before_variables k b scope)) typed_by_name typed_by_ordinal (TypedWithin (first_procedure_ordinal k b) (scope_before_procedures k b scope))
+    (declare_typed_variables naming (constructors_before_variables j b) (section_variables vs)) (declare_typed_variables naming_by_label (constructors_before_variables j b) (relabel_variables naming (label_from_ordinal naming) (scope_before_variables k b scope) (first_variable_ordinal k b) (section_variables vs)))
     (declare_constants_and_types naming (typed_by_name noted) j b) (declare_constants_and_types naming_by_label (typed_by_ordinal noted) j (relabel_block naming (label_from_ordinal naming) scope k b))
     (firsts_typed naming j k noted below b)
     (λ inner within. subst (λ s. Agree typed_by_name typed_by_ordinal (TypedWithin (first_procedure_ordinal k b) (declare_names (first_variable_ordinal k b) (variable_names (section_variables vs)) s))
@@ -301,17 +301,17 @@ mutual
   pub block_is_well_typed-agrees : {N : Type 0} (naming : Naming N) (j k : ℕ) (noted : TypeNoted N) → TypedBelow k noted → (b : Tree N block) → block_is_well_typed naming_by_label (typed_by_ordinal noted) j (relabel_block naming (label_from_ordinal naming) (typed_scope noted) k b) ≡ block_is_well_typed naming (typed_by_name noted) j b
   block_is_well_typed-agrees {N} naming j k noted below (forms_block (declares cs ts vs ps) statements) =
       let b : Tree N block = forms_block (declares cs ts vs ps) statements in
-      hold-agrees typed_by_name typed_by_ordinal (TypedWithin (first_procedure_ordinal k b) (procedures_scope k b (typed_scope noted)))
+      hold-agrees typed_by_name typed_by_ordinal (TypedWithin (first_procedure_ordinal k b) (scope_before_procedures k b (typed_scope noted)))
       (option_and_then (declare_typed_variables naming (constructors_before_variables j b) (section_variables vs)) (declare_constants_and_types naming (typed_by_name noted) j b))
       (option_and_then (declare_typed_variables naming_by_label (constructors_before_variables j (relabel_block naming (label_from_ordinal naming) (typed_scope noted) k b)) (block_variables (relabel_block naming (label_from_ordinal naming) (typed_scope noted) k b)))
       (declare_constants_and_types naming_by_label (typed_by_ordinal noted) j (relabel_block naming (label_from_ordinal naming) (typed_scope noted) k b)))
       (λ inner. procedures_are_well_typed naming inner (constructors_before_procedures j b) statements ps)
       (λ inner. procedures_are_well_typed naming_by_label inner (constructors_before_procedures j (relabel_block naming (label_from_ordinal naming) (typed_scope noted) k b)) (relabel_uses naming (label_from_ordinal naming) (body_scope k b (typed_scope noted)) statements)
-      (relabel_procedures naming (label_from_ordinal naming) (procedures_scope k b (typed_scope noted)) (first_procedure_ordinal k b) ps))
+      (relabel_procedures naming (label_from_ordinal naming) (scope_before_procedures k b (typed_scope noted)) (first_procedure_ordinal k b) ps))
       (declarations_typed naming j k noted below b)
       (λ inner within. (λ i. procedures_are_well_typed naming_by_label (typed_by_ordinal inner)
-      (j + (ap types_constructor_count (types-section naming (label_from_ordinal naming) (types_scope k b (typed_scope noted)) (first_type_ordinal k b) ts) ∙ types_constructor_count-relabel naming (label_from_ordinal naming) (types_scope k b (typed_scope noted)) (first_type_ordinal k b) (section_types ts)) i
-      + (ap variables_constructor_count (variables-section naming (label_from_ordinal naming) (variables_scope k b (typed_scope noted)) (first_variable_ordinal k b) vs) ∙ variables_constructor_count-relabel naming (label_from_ordinal naming) (variables_scope k b (typed_scope noted)) (first_variable_ordinal k b) (section_variables vs)) i)
+      (j + (ap types_constructor_count (types-section naming (label_from_ordinal naming) (scope_before_types k b (typed_scope noted)) (first_type_ordinal k b) ts) ∙ types_constructor_count-relabel naming (label_from_ordinal naming) (scope_before_types k b (typed_scope noted)) (first_type_ordinal k b) (section_types ts)) i
+      + (ap variables_constructor_count (variables-section naming (label_from_ordinal naming) (scope_before_variables k b (typed_scope noted)) (first_variable_ordinal k b) vs) ∙ variables_constructor_count-relabel naming (label_from_ordinal naming) (scope_before_variables k b (typed_scope noted)) (first_variable_ordinal k b) (section_variables vs)) i)
       (relabel_uses naming (label_from_ordinal naming) (declare_procedure_names (first_procedure_ordinal k b) ps (sym within.0 i)) statements) (relabel_procedures naming (label_from_ordinal naming) (sym within.0 i) (first_procedure_ordinal k b) ps))
       ∙ procedures_are_well_typed-agrees naming (constructors_before_procedures j b) (first_procedure_ordinal k b) inner within.1 statements ps)
 

@@ -18,8 +18,7 @@ pub record BodyWithEnvironment (N : Type 0) : Type 0 where
   pub environment : TypeEnvironment N
   pub statements : Tree N (maybe body)
 
--- Returns the bodies of a block. The body of a block comes in the list after the bodies of its
--- procedures.
+-- Returns the bodies of a block. The body of a block comes after the bodies of its procedures.
 unfoldable mutual
   unfolding typed_parameters
 

@@ -4,7 +4,7 @@
 use Rattle.std.specs.Prelude.{ℕ, ◌+◌, ◌∷◌, Some, Option}
 use Rattle.ob0_tree.specs.Tree.{Tree, block, constant, declares, declares_constant, declares_procedure, declares_type, declares_variable, end, further_section, forms_block, item, items, more, procedure, then_section, type_definition, variable}
 use Rattle.ob0_language_names.specs.Names.{Naming}
-use Rattle.ob0_language_names.specs.Parts.{block_constants, block_types, block_variables, formal_sections, procedure_formals, section_type, section_types, section_variables}
+use Rattle.ob0_language_names.specs.Parts.{block_constants, block_types, block_variables, formal_sections, procedure_formals, parameter_section_type, section_types, section_variables}
 use Rattle.ob0_language_types.specs.Environments.{Environment, meanings}
 use Rattle.ob0_language_types.specs.Expressions.{a_constant, a_type}
 use Rattle.ob0_language_types.specs.Typing.{constant_value, constructor_count, denoted_type, ◌>>=◌}
@@ -67,7 +67,7 @@ variables_constructor_count (more (declares_variable ns u) gs) =
 abbrev pub formals_constructor_count : {N : Type 0} → Tree N (items further_section) → ℕ
 formals_constructor_count end = 0
 formals_constructor_count (more (then_section f) fs) =
-    constructor_count (section_type f) + formals_constructor_count fs
+    constructor_count (parameter_section_type f) + formals_constructor_count fs
 
 -- Returns the number of words ARRAY and RECORD in a block, including its procedures.
 abbrev mutual

@@ -2,10 +2,10 @@
 -- Rule: none; states laws about edits and types.
 use Rattle.std.specs.Prelude.{All, IsTrue, Some, codes, false, true, ℕ, ◌≡◌, ◌≢◌}
 use Rattle.ob0_tree.specs.Tree.{Tree, factor, module_text}
-use Rattle.ob0_language_names.specs.NonFactorNames.{non_factor_names}
-use Rattle.ob0_language_names.specs.Inlining.{OccurrenceSet, inlined, inlined_everywhere, module_without}
+use Rattle.ob0_language_names.specs.NonFactorNames.{non_factor_occurrences}
+use Rattle.ob0_language_names.specs.Inlining.{OccurrenceSet, inlined, inlined_everywhere, module_without_constant}
 use Rattle.ob0_language_names.specs.Names.{Name, declared}
-use Rattle.ob0_language_names.specs.Occurrences.{Free, ordinal_bound_at}
+use Rattle.ob0_language_names.specs.Occurrences.{IsFreeName, ordinal_bound_at}
 use Rattle.ob0_language_names.specs.Scopes.{numbered, renamed}
 use Rattle.ob0_language_names.specs.OccurrenceLookup.{resolve_at_occurrence}
 use Rattle.ob0_language_values.specs.Values.{Value, elements, fits_in_32_bits, members, number, truth}
@@ -18,7 +18,7 @@ use Rattle.ob0_language_types.specs.Written.{value_literal}
 abbrev pub FreeRenamingKeepsWellTyped : Type 0
 FreeRenamingKeepsWellTyped =
     (m : Tree Name module_text) (d : ℕ) (new : Name)
-    → Free m d new
+    → IsFreeName m d new
     → WellTyped m
     → WellTyped (renamed m d new)
 
@@ -66,7 +66,7 @@ RemovingUnusedKeepsWellTyped =
     → IsConstantWithLiteral m d w v
     → ((k : ℕ) → ordinal_bound_at m k ≢ Some d)
     → WellTyped m
-    → WellTyped (module_without d m)
+    → WellTyped (module_without_constant d m)
 
 -- States that a well-typed module remains well-typed if all uses of a constant are replaced by the constant's literal
 -- and the declaration is removed. If the literal is TRUE or FALSE, this word must mean the predeclared constant at each
@@ -87,4 +87,4 @@ ConstantUsesAreFactors =
     (m : Tree Name module_text) (d : ℕ) (w : Value) (v : Tree Name factor)
     → IsConstantWithLiteral m d w v
     → WellTyped m
-    → All (λ l. l ≢ declared d) (non_factor_names (numbered m))
+    → All (λ l. l ≢ declared d) (non_factor_occurrences (numbered m))

@@ -4,7 +4,7 @@
 use Rattle.std.specs.Prelude.{true, false, List, [], ◌∷◌, ◌++◌, pos, negsuc, if◌then◌else◌, nat_lt, Some, Option}
 use Rattle.ob0_tree.specs.Tree.{Tree, addend, adds, compares, designator, end, expression, factor, field, index, integer, items, more, multiplier, multiplies, negation, none, one, parenthesised, product, relates, selector, simple, sum, term}
 use Rattle.ob0_language_names.specs.Names.{Name}
-use Rattle.ob0_language_values.specs.Values.{Index, Outcome, Place, Shape, Step, Store, Stuck, Value, add, add_short_circuits, at_field, at_index, value_at_path, count_values, elements, ends_run_with, succeeds_with, multiply, multiply_short_circuits, negate, number, or_stuck, part, read_place, apply_relation, apply_sign, ◌>>=◌}
+use Rattle.ob0_language_values.specs.Values.{Index, Outcome, Place, Shape, Step, Store, Stuck, Value, add, add_short_circuits, at_field, at_index, value_at_path, count_values, elements, ends_run_with, succeeds_with, multiply, multiply_short_circuits, negate, number, or_stuck, value_at_step, read_place, apply_relation, apply_sign, ◌>>=◌}
 
 -- the standard procedures: Read, Write and WriteLn
 pub data StandardProcedure : Type 0 where
@@ -115,13 +115,13 @@ unfoldable mutual
       → Outcome (List Step)
   evaluate_selectors meaning store v end = succeeds_with []
   evaluate_selectors meaning store v (more (field x) rest) = do
-    w ← or_stuck (part v (at_field (meaning.written x)))
+    w ← or_stuck (value_at_step v (at_field (meaning.written x)))
     steps ← evaluate_selectors meaning store w rest
     succeeds_with (at_field (meaning.written x) ∷ steps)
   evaluate_selectors meaning store v (more (index e) rest) = do
     i ← evaluate meaning store e
     s ← element_step v i
-    w ← or_stuck (part v s)
+    w ← or_stuck (value_at_step v s)
     steps ← evaluate_selectors meaning store w rest
     succeeds_with (s ∷ steps)
 

@@ -4,7 +4,7 @@
 -- Rule: none; states laws about types.
 use Rattle.std.specs.Prelude.{◌≡◌, ℕ, suc, true, ◌↔◌, List, [], ◌∷◌, IsTrue, Some}
 use Rattle.ob0_tree.specs.Tree.{Tree, expression, factor, module_text, occurrences}
-use Rattle.ob0_language_names.specs.Inlining.{OccurrenceSet, inline_in}
+use Rattle.ob0_language_names.specs.Inlining.{OccurrenceSet, inline_in_tree}
 use Rattle.ob0_language_names.specs.Names.{Name, naming_by_label, naming_by_spelling}
 use Rattle.ob0_language_names.specs.Scopes.{numbered}
 use Rattle.ob0_language_types.specs.Expressions.{Meanings, a_constant, evaluate, evaluate_factor}
@@ -57,7 +57,7 @@ InliningKeepsEvaluation =
     (w : Value) (k : ℕ) (e : Tree Name expression)
     → evaluate_factor meaning store v ≡ succeeds_with w
     → EachUseHas uses (λ x. meaning.object_for x ≡ Some (a_constant w)) k (occurrences e)
-    → evaluate meaning store (inline_in uses v k e) ≡ evaluate meaning store e
+    → evaluate meaning store (inline_in_tree uses v k e) ≡ evaluate meaning store e
 
 -- States that replacing uses of a constant by a factor with the constant's type leaves an expression's type unchanged.
 -- `k` is the number of the first occurrence of a name in the expression. Occurrences are numbered from 0 in text order.
@@ -67,4 +67,4 @@ InliningKeepsTypes =
     (e : Tree Name expression)
     → type_of_factor checked v ≡ value_type w
     → EachUseHas uses (λ x. checked.object_for x ≡ Some (a_constant w)) k (occurrences e)
-    → type_of checked (inline_in uses v k e) ≡ type_of checked e
+    → type_of checked (inline_in_tree uses v k e) ≡ type_of checked e

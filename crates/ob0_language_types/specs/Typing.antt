@@ -263,9 +263,9 @@ abbrev mutual
   groups_constructor_count (more (then_fields g) rest) = group_constructor_count g + groups_constructor_count rest
 
 -- returns the type that a type's name means; None for any other object
-abbrev pub type_of_name : {V P : Type 0} → Option (Object V P) → Option Shape
-type_of_name (Some (a_type s)) = Some s
-type_of_name _ = None
+abbrev pub type_of_type_object : {V P : Type 0} → Option (Object V P) → Option Shape
+type_of_type_object (Some (a_type s)) = Some s
+type_of_type_object _ = None
 
 -- returns a list of fields: a field of type `s` for each of these names, followed by the fields `rest`
 abbrev pub prepend_fields : List Name → Shape → FieldShapes → FieldShapes
@@ -280,7 +280,7 @@ unfoldable mutual
   -- Returns the type that a written type denotes: a name's type, or an array or a record within the limits. Returns
   -- None if the written type has an error. `k` is the number of words ARRAY and RECORD before the written type.
   pub denoted_type : {N V P : Type 0} → Meanings N V P → ℕ → Tree N written_type → Option Shape
-  denoted_type meaning k (named_type x) = type_of_name (meaning.object_for x)
+  denoted_type meaning k (named_type x) = type_of_type_object (meaning.object_for x)
   denoted_type meaning k (array_type e t) = do
     v ← constant_value meaning e
     n ← array_length v

@@ -4,8 +4,8 @@ use Rattle.std.specs.Prelude.{ℕ, ◌+◌, Bool, true, false, ◌&&◌, List, [
 use Rattle.ob0_tree.specs.Tree.{Tree, assigns, begins, block, body, branches, calls, declares, declares_procedure, declares_variable, else_branch, else_part, elsif_branch, elsif_part, empty, end, expression, further_section, further_statement, forms_block, item, items, maybe, module_text, more, none, one, procedure, repeat_loop, runs, section, selector, sequence, statement, then_section, then_statement, value_section, variable, variable_section, while_loop}
 use Rattle.ob0_language_names.specs.ConsistentNames.{has_consistent_names}
 use Rattle.ob0_language_names.specs.Names.{Name, Naming, naming_by_spelling, same_name}
-use Rattle.ob0_language_names.specs.Parts.{formal_sections, module_block, names_in_list, procedure_formals, procedure_name, section_names, section_type, section_variables}
-use Rattle.ob0_language_types.specs.Arguments.{arguments_listed}
+use Rattle.ob0_language_names.specs.Parts.{formal_sections, module_block, names_in_list, procedure_formals, procedure_name, parameter_section_names, parameter_section_type, section_variables}
+use Rattle.ob0_language_types.specs.Arguments.{call_arguments}
 use Rattle.ob0_language_types.specs.Declarations.{constructors_before_variables, constructors_before_procedures, declare_constants_and_types, formals_constructor_count, procedure_constructor_count}
 use Rattle.ob0_language_types.specs.Environments.{Environment, meanings, outermost_environment}
 use Rattle.ob0_language_types.specs.Expressions.{Meanings, Object, a_procedure, a_standard, a_variable, read_procedure, write_procedure, write_line_procedure}
@@ -136,7 +136,7 @@ unfoldable mutual
   statement_is_well_typed meaning (assigns x path e) =
       same_known_shape (variable_type meaning (Some (x, path))) (type_of meaning e)
   statement_is_well_typed meaning (calls x es) =
-      call_is_well_typed meaning (signature_of (meaning.object_for x)) (arguments_listed es)
+      call_is_well_typed meaning (signature_of (meaning.object_for x)) (call_arguments es)
   statement_is_well_typed meaning (branches e statements rest last) =
       condition_is_boolean meaning e
       && (sequence_is_well_typed meaning statements && (elsifs_are_well_typed meaning rest && else_is_well_typed meaning last))
@@ -207,11 +207,11 @@ unfoldable pub typed_parameters : {N : Type 0}
 unfolding denoted_type
 typed_parameters naming env k end = Some []
 typed_parameters naming env k (more (then_section f) fs) = do
-  s ← denoted_type (meanings naming env) k (section_type f)
-  rest ← typed_parameters naming (bind_names (section_names f) (a_variable s) env)
-      (k + constructor_count (section_type f)) fs
+  s ← denoted_type (meanings naming env) k (parameter_section_type f)
+  rest ← typed_parameters naming (bind_names (parameter_section_names f) (a_variable s) env)
+      (k + constructor_count (parameter_section_type f)) fs
   Some (map (λ x. record { name = x; formal = record { mode = section_mode f; shape = s } })
-      (section_names f)
+      (parameter_section_names f)
       ++ rest)
 
 -- returns the environment `env` with these parameters added, each bound as a variable of its type

@@ -151,8 +151,9 @@ pub data Step : Type 0 where
   at_index : ℕ → Step
   at_field : Name → Step
 
--- a place, which a designator gives: the index of a variable in the store, counted from 0, and a path to a part of the
--- variable's value
+-- a place, which a designator gives: the index of a variable in the store, counted from 0, and a
+-- path that leads from the variable's value to an element or member within it; an empty path leads
+-- to the whole value
 pub record Place : Type 0 where
   pub variable : ℕ
   pub path : List Step
@@ -186,29 +187,31 @@ with_named_member no_member x new = no_member
 with_named_member (next_member y v rest) x new =
     if same_name x y then next_member y new rest else next_member y v (with_named_member rest x new)
 
--- returns the element or member that one step of a path selects from a value; None if there is no such part
-abbrev pub part : Value → Step → Option Value
-part (elements vs) (at_index i) = nth_value vs i
-part (members k ms) (at_field x) = named_member ms x
-part _ _ = None
+-- returns the element or member that one step of a path selects from a value; None if the step
+-- selects nothing
+abbrev pub value_at_step : Value → Step → Option Value
+value_at_step (elements vs) (at_index i) = nth_value vs i
+value_at_step (members k ms) (at_field x) = named_member ms x
+value_at_step _ _ = None
 
--- returns a value in which `new` replaces the element or member that one step selects; unchanged if there is no such
--- part
-abbrev pub with_part : Value → Step → Value → Value
-with_part (elements vs) (at_index i) new = elements (with_nth_value vs i new)
-with_part (members k ms) (at_field x) new = members k (with_named_member ms x new)
-with_part v _ new = v
+-- returns a value in which `new` replaces the element or member that one step selects; unchanged if
+-- the step selects nothing
+abbrev pub with_value_at_step : Value → Step → Value → Value
+with_value_at_step (elements vs) (at_index i) new = elements (with_nth_value vs i new)
+with_value_at_step (members k ms) (at_field x) new = members k (with_named_member ms x new)
+with_value_at_step v _ new = v
 
--- returns the part of a value that a path selects; None if there is no such part
+-- returns the value that a path leads to, starting at a value; None if a step selects nothing
 abbrev pub value_at_path : List Step → Value → Option Value
 value_at_path [] v = Some v
-value_at_path (s ∷ path) v = option_and_then (value_at_path path) (part v s)
+value_at_path (s ∷ path) v = option_and_then (value_at_path path) (value_at_step v s)
 
--- returns the value `v`, in which `new` replaces the part that a path selects; None if there is no such part
+-- returns the value `v`, in which `new` replaces the value that a path leads to; None if a step
+-- selects nothing
 abbrev pub with_value_at_path : List Step → Value → Value → Option Value
 with_value_at_path [] new v = Some new
 with_value_at_path (s ∷ path) new v =
-    option_and_then (λ old. option_map (with_part v s) (with_value_at_path path new old)) (part v s)
+    option_and_then (λ old. option_map (with_value_at_step v s) (with_value_at_path path new old)) (value_at_step v s)
 
 -- returns the value at a place; None if there is no such place
 abbrev pub read_place : Store → Place → Option Value

@@ -17,26 +17,26 @@ use Rattle.ob0_scan.specs.declared.lexeme.LexemeKind.TheVariants as lexeme
 use Rattle.ob0_scan.specs.declared.lexeme.Span.{Span}
 use Rattle.ob0_scan.specs.declared.lexeme.Token.{Token}
 use Rattle.ob0_scan.specs.Lexed.{Lexeme, text_of_lexemes}
-use Rattle.ob0_scan.specs.TextWithTokens.{TextWithTokens, IsScan, span_from, token_at, comment_at, tokens_from, comments_from}
+use Rattle.ob0_scan.specs.TextWithTokens.{TextWithTokens, IsScan, span_from, tokens_of_lexeme, comments_of_lexeme, tokens_from, comments_from}
 use Rattle.ob0_scan.proofs.Cuts.{nonempty}
 use Rattle.ob0_scan.proofs.Spans.{LexemesFrom, next_from}
 use Rattle.ob0_layout.specs.declared.gap.Gap.{Gap}
 use Rattle.ob0_layout.specs.declared.sites.GapSite.{GapSite}
-use Rattle.ob0_layout.specs.declared.sites.NextLexeme.{NextLexeme}
-use Rattle.ob0_layout.specs.declared.sites.NextLexeme.TheVariants as next
+use Rattle.ob0_layout.specs.declared.sites.TokenOrComment.{TokenOrComment}
+use Rattle.ob0_layout.specs.declared.sites.TokenOrComment.TheVariants as next
 use Rattle.ob0_layout.specs.declared.sites.KindAndRole.{KindAndRole}
 use Rattle.ob0_layout.specs.declared.line_role.LineRole.{LineRole}
-use Rattle.ob0_layout.specs.Cuts.{changed_sites, gap_before, gap_cut, last_gap, next_lexeme}
-use Rattle.ob0_layout.specs.Gaps.{all_gaps, changed_gaps, gaps_of_lexemes, gaps_after, is_changed}
-use Rattle.ob0_layout.specs.Layout.{LexemeWithRole, lexemes_with_roles, next_line_level, next_role, has_break, comment_role, gap_text_between, indentation}
+use Rattle.ob0_layout.specs.Cuts.{changed_sites, gap_before, gap_cut, last_gap, next_token_or_comment}
+use Rattle.ob0_layout.specs.Gaps.{all_gaps, changed_gaps, gaps_of_lexemes, gaps_after, formatting_changes_gap}
+use Rattle.ob0_layout.specs.Layout.{LexemeWithRole, lexemes_with_roles, next_line_level, next_line_role, contains_line_break, comment_role, gap_text_between, indentation}
 use Rattle.ob0_layout.proofs.Apart.{IsSolid}
 use Rattle.ob0_layout.proofs.InText.{from_start}
 
-break_append : (xs ys : List ℕ) → has_break (xs ++ ys) ≡ (has_break xs || has_break ys)
+break_append : (xs ys : List ℕ) → contains_line_break (xs ++ ys) ≡ (contains_line_break xs || contains_line_break ys)
 break_append [] ys = refl
 break_append (x ∷ xs) ys = by_test (x == 10) (x == 13) (break_append xs ys)
   where
-    by_test : (a b : Bool) → has_break (xs ++ ys) ≡ (has_break xs || has_break ys) → (a || (b || has_break (xs ++ ys))) ≡ ((a || (b || has_break xs)) || has_break ys)
+    by_test : (a b : Bool) → contains_line_break (xs ++ ys) ≡ (contains_line_break xs || contains_line_break ys) → (a || (b || contains_line_break (xs ++ ys))) ≡ ((a || (b || contains_line_break xs)) || contains_line_break ys)
     by_test true b e = refl
     by_test false true e = refl
     by_test false false e = e
@@ -46,7 +46,7 @@ or_assoc true b c = refl
 or_assoc false b c = refl
 
 first_token_kind : (k : LexemeKind) (at size : ℕ) (ls : List Lexeme) (t : Token) (ts : List Token) → (tokens_from (at + size) ls ≡ t ∷ ts → at + size ≤ t.span.start)
-    → token_at k (span_from at size) ++ tokens_from (at + size) ls ≡ t ∷ ts → at ≤ t.span.start
+    → tokens_of_lexeme k (span_from at size) ++ tokens_from (at + size) ls ≡ t ∷ ts → at ≤ t.span.start
 first_token_kind (lexeme.Token k) at size ls t ts more e = let same : record { kind = k; span = span_from at size } ≡ t = first_same e in omega (arith, ap (λ (x : Token). x.span.start) same)
 first_token_kind _ at size ls t ts more e = omega (arith, more e)
 
@@ -56,7 +56,7 @@ first_bound_token at [] t ts e = absurd (cc)
 first_bound_token at (l ∷ ls) t ts e = first_token_kind l.kind at (length l.text) ls t ts (first_bound_token (at + length l.text) ls t ts) e
 
 first_comment_kind : (k : LexemeKind) (at size : ℕ) (ls : List Lexeme) (c : Span) (cs : List Span) → (comments_from (at + size) ls ≡ c ∷ cs → at + size ≤ c.start)
-    → comment_at k (span_from at size) ++ comments_from (at + size) ls ≡ c ∷ cs → at ≤ c.start
+    → comments_of_lexeme k (span_from at size) ++ comments_from (at + size) ls ≡ c ∷ cs → at ≤ c.start
 first_comment_kind lexeme.Comment at size ls c cs more e = let same : span_from at size ≡ c = first_same e in omega (arith, ap (λ (x : Span). x.start) same)
 first_comment_kind _ at size ls c cs more e = omega (arith, more e)
 
@@ -65,28 +65,28 @@ first_comment at [] c cs e = absurd (cc)
 first_comment at (l ∷ ls) c cs e = first_comment_kind l.kind at (length l.text) ls c cs (first_comment (at + length l.text) ls c cs) e
 
 -- returns a lexeme at this place as the next token or comment; None if it is white space
-abbrev first_of : LexemeKind → Span → Option NextLexeme
+abbrev first_of : LexemeKind → Span → Option TokenOrComment
 first_of lexeme.Space span = None
 first_of lexeme.Comment span = Some (next.Comment span)
 first_of (lexeme.Token k) span = Some (next.Token (record { kind = k; span = span }))
 
 comes_first : (k : LexemeKind) (at : ℕ) (t : List ℕ) (ls : List Lexeme) → IsSolid k → 0 < length t
-    → next_lexeme (tokens_from at (record { kind = k; text = t } ∷ ls)) (comments_from at (record { kind = k; text = t } ∷ ls)) ≡ first_of k (span_from at (length t))
-comes_first lexeme.Space at t ls without_white_space some = absurd without_white_space
-comes_first lexeme.Comment at t ls without_white_space some = by_tokens (tokens_from (at + length t) ls) refl
+    → next_token_or_comment (tokens_from at (record { kind = k; text = t } ∷ ls)) (comments_from at (record { kind = k; text = t } ∷ ls)) ≡ first_of k (span_from at (length t))
+comes_first lexeme.Space at t ls lexemes_without_white_space some = absurd lexemes_without_white_space
+comes_first lexeme.Comment at t ls lexemes_without_white_space some = by_tokens (tokens_from (at + length t) ls) refl
   where
-    by_tokens : (ts : List Token) → tokens_from (at + length t) ls ≡ ts → next_lexeme ts (span_from at (length t) ∷ comments_from (at + length t) ls) ≡ Some (next.Comment (span_from at (length t)))
+    by_tokens : (ts : List Token) → tokens_from (at + length t) ls ≡ ts → next_token_or_comment ts (span_from at (length t) ∷ comments_from (at + length t) ls) ≡ Some (next.Comment (span_from at (length t)))
     by_tokens [] e = refl
     by_tokens (u ∷ ts) e =
         let later = first_bound_token (at + length t) ls u ts e in
         let test : nat_lt at u.span.start ≡ true = grind (arith, nat_tests) in
         ap (λ b. if b then Some (next.Comment (span_from at (length t))) else Some (next.Token u)) test
-comes_first (lexeme.Token k) at t ls without_white_space some = by_comments (comments_from (at + length t) ls) refl
+comes_first (lexeme.Token k) at t ls lexemes_without_white_space some = by_comments (comments_from (at + length t) ls) refl
   where
     token : Token
     token = record { kind = k; span = span_from at (length t) }
 
-    by_comments : (cs : List Span) → comments_from (at + length t) ls ≡ cs → next_lexeme (token ∷ tokens_from (at + length t) ls) cs ≡ Some (next.Token token)
+    by_comments : (cs : List Span) → comments_from (at + length t) ls ≡ cs → next_token_or_comment (token ∷ tokens_from (at + length t) ls) cs ≡ Some (next.Token token)
     by_comments [] e = refl
     by_comments (c ∷ cs) e =
         let later = first_comment (at + length t) ls c cs e in
@@ -107,38 +107,38 @@ module _ (text : List ℕ) where
     pub kind : LexemeKind
     pub t : List ℕ
     pub ls : List Lexeme
-    pub without_white_space : IsSolid kind
+    pub lexemes_without_white_space : IsSolid kind
     pub up : at ≤ place
-    pub index_terminals_from : LexemesFrom text place (record { kind = kind; text = t } ∷ ls) []
+    pub indexed_terminals_from : LexemesFrom text place (record { kind = kind; text = t } ∷ ls) []
     pub tokens : tokens_from at rest ≡ tokens_from place (record { kind = kind; text = t } ∷ ls)
     pub comments : comments_from at rest ≡ comments_from place (record { kind = kind; text = t } ∷ ls)
     pub found : (level : ℕ) (broken : Bool) (ss : List LineRole)
-        → lexemes_with_roles at level broken ss rest ≡ lexemes_with_roles place level (broken || has_break (slice_range text at place)) ss (record { kind = kind; text = t } ∷ ls)
+        → lexemes_with_roles at level broken ss rest ≡ lexemes_with_roles place level (broken || contains_line_break (slice_range text at place)) ss (record { kind = kind; text = t } ∷ ls)
 
   over_space : (at : ℕ) (t : List ℕ) (ls : List Lexeme) → drop at text ≡ t ++ text_of_lexemes ls → drop (at + length t) text ≡ text_of_lexemes ls
       → NoMore (at + length t) ls ⊎ Found (at + length t) ls → NoMore at (record { kind = lexeme.Space; text = t } ∷ ls) ⊎ Found at (record { kind = lexeme.Space; text = t } ∷ ls)
-  over_space at t ls here there (inl n) = inl (record { up = omega (arith, n.up); tokens = n.tokens; comments = n.comments; none = λ level broken ss. n.none level (broken || has_break t) ss })
+  over_space at t ls here there (inl n) = inl (record { up = omega (arith, n.up); tokens = n.tokens; comments = n.comments; none = λ level broken ss. n.none level (broken || contains_line_break t) ss })
   over_space at t ls here there (inr n) =
       let further : n.place - at ≡ length t + (n.place - (at + length t)) = omega (arith, n.up) in
       let parts : slice_range text at n.place ≡ t ++ slice_range text (at + length t) n.place =
       (λ i. take (further i) (here i)) ∙ take-append-add t (text_of_lexemes ls) (n.place - (at + length t)) ∙ ap (λ r. t ++ take (n.place - (at + length t)) r) (sym there) in
-      let same : (broken : Bool) → ((broken || has_break t) || has_break (slice_range text (at + length t) n.place)) ≡ (broken || has_break (slice_range text at n.place)) =
-      λ broken. or_assoc broken (has_break t) _ ∙ ap (λ b. broken || b) (sym (ap has_break parts ∙ break_append t (slice_range text (at + length t) n.place))) in
+      let same : (broken : Bool) → ((broken || contains_line_break t) || contains_line_break (slice_range text (at + length t) n.place)) ≡ (broken || contains_line_break (slice_range text at n.place)) =
+      λ broken. or_assoc broken (contains_line_break t) _ ∙ ap (λ b. broken || b) (sym (ap contains_line_break parts ∙ break_append t (slice_range text (at + length t) n.place))) in
       inr (record {
         place = n.place;
         kind = n.kind;
         t = n.t;
         ls = n.ls;
-        without_white_space = n.without_white_space;
+        lexemes_without_white_space = n.lexemes_without_white_space;
         up = omega (arith, n.up);
-        index_terminals_from = n.index_terminals_from;
+        indexed_terminals_from = n.indexed_terminals_from;
         tokens = n.tokens;
         comments = n.comments;
-        found = λ level broken ss. n.found level (broken || has_break t) ss ∙ ap (λ b. lexemes_with_roles n.place level b ss (record { kind = n.kind; text = n.t } ∷ n.ls)) (same broken);
+        found = λ level broken ss. n.found level (broken || contains_line_break t) ss ∙ ap (λ b. lexemes_with_roles n.place level b ss (record { kind = n.kind; text = n.t } ∷ n.ls)) (same broken);
       })
 
   found_here : (k : LexemeKind) (at : ℕ) (t : List ℕ) (ls : List Lexeme) → IsSolid k → LexemesFrom text at (record { kind = k; text = t } ∷ ls) [] → Found at (record { kind = k; text = t } ∷ ls)
-  found_here k at t ls without_white_space s =
+  found_here k at t ls lexemes_without_white_space s =
       let zero : at - at ≡ 0 = omega arith in
       let nothing : slice_range text at at ≡ [] = ap (λ n. take n (drop at text)) zero in
       record {
@@ -146,12 +146,12 @@ module _ (text : List ℕ) where
         kind = k;
         t = t;
         ls = ls;
-        without_white_space = without_white_space;
+        lexemes_without_white_space = lexemes_without_white_space;
         up = omega arith;
-        index_terminals_from = s;
+        indexed_terminals_from = s;
         tokens = refl;
         comments = refl;
-        found = λ level broken ss. ap (λ b. lexemes_with_roles at level b ss (record { kind = k; text = t } ∷ ls)) (sym (ap (λ g. broken || has_break g) nothing ∙ or-false broken));
+        found = λ level broken ss. ap (λ b. lexemes_with_roles at level b ss (record { kind = k; text = t } ∷ ls)) (sym (ap (λ g. broken || contains_line_break g) nothing ∙ or-false broken));
       }
 
   over_kind : (k : LexemeKind) (at : ℕ) (t : List ℕ) (ls : List Lexeme) → LexemesFrom text at (record { kind = k; text = t } ∷ ls) []
@@ -210,7 +210,7 @@ module _ (indent : Indent) (text : List ℕ) where
   one_more out g cs =
       ap (λ xs. xs ++ changed_gaps text cs) (map-append (gap_cut indent) out (changed_sites indent text (g ∷ [])))
       ∙ append_assoc (map (gap_cut indent) out) (map (gap_cut indent) (changed_sites indent text (g ∷ []))) (changed_gaps text cs)
-      ∙ ap (λ xs. map (gap_cut indent) out ++ xs) (by_test (is_changed text (gap_cut indent g)))
+      ∙ ap (λ xs. map (gap_cut indent) out ++ xs) (by_test (formatting_changes_gap text (gap_cut indent g)))
     where
       by_test : (b : Bool) → map (gap_cut indent) (cond b (g ∷ []) []) ++ changed_gaps text cs ≡ cond b (gap_cut indent g ∷ changed_gaps text cs) (changed_gaps text cs)
       by_test true = refl
@@ -220,7 +220,7 @@ module _ (indent : Indent) (text : List ℕ) where
   -- that change
   pub record Passing (whole : List Cut) (left : List Token) (comments : List Span) (ss : List LineRole) (before : Option KindAndRole) (level start : ℕ) (out : List GapSite) : Type 0 where
     pub rest : List Lexeme
-    pub index_terminals_from : LexemesFrom text start rest []
+    pub indexed_terminals_from : LexemesFrom text start rest []
     pub left_is : left ≡ tokens_from start rest
     pub comments_is : comments ≡ comments_from start rest
     pub same : map (gap_cut indent) out ++ changed_gaps text (gaps_left before start (lexemes_with_roles start level (is_none before) ss rest)) ≡ changed_gaps text whole
@@ -229,7 +229,7 @@ module _ (indent : Indent) (text : List ℕ) where
       → Passing (all_gaps indent text ss scan.lexemes) left comments ss None 0 0 out
   passing_at_start s scan ss left comments out text_is left_is comments_is out_is = record {
     rest = scan.lexemes;
-    index_terminals_from = subst (λ t. LexemesFrom t 0 scan.lexemes []) (sym text_is) (from_start s scan);
+    indexed_terminals_from = subst (λ t. LexemesFrom t 0 scan.lexemes []) (sym text_is) (from_start s scan);
     left_is = left_is ∙ scan.tokens;
     comments_is = comments_is ∙ scan.comments;
     same = λ i. map (gap_cut indent) (out_is i) ++ changed_gaps text (at_start (lexemes_with_roles 0 0 true ss scan.lexemes) i);
@@ -241,7 +241,7 @@ module _ (indent : Indent) (text : List ℕ) where
       → Passing whole left' comments' ss' before' level' start out'
   passing_moved {whole = whole} {start = start} h a b c d e f = record {
     rest = h.rest;
-    index_terminals_from = h.index_terminals_from;
+    indexed_terminals_from = h.indexed_terminals_from;
     left_is = a ∙ h.left_is;
     comments_is = b ∙ h.comments_is;
     same = (λ i. map (gap_cut indent) (f i) ++ changed_gaps text (gaps_left (d i) start (lexemes_with_roles start (e i) (is_none (d i)) (c i) h.rest))) ∙ h.same;
@@ -259,12 +259,12 @@ module _ (indent : Indent) (text : List ℕ) where
       pub after : Passing whole left' comments' ss' (Some (make_solid kind role)) level' span.end (with_gap span.start (gap_before before kind role))
 
     abbrev role_at : Span → LineRole
-    role_at span = comment_role (is_none before || has_break (slice_range text start span.start)) (next_line_level level ss)
+    role_at span = comment_role (is_none before || contains_line_break (slice_range text start span.start)) (next_line_level level ss)
 
-    abbrev Goes : Option NextLexeme → Type 0
+    abbrev Goes : Option TokenOrComment → Type 0
     Goes None = (start ≤ length text) × (map (gap_cut indent) (with_gap (length text) (last_gap before)) ≡ changed_gaps text whole)
     Goes (Some (next.Comment span)) = Passes lexeme.Comment span (role_at span) left (drop 1 comments) ss level
-    Goes (Some (next.Token token)) = Passes (lexeme.Token token.kind) token.span (next_role ss) (drop 1 left) comments (drop 1 ss) (next_line_level level ss)
+    Goes (Some (next.Token token)) = Passes (lexeme.Token token.kind) token.span (next_line_role ss) (drop 1 left) comments (drop 1 ss) (next_line_level level ss)
 
     module _ (h : Passing whole left comments ss before level start out) where
       ends : NoMore text start h.rest → Goes None
@@ -290,7 +290,7 @@ module _ (indent : Indent) (text : List ℕ) where
             within = s'.place.0;
             after = record {
               rest = ls;
-              index_terminals_from = s';
+              indexed_terminals_from = s';
               left_is = tokens;
               comments_is = others;
               same = one_more out (make_site start place (gap_before before kind role)) (gaps_left (Some (make_solid kind role)) (place + length t) bs)
@@ -300,28 +300,28 @@ module _ (indent : Indent) (text : List ℕ) where
 
       passes_kind : (kind : LexemeKind) (place : ℕ) (t : List ℕ) (ls : List Lexeme) → IsSolid kind → start ≤ place → LexemesFrom text place (record { kind = kind; text = t } ∷ ls) []
           → left ≡ tokens_from place (record { kind = kind; text = t } ∷ ls) → comments ≡ comments_from place (record { kind = kind; text = t } ∷ ls)
-          → lexemes_with_roles start level (is_none before) ss h.rest ≡ lexemes_with_roles place level (is_none before || has_break (slice_range text start place)) ss (record { kind = kind; text = t } ∷ ls)
+          → lexemes_with_roles start level (is_none before) ss h.rest ≡ lexemes_with_roles place level (is_none before || contains_line_break (slice_range text start place)) ss (record { kind = kind; text = t } ∷ ls)
           → Goes (first_of kind (span_from place (length t)))
-      passes_kind lexeme.Space place t ls without_white_space up s tokens others found = absurd without_white_space
-      passes_kind lexeme.Comment place t ls without_white_space up s tokens others found =
+      passes_kind lexeme.Space place t ls lexemes_without_white_space up s tokens others found = absurd lexemes_without_white_space
+      passes_kind lexeme.Comment place t ls lexemes_without_white_space up s tokens others found =
           passes lexeme.Comment place t ls (role_at (span_from place (length t))) left (drop 1 comments) ss level up s tokens (ap (drop 1) others) found
-      passes_kind (lexeme.Token k) place t ls without_white_space up s tokens others found =
-          passes (lexeme.Token k) place t ls (next_role ss) (drop 1 left) comments (drop 1 ss) (next_line_level level ss) up s (ap (drop 1) tokens) others found
+      passes_kind (lexeme.Token k) place t ls lexemes_without_white_space up s tokens others found =
+          passes (lexeme.Token k) place t ls (next_line_role ss) (drop 1 left) comments (drop 1 ss) (next_line_level level ss) up s (ap (drop 1) tokens) others found
 
-      goes : Goes (next_lexeme left comments)
-      goes = elim (ahead text start h.rest h.index_terminals_from) [
-        | inl n ↦ subst Goes (sym (λ i. next_lexeme ((h.left_is ∙ n.tokens) i) ((h.comments_is ∙ n.comments) i))) (ends n)
+      goes : Goes (next_token_or_comment left comments)
+      goes = elim (ahead text start h.rest h.indexed_terminals_from) [
+        | inl n ↦ subst Goes (sym (λ i. next_token_or_comment ((h.left_is ∙ n.tokens) i) ((h.comments_is ∙ n.comments) i))) (ends n)
         | inr n ↦
-            let some = nonempty n.kind n.t n.index_terminals_from.each.0.belongs in
-            let first = (λ i. next_lexeme ((h.left_is ∙ n.tokens) i) ((h.comments_is ∙ n.comments) i)) ∙ comes_first n.kind n.place n.t n.ls n.without_white_space some in
-            subst Goes (sym first) (passes_kind n.kind n.place n.t n.ls n.without_white_space n.up n.index_terminals_from (h.left_is ∙ n.tokens) (h.comments_is ∙ n.comments) (n.found level (is_none before) ss))
+            let some = nonempty n.kind n.t n.indexed_terminals_from.each.0.belongs in
+            let first = (λ i. next_token_or_comment ((h.left_is ∙ n.tokens) i) ((h.comments_is ∙ n.comments) i)) ∙ comes_first n.kind n.place n.t n.ls n.lexemes_without_white_space some in
+            subst Goes (sym first) (passes_kind n.kind n.place n.t n.ls n.lexemes_without_white_space n.up n.indexed_terminals_from (h.left_is ∙ n.tokens) (h.comments_is ∙ n.comments) (n.found level (is_none before) ss))
       ]
 
-      pub at_comment : (span : Span) → next_lexeme left comments ≡ Some (next.Comment span) → Passes lexeme.Comment span (role_at span) left (drop 1 comments) ss level
+      pub at_comment : (span : Span) → next_token_or_comment left comments ≡ Some (next.Comment span) → Passes lexeme.Comment span (role_at span) left (drop 1 comments) ss level
       at_comment span e = subst Goes e goes
 
-      pub at_token : (token : Token) → next_lexeme left comments ≡ Some (next.Token token) → Passes (lexeme.Token token.kind) token.span (next_role ss) (drop 1 left) comments (drop 1 ss) (next_line_level level ss)
+      pub at_token : (token : Token) → next_token_or_comment left comments ≡ Some (next.Token token) → Passes (lexeme.Token token.kind) token.span (next_line_role ss) (drop 1 left) comments (drop 1 ss) (next_line_level level ss)
       at_token token e = subst Goes e goes
 
-      pub at_end : next_lexeme left comments ≡ None → (start ≤ length text) × (map (gap_cut indent) (with_gap (length text) (last_gap before)) ≡ changed_gaps text whole)
+      pub at_end : next_token_or_comment left comments ≡ None → (start ≤ length text) × (map (gap_cut indent) (with_gap (length text) (last_gap before)) ≡ changed_gaps text whole)
       at_end e = subst Goes e goes

@@ -30,7 +30,7 @@ use Rattle.ob0_layout.specs.declared.gap.Gap.TheVariants.{Nothing, Space}
 use Rattle.ob0_layout.specs.declared.line_role.LineRole.{LineRole}
 use Rattle.ob0_layout.specs.declared.line_role.LineRole.TheVariants.{Begins, Opening, Joining, Plain}
 use Rattle.ob0_layout.specs.LineRoles.{line_roles}
-use Rattle.ob0_layout.specs.Layout.{LexemeWithRole, lexemes_with_roles, next_line_level, next_role, has_break, comment_role, is_comment, has_no_space_before, has_no_space_after, indentation, gap_text_between, gap_between, gap_in_line, gap_text, white_space_lexeme, with_formatted_gaps_after, with_formatted_gaps, formatted_lexemes}
+use Rattle.ob0_layout.specs.Layout.{LexemeWithRole, lexemes_with_roles, next_line_level, next_line_role, contains_line_break, comment_role, is_comment, has_no_space_before, has_no_space_after, indentation, gap_text_between, gap_between, gap_in_line, gap_text, optional_white_space_lexeme, lexemes_with_formatted_gaps_after, lexemes_with_formatted_gaps, formatted_lexemes}
 use Rattle.ob0_layout.proofs.Pairs.{Calm, calm_next, calm_paren, is_paren, is_star, calm_spelled}
 
 -- holds if a lexeme is a token or comment
@@ -52,19 +52,19 @@ quiet_joins symbol.LeftParen x q = q.starless
 quiet_joins _ x q = refl
 
 quiet_ends : (k : LexemeKind) (x : ℕ) → IsSolid k → Quiet x → continues_lexeme k x ≡ false
-quiet_ends lexeme.Space x without_white_space q = absurd without_white_space
-quiet_ends lexeme.Comment x without_white_space q = refl
-quiet_ends (lexeme.Token (token.Symbol s)) x without_white_space q = quiet_joins s x q
-quiet_ends _ x without_white_space q = q.alone
+quiet_ends lexeme.Space x lexemes_without_white_space q = absurd lexemes_without_white_space
+quiet_ends lexeme.Comment x lexemes_without_white_space q = refl
+quiet_ends (lexeme.Token (token.Symbol s)) x lexemes_without_white_space q = quiet_joins s x q
+quiet_ends _ x lexemes_without_white_space q = q.alone
 
 not_blank : (k : LexemeKind) → IsSolid k → Blank ≡ family_of k → ⊥
-not_blank lexeme.Space without_white_space e = without_white_space
-not_blank (lexeme.Token token.Identifier) without_white_space e = cc
-not_blank _ without_white_space e = cc
+not_blank lexeme.Space lexemes_without_white_space e = lexemes_without_white_space
+not_blank (lexeme.Token token.Identifier) lexemes_without_white_space e = cc
+not_blank _ lexemes_without_white_space e = cc
 
 -- The first byte of a token or comment isn't white space.
 pub solid_first : (k : LexemeKind) (text : List ℕ) → IsSolid k → IsLexemeOfKind k text → is_space (get_or text 0 0) ≡ false
-solid_first k text without_white_space h = false_from_ne_true (is_space (get_or text 0 0)) (λ blank. not_blank k without_white_space (sym (family-blank (get_or text 0 0) blank) ∙ head_family k text h))
+solid_first k text lexemes_without_white_space h = false_from_ne_true (is_space (get_or text 0 0)) (λ blank. not_blank k lexemes_without_white_space (sym (family-blank (get_or text 0 0) blank) ∙ head_family k text h))
 
 differ : false ≡ true → ⊥
 differ e = cc
@@ -177,7 +177,7 @@ first_of : (l : Lexeme) (ls : List Lexeme) → IsLexemeOfKind l.kind l.text → 
 first_of l ls h = get_or_append_left l.text (text_of_lexemes ls) 0 0 (nonempty l.kind l.text h)
 
 fits_apart : (a b : LexemeWithRole) (rest : List Lexeme) (g : List ℕ) → Neighbours a b → IsLexemeOfKind a.lexeme.kind a.lexeme.text
-    → Fits a.lexeme.kind (get_or b.lexeme.text 0 0) g → EachEndsBeforeNext (b.lexeme ∷ rest) → EachEndsBeforeNext (a.lexeme ∷ (white_space_lexeme g ++ (b.lexeme ∷ rest)))
+    → Fits a.lexeme.kind (get_or b.lexeme.text 0 0) g → EachEndsBeforeNext (b.lexeme ∷ rest) → EachEndsBeforeNext (a.lexeme ∷ (optional_white_space_lexeme g ++ (b.lexeme ∷ rest)))
 fits_apart a b rest _ n h (directly e) more =
     (record { belongs = h; ends = ap (continues_lexeme a.lexeme.kind) (first_of b.lexeme rest n.right_belongs) ∙ e }, more)
 fits_apart a b rest _ n h (by_space {x = x} q run) more = (
@@ -207,30 +207,30 @@ paren_of k text e = let same : k ≡ token.Symbol symbol.LeftParen = cc in ap (�
 
 abbrev Spread : Indent → List Lexeme → Type 0
 Spread indent ls = (at level : ℕ) (broken : Bool) (ss : List LineRole) (a : LexemeWithRole) → IsSolid a.lexeme.kind → IsLexemeOfKind a.lexeme.kind a.lexeme.text
-    → (a.lexeme.kind ≡ left_paren → NoStar (spelled ls)) → Calm (spelled ls) → EachEndsBeforeNext ls → EachEndsBeforeNext (a.lexeme ∷ with_formatted_gaps_after indent a (lexemes_with_roles at level broken ss ls))
+    → (a.lexeme.kind ≡ left_paren → NoStar (spelled ls)) → Calm (spelled ls) → EachEndsBeforeNext ls → EachEndsBeforeNext (a.lexeme ∷ lexemes_with_formatted_gaps_after indent a (lexemes_with_roles at level broken ss ls))
 
 comment_spread : (indent : Indent) (text : List ℕ) (ls : List Lexeme) → Spread indent ls → Spread indent (record { kind = lexeme.Comment; text = text } ∷ ls)
-comment_spread indent text ls rest at level broken ss a without_white_space h after calm apart =
+comment_spread indent text ls rest at level broken ss a lexemes_without_white_space h after calm apart =
     let c : LexemeWithRole = record { lexeme = record { kind = lexeme.Comment; text = text }; span = span_from at (length text); role = comment_role broken (next_line_level level ss) } in
-    let n : Neighbours a c = record { left = without_white_space; right = tt; right_belongs = apart.0.belongs; starless = λ paren uncommented. absurd (differ (sym uncommented)) } in
-    fits_apart a c (with_formatted_gaps_after indent c (lexemes_with_roles (at + length text) level false ss ls)) (gap_text_between indent a c) n h (gap_fits indent a c n)
+    let n : Neighbours a c = record { left = lexemes_without_white_space; right = tt; right_belongs = apart.0.belongs; starless = λ paren uncommented. absurd (differ (sym uncommented)) } in
+    fits_apart a c (lexemes_with_formatted_gaps_after indent c (lexemes_with_roles (at + length text) level false ss ls)) (gap_text_between indent a c) n h (gap_fits indent a c n)
     (rest (at + length text) level false ss c tt apart.0.belongs (λ e. cc) calm apart.1)
 
 token_spread : (indent : Indent) (k : TokenKind) (text : List ℕ) (ls : List Lexeme) → Spread indent ls → Spread indent (record { kind = lexeme.Token k; text = text } ∷ ls)
-token_spread indent k text ls rest at level broken ss a without_white_space h after calm apart =
-    let t : LexemeWithRole = record { lexeme = record { kind = lexeme.Token k; text = text }; span = span_from at (length text); role = next_role ss } in
-    let n : Neighbours a t = record { left = without_white_space; right = tt; right_belongs = apart.0.belongs; starless = λ paren uncommented. token_first k text apart.0.belongs (after paren) } in
-    fits_apart a t (with_formatted_gaps_after indent t (lexemes_with_roles (at + length text) (next_line_level level ss) false (drop 1 ss) ls)) (gap_text_between indent a t) n h (gap_fits indent a t n)
+token_spread indent k text ls rest at level broken ss a lexemes_without_white_space h after calm apart =
+    let t : LexemeWithRole = record { lexeme = record { kind = lexeme.Token k; text = text }; span = span_from at (length text); role = next_line_role ss } in
+    let n : Neighbours a t = record { left = lexemes_without_white_space; right = tt; right_belongs = apart.0.belongs; starless = λ paren uncommented. token_first k text apart.0.belongs (after paren) } in
+    fits_apart a t (lexemes_with_formatted_gaps_after indent t (lexemes_with_roles (at + length text) (next_line_level level ss) false (drop 1 ss) ls)) (gap_text_between indent a t) n h (gap_fits indent a t n)
     (rest (at + length text) (next_line_level level ss) false (drop 1 ss) t tt apart.0.belongs (λ e. calm_first calm (paren_of k text e)) (calm_following calm) apart.1)
 
 kind_spread : (indent : Indent) (k : LexemeKind) (text : List ℕ) (ls : List Lexeme) → Spread indent ls → Spread indent (record { kind = k; text = text } ∷ ls)
-kind_spread indent lexeme.Space text ls rest = λ at level broken ss a without_white_space h after calm apart. rest (at + length text) level (broken || has_break text) ss a without_white_space h after calm apart.1
+kind_spread indent lexeme.Space text ls rest = λ at level broken ss a lexemes_without_white_space h after calm apart. rest (at + length text) level (broken || contains_line_break text) ss a lexemes_without_white_space h after calm apart.1
 kind_spread indent lexeme.Comment text ls rest = comment_spread indent text ls rest
 kind_spread indent (lexeme.Token k) text ls rest = token_spread indent k text ls rest
 
 nothing_spread : (indent : Indent) → Spread indent []
-nothing_spread indent at level broken ss a without_white_space h after calm apart = (
-  record { belongs = h; ends = quiet_ends a.lexeme.kind 10 without_white_space (record { alone = refl; unequal = refl; starless = refl }) },
+nothing_spread indent at level broken ss a lexemes_without_white_space h after calm apart = (
+  record { belongs = h; ends = quiet_ends a.lexeme.kind 10 lexemes_without_white_space (record { alone = refl; unequal = refl; starless = refl }) },
   (record { belongs = record { nonempty = omega arith; all = AllPass-from_list_all is_space (10 ∷ []) refl }; ends = refl }, tt),
 )
 
@@ -239,15 +239,15 @@ following_spread indent [] = nothing_spread indent
 following_spread indent (l ∷ ls) = kind_spread indent l.kind l.text ls (following_spread indent ls)
 
 abbrev FirstSpread : Indent → List Lexeme → Type 0
-FirstSpread indent ls = (at level : ℕ) (broken : Bool) (ss : List LineRole) → Calm (spelled ls) → EachEndsBeforeNext ls → EachEndsBeforeNext (with_formatted_gaps indent (lexemes_with_roles at level broken ss ls))
+FirstSpread indent ls = (at level : ℕ) (broken : Bool) (ss : List LineRole) → Calm (spelled ls) → EachEndsBeforeNext ls → EachEndsBeforeNext (lexemes_with_formatted_gaps indent (lexemes_with_roles at level broken ss ls))
 
 kind_first_spread : (indent : Indent) (k : LexemeKind) (text : List ℕ) (ls : List Lexeme) → FirstSpread indent ls → FirstSpread indent (record { kind = k; text = text } ∷ ls)
-kind_first_spread indent lexeme.Space text ls rest = λ at level broken ss calm apart. rest (at + length text) level (broken || has_break text) ss calm apart.1
+kind_first_spread indent lexeme.Space text ls rest = λ at level broken ss calm apart. rest (at + length text) level (broken || contains_line_break text) ss calm apart.1
 kind_first_spread indent lexeme.Comment text ls rest = λ at level broken ss calm apart.
     let c : LexemeWithRole = record { lexeme = record { kind = lexeme.Comment; text = text }; span = span_from at (length text); role = comment_role broken (next_line_level level ss) } in
     following_spread indent ls (at + length text) level false ss c tt apart.0.belongs (λ e. cc) calm apart.1
 kind_first_spread indent (lexeme.Token k) text ls rest = λ at level broken ss calm apart.
-    let t : LexemeWithRole = record { lexeme = record { kind = lexeme.Token k; text = text }; span = span_from at (length text); role = next_role ss } in
+    let t : LexemeWithRole = record { lexeme = record { kind = lexeme.Token k; text = text }; span = span_from at (length text); role = next_line_role ss } in
     following_spread indent ls (at + length text) (next_line_level level ss) false (drop 1 ss) t tt apart.0.belongs (λ e. calm_first calm (paren_of k text e)) (calm_following calm) apart.1
 
 first_spread : (indent : Indent) (ls : List Lexeme) → FirstSpread indent ls

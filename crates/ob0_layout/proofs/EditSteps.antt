@@ -7,11 +7,11 @@ use Rattle.ob0_text.specs.declared.position_types.Position.{Position}
 use Rattle.ob0_text.specs.Texts.{position_of}
 use Rattle.ob0_layout.specs.declared.sites.GapSite.{GapSite}
 use Rattle.ob0_layout.specs.Cuts.{gap_cut}
-use Rattle.ob0_layout.specs.Gaps.{EditContent, edit_content, edit_of}
+use Rattle.ob0_layout.specs.Gaps.{EditContent, edit_content, edit_of_cut}
 
 -- returns the edit of a gap that the code found
 abbrev pub edit_of_site : (ℕ → ℕ) → List ℕ → Indent → GapSite → EditContent
-edit_of_site width content indent g = edit_of width content (gap_cut indent g)
+edit_of_site width content indent g = edit_of_cut width content (gap_cut indent g)
 
 module _ (width : ℕ → ℕ) (content : List ℕ) (gs : List GapSite) (i : ℕ) (low : i < length gs) (d : GapSite) where
   pub position_at : (part : GapSite → ℕ) (offsets : List ℕ) (ps : List Position) (p : Position) → ps ≡ map (position_of width content) offsets → offsets ≡ map part gs → get_or ps i p ≡ position_of width content (part (get_or gs i d))

@@ -19,9 +19,9 @@ use Rattle.ob0_layout.specs.declared.gap.Gap.{Gap}
 use Rattle.ob0_layout.specs.declared.gap.Gap.TheVariants.{Nothing, Space, Line}
 use Rattle.ob0_layout.specs.declared.line_role.LineRole.{LineRole}
 use Rattle.ob0_layout.specs.declared.sites.GapSite.{GapSite}
-use Rattle.ob0_layout.specs.Cuts.{LiesIn, gap_cut}
-use Rattle.ob0_layout.specs.Gaps.{CutsWhiteSpace, all_gaps, changed_gaps, gaps_of_lexemes, gaps_after, is_changed, formatted_len_from}
-use Rattle.ob0_layout.specs.Layout.{LexemeWithRole, lexemes_with_roles, indentation, gap_text_between, gap_text, white_space_lexeme, with_formatted_gaps_after, with_formatted_gaps}
+use Rattle.ob0_layout.specs.Cuts.{GapLiesWithin, gap_cut}
+use Rattle.ob0_layout.specs.Gaps.{ReplacesOnlyWhiteSpace, all_gaps, changed_gaps, gaps_of_lexemes, gaps_after, formatting_changes_gap, formatted_len_from}
+use Rattle.ob0_layout.specs.Layout.{LexemeWithRole, lexemes_with_roles, indentation, gap_text_between, gap_text, optional_white_space_lexeme, lexemes_with_formatted_gaps_after, lexemes_with_formatted_gaps}
 use Rattle.ob0_layout.proofs.Apart.{indented}
 use Rattle.ob0_layout.proofs.InText.{AreIn, IsAt, IsSpaced, White, all_in, no_white}
 use Rattle.ob0_layout.proofs.Pieced.{pieced_here, pieced_later, two_parts}
@@ -47,7 +47,7 @@ gap_white : (indent : Indent) (a b : LexemeWithRole) → White (gap_text_between
 unfolding gap_text_between
 gap_white indent a b = laid_white indent _
 
-joined_spaced : (g : List ℕ) (ls : List Lexeme) → text_of_lexemes (white_space_lexeme g ++ ls) ≡ g ++ text_of_lexemes ls
+joined_spaced : (g : List ℕ) (ls : List Lexeme) → text_of_lexemes (optional_white_space_lexeme g ++ ls) ≡ g ++ text_of_lexemes ls
 joined_spaced [] ls = refl
 joined_spaced (b ∷ bs) ls = refl
 
@@ -62,25 +62,25 @@ module _ (text : List ℕ) where
   chain at [] are = tt
   chain at (c ∷ cs) are = (are.0.up, are.0.old.ordered, chain c.to cs are.1)
 
-  all_white : (at : ℕ) (cs : List Cut) → AreGaps text at cs → All (CutsWhiteSpace text) cs
+  all_white : (at : ℕ) (cs : List Cut) → AreGaps text at cs → All (ReplacesOnlyWhiteSpace text) cs
   unfolding AreGaps
-  all_white at [] are = All-nil (CutsWhiteSpace text)
-  all_white at (c ∷ cs) are = All-cons (CutsWhiteSpace text) c cs are.0.old.white (all_white c.to cs are.1)
+  all_white at [] are = All-nil (ReplacesOnlyWhiteSpace text)
+  all_white at (c ∷ cs) are = All-cons (ReplacesOnlyWhiteSpace text) c cs are.0.old.white (all_white c.to cs are.1)
 
   new_white : (at : ℕ) (cs : List Cut) → AreGaps text at cs → All (λ (c : Cut). White c.new) cs
   unfolding AreGaps
   new_white at [] are = All-nil (λ (c : Cut). White c.new)
   new_white at (c ∷ cs) are = All-cons (λ (c : Cut). White c.new) c cs are.0.new (new_white c.to cs are.1)
 
-  pub sites_lie : (indent : Indent) (at : ℕ) (gs : List GapSite) → AreGaps text at (map (gap_cut indent) gs) → All (LiesIn (length text)) gs
+  pub sites_lie : (indent : Indent) (at : ℕ) (gs : List GapSite) → AreGaps text at (map (gap_cut indent) gs) → All (GapLiesWithin (length text)) gs
   unfolding AreGaps
-  sites_lie indent at [] are = All-nil (LiesIn (length text))
-  sites_lie indent at (g ∷ gs) are = All-cons (LiesIn (length text)) g gs (record { ordered = are.0.old.ordered; within = are.0.old.within }) (sites_lie indent g.end gs are.1)
+  sites_lie indent at [] are = All-nil (GapLiesWithin (length text))
+  sites_lie indent at (g ∷ gs) are = All-cons (GapLiesWithin (length text)) g gs (record { ordered = are.0.old.ordered; within = are.0.old.within }) (sites_lie indent g.end gs are.1)
 
   pub changed_are : (at : ℕ) (cs : List Cut) → AreGaps text at cs → AreGaps text at (changed_gaps text cs)
   unfolding AreGaps
   changed_are at [] are = tt
-  changed_are at (c ∷ cs) are = elim (is_changed text c) as (λ b. AreGaps text at (cond b (c ∷ changed_gaps text cs) (changed_gaps text cs))) [
+  changed_are at (c ∷ cs) are = elim (formatting_changes_gap text c) as (λ b. AreGaps text at (cond b (c ∷ changed_gaps text cs) (changed_gaps text cs))) [
     | true ↦ (are.0, changed_are c.to cs are.1)
     | false ↦ earlier at c.to (changed_gaps text cs) (omega (arith, are.0.up, are.0.old.ordered)) (changed_are c.to cs are.1)
   ]
@@ -135,21 +135,21 @@ module _ (text : List ℕ) where
 
     -- A token or comment and the gaps after it give the token or comment and the formatted lexemes
     -- after it.
-    over : (b : LexemeWithRole) (bs : List LexemeWithRole) → IsAt text b → AreIn text b.span.end bs → text_with_cuts text b.span.end (gaps_after indent (length text) b bs) ≡ text_of_lexemes (with_formatted_gaps_after indent b bs)
-        → text_with_cuts text b.span.start (gaps_after indent (length text) b bs) ≡ text_of_lexemes (b.lexeme ∷ with_formatted_gaps_after indent b bs)
+    over : (b : LexemeWithRole) (bs : List LexemeWithRole) → IsAt text b → AreIn text b.span.end bs → text_with_cuts text b.span.end (gaps_after indent (length text) b bs) ≡ text_of_lexemes (lexemes_with_formatted_gaps_after indent b bs)
+        → text_with_cuts text b.span.start (gaps_after indent (length text) b bs) ≡ text_of_lexemes (b.lexeme ∷ lexemes_with_formatted_gaps_after indent b bs)
     over b bs is h more =
         pieced_later text b.span.start b.span.end (gaps_after indent (length text) b bs) is.ordered (chain b.span.end (gaps_after indent (length text) b bs) (after_are b bs h))
         ∙ ap₂ (λ xs ys. xs ++ ys) is.here more
 
-    after_made : (a : LexemeWithRole) (bs : List LexemeWithRole) → AreIn text a.span.end bs → text_with_cuts text a.span.end (gaps_after indent (length text) a bs) ≡ text_of_lexemes (with_formatted_gaps_after indent a bs)
+    after_made : (a : LexemeWithRole) (bs : List LexemeWithRole) → AreIn text a.span.end bs → text_with_cuts text a.span.end (gaps_after indent (length text) a bs) ≡ text_of_lexemes (lexemes_with_formatted_gaps_after indent a bs)
     unfolding AreIn
     after_made a [] h = pieced_here text a.span.end (length text) (10 ∷ []) [] ∙ ap (λ xs. 10 ∷ xs) nothing_after
     after_made a (b ∷ bs) h =
         pieced_here text a.span.end b.span.start (gap_text_between indent a b) (gaps_after indent (length text) b bs)
         ∙ ap (λ xs. gap_text_between indent a b ++ xs) (over b bs h.1 h.2 (after_made b bs h.2))
-        ∙ sym (joined_spaced (gap_text_between indent a b) (b.lexeme ∷ with_formatted_gaps_after indent b bs))
+        ∙ sym (joined_spaced (gap_text_between indent a b) (b.lexeme ∷ lexemes_with_formatted_gaps_after indent b bs))
 
-    gaps_made : (bs : List LexemeWithRole) → AreIn text 0 bs → text_with_cuts text 0 (gaps_of_lexemes indent (length text) bs) ≡ text_of_lexemes (with_formatted_gaps indent bs)
+    gaps_made : (bs : List LexemeWithRole) → AreIn text 0 bs → text_with_cuts text 0 (gaps_of_lexemes indent (length text) bs) ≡ text_of_lexemes (lexemes_with_formatted_gaps indent bs)
     unfolding AreIn
     gaps_made [] h = pieced_here text 0 (length text) [] [] ∙ nothing_after
     gaps_made (b ∷ bs) h = pieced_here text 0 b.span.start [] (gaps_after indent (length text) b bs) ∙ over b bs h.1 h.2 (after_made b bs h.2)
@@ -162,20 +162,20 @@ module _ (indent : Indent) (s : TextWithTokens) (scan : IsScan s) (ss : List Lin
   pub all_changed_are : AreGaps s.text 0 (changed_gaps s.text (all_gaps indent s.text ss scan.lexemes))
   all_changed_are = changed_are s.text 0 (all_gaps indent s.text ss scan.lexemes) all_are
 
-  pub old_is_white : All (CutsWhiteSpace s.text) (all_gaps indent s.text ss scan.lexemes)
+  pub old_is_white : All (ReplacesOnlyWhiteSpace s.text) (all_gaps indent s.text ss scan.lexemes)
   old_is_white = all_white s.text 0 (all_gaps indent s.text ss scan.lexemes) all_are
 
   pub new_is_white : All (λ (c : Cut). White c.new) (all_gaps indent s.text ss scan.lexemes)
   new_is_white = new_white s.text 0 (all_gaps indent s.text ss scan.lexemes) all_are
 
-  pub all_made : text_with_cuts s.text 0 (all_gaps indent s.text ss scan.lexemes) ≡ text_of_lexemes (with_formatted_gaps indent (lexemes_with_roles 0 0 true ss scan.lexemes))
+  pub all_made : text_with_cuts s.text 0 (all_gaps indent s.text ss scan.lexemes) ≡ text_of_lexemes (lexemes_with_formatted_gaps indent (lexemes_with_roles 0 0 true ss scan.lexemes))
   all_made = gaps_made s.text indent (lexemes_with_roles 0 0 true ss scan.lexemes) (all_in s scan ss)
 
-  pub changed_made : text_with_cuts s.text 0 (changed_gaps s.text (all_gaps indent s.text ss scan.lexemes)) ≡ text_of_lexemes (with_formatted_gaps indent (lexemes_with_roles 0 0 true ss scan.lexemes))
+  pub changed_made : text_with_cuts s.text 0 (changed_gaps s.text (all_gaps indent s.text ss scan.lexemes)) ≡ text_of_lexemes (lexemes_with_formatted_gaps indent (lexemes_with_roles 0 0 true ss scan.lexemes))
   changed_made = kept_or_changed s.text 0 (all_gaps indent s.text ss scan.lexemes) all_are ∙ all_made
 
-  pub all_length : formatted_len_from (length s.text) 0 (all_gaps indent s.text ss scan.lexemes) ≡ length (text_of_lexemes (with_formatted_gaps indent (lexemes_with_roles 0 0 true ss scan.lexemes)))
+  pub all_length : formatted_len_from (length s.text) 0 (all_gaps indent s.text ss scan.lexemes) ≡ length (text_of_lexemes (lexemes_with_formatted_gaps indent (lexemes_with_roles 0 0 true ss scan.lexemes)))
   all_length = sym (made_length s.text 0 (all_gaps indent s.text ss scan.lexemes) all_are) ∙ ap length all_made
 
-  pub changed_length : formatted_len_from (length s.text) 0 (changed_gaps s.text (all_gaps indent s.text ss scan.lexemes)) ≡ length (text_of_lexemes (with_formatted_gaps indent (lexemes_with_roles 0 0 true ss scan.lexemes)))
+  pub changed_length : formatted_len_from (length s.text) 0 (changed_gaps s.text (all_gaps indent s.text ss scan.lexemes)) ≡ length (text_of_lexemes (lexemes_with_formatted_gaps indent (lexemes_with_roles 0 0 true ss scan.lexemes)))
   changed_length = sym (made_length s.text 0 (changed_gaps s.text (all_gaps indent s.text ss scan.lexemes)) all_changed_are) ∙ ap length changed_made

@@ -10,7 +10,7 @@ use Rattle.ob0_tree.specs.declared.tree.AddOperator.TheVariants as add_operator
 use Rattle.ob0_tree.specs.declared.tree.MultiplyOperator.{MultiplyOperator}
 use Rattle.ob0_tree.specs.declared.tree.MultiplyOperator.TheVariants as multiply_operator
 use Rattle.ob0_scan.specs.declared.lexeme.TokenKind.TheVariants as kind
-use Rattle.ob0_tree.specs.Lexeme.{Terminal, WordOrSymbol, relation_token, sign_tokens, add_operator_token, multiply_operator_token}
+use Rattle.ob0_tree.specs.Lexeme.{Terminal, WordOrSymbol, relation_token_kind, sign_tokens, add_operator_token_kind, multiply_operator_token_kind}
 use Rattle.ob0_tree.specs.Tree.{Sort, Tree, expression, simple, term, factor, section, names, spell, one, more, compares, relates, sum, adds, product, multiplies, designator, integer, parenthesised, negation, field, index, assigns, calls, branches, while_loop, repeat_loop, no_arguments, some_arguments, then_argument, runs, then_statement, elsif_branch, else_branch, listed, then_name, named_type, array_type, record_type, some_fields, then_fields, no_formals, some_formals, value_section, variable_section, then_section, declares_constant, declares_constants, declares_type, declares_types, declares_variable, declares_variables, declares_procedure, declares, begins, forms_block, is_module}
 
 abbrev pub is_paren : {N : Type 0} → Terminal N → Bool
@@ -75,15 +75,15 @@ calm_sign N None = calm_end
 calm_sign N (Some sign.Plus) = calm_next refl calm_end
 calm_sign N (Some sign.Minus) = calm_next refl calm_end
 
-no_paren_relation : (N : Type 0) (o : Relation) → is_paren {N = N} (WordOrSymbol (relation_token o)) ≡ false
+no_paren_relation : (N : Type 0) (o : Relation) → is_paren {N = N} (WordOrSymbol (relation_token_kind o)) ≡ false
 no_paren_relation N relation.Equal = refl
 no_paren_relation N _ = refl
 
-no_paren_add : (N : Type 0) (o : AddOperator) → is_paren {N = N} (WordOrSymbol (add_operator_token o)) ≡ false
+no_paren_add : (N : Type 0) (o : AddOperator) → is_paren {N = N} (WordOrSymbol (add_operator_token_kind o)) ≡ false
 no_paren_add N add_operator.Add = refl
 no_paren_add N _ = refl
 
-no_paren_multiply : (N : Type 0) (o : MultiplyOperator) → is_paren {N = N} (WordOrSymbol (multiply_operator_token o)) ≡ false
+no_paren_multiply : (N : Type 0) (o : MultiplyOperator) → is_paren {N = N} (WordOrSymbol (multiply_operator_token_kind o)) ≡ false
 no_paren_multiply N multiply_operator.Multiply = refl
 no_paren_multiply N _ = refl
 

@@ -11,12 +11,12 @@ use Rattle.ob0_text.specs.declared.edits.Edit.{Edit}
 use Rattle.ob0_text.specs.declared.edits.Indent.{Indent}
 use Rattle.ob0_text.specs.declared.position_types.Unit as counting
 use Rattle.ob0_text.specs.Units.{width_of}
-use Rattle.ob0_text.specs.Patches.{Cut, cut_at, cuts_of, patched, text_with_cuts}
+use Rattle.ob0_text.specs.Patches.{Cut, cut_at, cuts_of, patched_text, text_with_cuts}
 use Rattle.ob0_text.proofs.StableSort.{first_same, rest_same}
 use Rattle.ob0_edits_tokens.proofs.TextCuts.{AreSame, IsSameCut, same_cut, patched_by_same}
 use Rattle.ob0_layout.specs.declared.line_role.LineRole.{LineRole}
-use Rattle.ob0_layout.specs.Layout.{lexemes_with_roles, with_formatted_gaps}
-use Rattle.ob0_layout.specs.Gaps.{all_gaps, changed_gaps, edit_content, edit_of}
+use Rattle.ob0_layout.specs.Layout.{lexemes_with_roles, lexemes_with_formatted_gaps}
+use Rattle.ob0_layout.specs.Gaps.{all_gaps, changed_gaps, edit_content, edit_of_cut}
 use Rattle.ob0_layout.proofs.Gaps.{AreGaps, all_are, all_changed_are, all_made, chain, changed_made}
 use Rattle.ob0_layout.proofs.InText.{White, from_start}
 
@@ -34,7 +34,7 @@ white_utf8 t w = IsUtf8-from_ascii t (low t w)
 
 -- The cuts of the edits are the cuts of the gaps.
 same_cuts : (unit : counting.Unit) (text : List ℕ) (u : IsUtf8 text) (at : ℕ) (cs : List Cut) (edits : List Edit) → AreGaps text at cs
-    → map edit_content edits ≡ map (edit_of (width_of unit) (chars text)) cs → AreSame unit text u cs (cuts_of (width_of unit) (chars text) edits)
+    → map edit_content edits ≡ map (edit_of_cut (width_of unit) (chars text)) cs → AreSame unit text u cs (cuts_of (width_of unit) (chars text) edits)
 unfolding AreGaps AreSame
 same_cuts unit text u at [] [] are e = tt
 same_cuts unit text u at (c ∷ cs) (x ∷ edits) are e =
@@ -46,8 +46,8 @@ same_cuts unit text u at (c ∷ cs) (x ∷ edits) are e =
 same_cuts unit text u at _ _ are e = absurd (cc)
 
 pub gaps_patched : (unit : counting.Unit) (indent : Indent) (s : TextWithTokens) (scan : IsScan s) (ss : List LineRole) (edits : List Edit)
-    → map edit_content edits ≡ map (edit_of (width_of unit) (chars s.text)) (changed_gaps s.text (all_gaps indent s.text ss scan.lexemes))
-    → patched (width_of unit) (chars s.text) edits ≡ Some (chars (text_of_lexemes (with_formatted_gaps indent (lexemes_with_roles 0 0 true ss scan.lexemes))))
+    → map edit_content edits ≡ map (edit_of_cut (width_of unit) (chars s.text)) (changed_gaps s.text (all_gaps indent s.text ss scan.lexemes))
+    → patched_text (width_of unit) (chars s.text) edits ≡ Some (chars (text_of_lexemes (lexemes_with_formatted_gaps indent (lexemes_with_roles 0 0 true ss scan.lexemes))))
 gaps_patched unit indent s scan ss edits e =
     let changed : List Cut = changed_gaps s.text (all_gaps indent s.text ss scan.lexemes) in
     let are : AreGaps s.text 0 changed = all_changed_are indent s scan ss in
@@ -62,6 +62,6 @@ made_utf8 text u at (c ∷ cs) b are =
     IsUtf8-append (take (c.from - at) (drop at text)) (c.new ++ text_with_cuts text c.to cs) (IsUtf8-between text at c.from u are.0.up b old.start.place)
     (IsUtf8-append c.new (text_with_cuts text c.to cs) (white_utf8 c.new are.0.new) (made_utf8 text u c.to cs old.end.place are.1))
 
-pub layout_utf8 : (indent : Indent) (s : TextWithTokens) (scan : IsScan s) (ss : List LineRole) → IsUtf8 (text_of_lexemes (with_formatted_gaps indent (lexemes_with_roles 0 0 true ss scan.lexemes)))
+pub layout_utf8 : (indent : Indent) (s : TextWithTokens) (scan : IsScan s) (ss : List LineRole) → IsUtf8 (text_of_lexemes (lexemes_with_formatted_gaps indent (lexemes_with_roles 0 0 true ss scan.lexemes)))
 layout_utf8 indent s scan ss =
     subst IsUtf8 (all_made indent s scan ss) (made_utf8 s.text scan.utf8 0 (all_gaps indent s.text ss scan.lexemes) (from_start s scan).place (all_are indent s scan ss))

@@ -2,14 +2,14 @@
 use Rattle.std.proofs.Common.{◌≡◌, ℕ, [], ◌∷◌, ◌++◌, refl}
 use Rattle.ob0_tree.specs.Tree.{Sort, Tree, one, more, compares, relates, sum, adds, product, multiplies, designator, parenthesised, negation, index, assigns, calls, branches, while_loop, repeat_loop, some_arguments, then_argument, runs, then_statement, elsif_branch, else_branch, listed, array_type, record_type, some_fields, then_fields, some_formals, value_section, variable_section, then_section, declares_constant, declares_constants, declares_type, declares_types, declares_variable, declares_variables, declares_procedure, declares, begins, forms_block, is_module, mapped_tree}
 use Rattle.ob0_layout.specs.declared.line_role.LineRole.TheVariants.{Begins, Opening, Plain}
-use Rattle.ob0_layout.specs.LineRoles.{line_roles, deeper_level, with_line_start, sign_role}
+use Rattle.ob0_layout.specs.LineRoles.{line_roles, deeper_level, roles_with_line_start, optional_sign_role}
 
 pub roles_mapped : {N M : Type 0} {s : Sort} (u : N → M) (v : ℕ → ℕ) (k : ℕ) (t : Tree N s) → line_roles k (mapped_tree u v t) ≡ line_roles k t
 roles_mapped u v k (one t) = λ j. roles_mapped u v k t j
 roles_mapped u v k (more t ts) = λ j. roles_mapped u v k t j ++ roles_mapped u v k ts j
 roles_mapped u v k (compares left compared) = λ j. roles_mapped u v k left j ++ roles_mapped u v k compared j
 roles_mapped u v k (relates relation right) = λ j. Plain ∷ roles_mapped u v k right j
-roles_mapped u v k (sum sign first terms) = λ j. sign_role sign ++ (roles_mapped u v k first j ++ roles_mapped u v k terms j)
+roles_mapped u v k (sum sign first terms) = λ j. optional_sign_role sign ++ (roles_mapped u v k first j ++ roles_mapped u v k terms j)
 roles_mapped u v k (adds operator t) = λ j. Plain ∷ roles_mapped u v k t j
 roles_mapped u v k (product first factors) = λ j. roles_mapped u v k first j ++ roles_mapped u v k factors j
 roles_mapped u v k (multiplies operator f) = λ j. Plain ∷ roles_mapped u v k f j
@@ -41,7 +41,7 @@ roles_mapped u v k (declares_constant name e) = λ j. Begins (deeper_level k) �
 roles_mapped u v k (declares_constants cs) = λ j. Begins k ∷ roles_mapped u v k cs j
 roles_mapped u v k (declares_type name t) = λ j. Begins (deeper_level k) ∷ Plain ∷ (roles_mapped u v 0 t j ++ (Plain ∷ []))
 roles_mapped u v k (declares_types ts) = λ j. Begins k ∷ roles_mapped u v k ts j
-roles_mapped u v k (declares_variable ns t) = λ j. with_line_start (deeper_level k) (roles_mapped u v 0 ns j) ++ (Plain ∷ (roles_mapped u v 0 t j ++ (Plain ∷ [])))
+roles_mapped u v k (declares_variable ns t) = λ j. roles_with_line_start (deeper_level k) (roles_mapped u v 0 ns j) ++ (Plain ∷ (roles_mapped u v 0 t j ++ (Plain ∷ [])))
 roles_mapped u v k (declares_variables vs) = λ j. Begins k ∷ roles_mapped u v k vs j
 roles_mapped u v k (declares_procedure name fs b closing) = λ j. Begins (deeper_level k) ∷ Plain ∷ (roles_mapped u v 0 fs j ++ (Plain ∷ (roles_mapped u v (deeper_level k) b j ++ (Begins (deeper_level k) ∷ Plain ∷ Plain ∷ []))))
 roles_mapped u v k (declares cs ts vs ps) = λ j. roles_mapped u v k cs j ++ (roles_mapped u v k ts j ++ (roles_mapped u v k vs j ++ roles_mapped u v k ps j))

@@ -11,19 +11,19 @@ use Rattle.ob0_layout.specs.declared.gap.Gap.{Gap}
 use Rattle.ob0_layout.specs.declared.gap.Gap.TheVariants.{Nothing, Line}
 use Rattle.ob0_layout.specs.declared.line_role.LineRole.{LineRole}
 use Rattle.ob0_layout.specs.declared.sites.GapSite.{GapSite}
-use Rattle.ob0_layout.specs.declared.sites.NextLexeme.{NextLexeme}
-use Rattle.ob0_layout.specs.declared.sites.NextLexeme.TheVariants as next
+use Rattle.ob0_layout.specs.declared.sites.TokenOrComment.{TokenOrComment}
+use Rattle.ob0_layout.specs.declared.sites.TokenOrComment.TheVariants as next
 use Rattle.ob0_layout.specs.declared.sites.KindAndRole.{KindAndRole}
-use Rattle.ob0_layout.specs.Gaps.{is_changed}
+use Rattle.ob0_layout.specs.Gaps.{formatting_changes_gap}
 use Rattle.ob0_layout.specs.Layout.{gap_between, gap_text}
 
 -- Returns the token or comment that comes first in the text among the remaining tokens and the
 -- remaining comments. Returns None if both lists are empty.
-abbrev pub next_lexeme : List Token → List Span → Option NextLexeme
-next_lexeme [] [] = None
-next_lexeme [] (c ∷ cs) = Some (next.Comment c)
-next_lexeme (t ∷ ts) [] = Some (next.Token t)
-next_lexeme (t ∷ ts) (c ∷ cs) =
+abbrev pub next_token_or_comment : List Token → List Span → Option TokenOrComment
+next_token_or_comment [] [] = None
+next_token_or_comment [] (c ∷ cs) = Some (next.Comment c)
+next_token_or_comment (t ∷ ts) [] = Some (next.Token t)
+next_token_or_comment (t ∷ ts) (c ∷ cs) =
     if nat_lt c.start t.span.start then Some (next.Comment c) else Some (next.Token t)
 
 -- Returns the formatted gap between a token or comment and the next one, which has the kind `kind`
@@ -43,17 +43,17 @@ last_gap (Some b) = Line 0
 abbrev pub gap_cut : Indent → GapSite → Cut
 gap_cut indent g = record { from = g.start; to = g.end; new = gap_text indent g.gap }
 
--- Returns the gaps of the list that formatting changes, in the same order.
+-- Returns the gaps among `gs` that formatting changes, in the same order.
 abbrev pub changed_sites : Indent → List ℕ → List GapSite → List GapSite
-changed_sites indent text gs = filter (λ (g : GapSite). is_changed text (gap_cut indent g)) gs
+changed_sites indent text gs = filter (λ (g : GapSite). formatting_changes_gap text (gap_cut indent g)) gs
 
 -- States that the gap `g` lies in a text of `len` bytes: its start isn't after its end, and its end
 -- is at most `len`.
-pub record LiesIn (len : ℕ) (g : GapSite) : Type 0 where
+pub record GapLiesWithin (len : ℕ) (g : GapSite) : Type 0 where
   pub ordered : g.start ≤ g.end
   pub within : g.end ≤ len
 
--- Returns whether each byte in the list is equal to `b`.
+-- Returns whether each of these bytes is equal to `b`.
 abbrev pub all_equal_to : ℕ → List ℕ → Bool
 all_equal_to b [] = true
 all_equal_to b (c ∷ cs) = (c == b) && all_equal_to b cs

@@ -12,18 +12,18 @@ use Rattle.ob0_text.specs.Texts.{position_of}
 use Rattle.ob0_layout.specs.declared.line_role.LineRole.{LineRole}
 use Rattle.ob0_layout.specs.Layout.{LexemeWithRole, lexemes_with_roles, gap_text_between}
 
--- Returns the gaps after the token or comment `a`. Each gap is given as a cut: its byte range, and
--- the text that replaces it. The list has the tokens and comments after `a`, and `len` is the
--- length of the text in bytes. The replacement of the last gap is a line feed.
+-- Returns the gaps after the token or comment `a`, given the tokens and comments that follow it.
+-- Each gap is a cut: its byte range and its replacement. `len` is the length of the text in bytes.
+-- The replacement of the last gap is a line feed.
 abbrev pub gaps_after : Indent → ℕ → LexemeWithRole → List LexemeWithRole → List Cut
 gaps_after indent len a [] = record { from = a.span.end; to = len; new = 10 ∷ [] } ∷ []
 gaps_after indent len a (b ∷ bs) =
     record { from = a.span.end; to = b.span.start; new = gap_text_between indent a b }
     ∷ gaps_after indent len b bs
 
--- Returns all gaps of a text of `len` bytes. Each gap is given as a cut: its byte range, and the
--- text that replaces it. The list has the tokens and comments of the text. The replacement of the
--- gap at the start of the text is empty.
+-- Returns all gaps of a text of `len` bytes, given the text's tokens and comments. Each gap is a
+-- cut: its byte range and its replacement. The gap at the start of the text has an empty
+-- replacement.
 abbrev pub gaps_of_lexemes : Indent → ℕ → List LexemeWithRole → List Cut
 gaps_of_lexemes indent len [] = record { from = 0; to = len; new = [] } ∷ []
 gaps_of_lexemes indent len (a ∷ bs) =
@@ -37,12 +37,12 @@ all_gaps indent text ss lexemes = gaps_of_lexemes indent (length text) (lexemes_
 
 -- Returns whether formatting changes the gap that the cut `c` replaces: the gap's bytes differ from
 -- the replacement.
-abbrev pub is_changed : List ℕ → Cut → Bool
-is_changed text c = not (bytes_eq (slice_range text c.from c.to) c.new)
+abbrev pub formatting_changes_gap : List ℕ → Cut → Bool
+formatting_changes_gap text c = not (bytes_eq (slice_range text c.from c.to) c.new)
 
 -- Returns the cuts of `cs` whose gaps formatting changes, in the same order.
 abbrev pub changed_gaps : List ℕ → List Cut → List Cut
-changed_gaps text cs = filter (is_changed text) cs
+changed_gaps text cs = filter (formatting_changes_gap text) cs
 
 -- An edit as contracts describe it: the range of positions that it replaces, and the replacement
 -- text in bytes.
@@ -51,9 +51,9 @@ pub record EditContent : Type 0 where
   pub text : List ℕ
 
 -- Returns the edit that makes the cut `c` in the text with the characters `content`. `width`
--- returns the length of a character in the unit in which positions count: UTF-16 units or bytes.
-abbrev pub edit_of : (ℕ → ℕ) → List ℕ → Cut → EditContent
-edit_of width content c = record {
+-- returns how many units a character has. The unit is a UTF-16 unit or a byte.
+abbrev pub edit_of_cut : (ℕ → ℕ) → List ℕ → Cut → EditContent
+edit_of_cut width content c = record {
   range =
       record { start = position_of width content c.from; end = position_of width content c.to };
   text = c.new;
@@ -71,5 +71,5 @@ formatted_len_from len at [] = len - at
 formatted_len_from len at (c ∷ cs) = (c.from - at) + (length c.new + formatted_len_from len c.to cs)
 
 -- States that the bytes of `text` that the cut `c` replaces are only white space.
-abbrev pub CutsWhiteSpace : List ℕ → Cut → Type 0
-CutsWhiteSpace text c = AllPass is_space (slice_range text c.from c.to)
+abbrev pub ReplacesOnlyWhiteSpace : List ℕ → Cut → Type 0
+ReplacesOnlyWhiteSpace text c = AllPass is_space (slice_range text c.from c.to)

@@ -1,5 +1,5 @@
--- Defines the role of each token of a tree in its line: whether the token begins a line, and how
--- its neighbours are spaced.
+-- Defines the role of each token of a tree in its line: whether the token begins the line, and
+-- whether a space may stand next to it.
 -- Rule: docs/LANGUAGE.md, Layout 2 to 4.
 use Rattle.std.specs.Prelude.{ℕ, ◌+◌, min, Bool, true, false, Option, Some, None, List, [], ◌∷◌, ◌++◌}
 use Rattle.ob0_tree.specs.declared.tree.Sign.{Sign}
@@ -7,26 +7,26 @@ use Rattle.ob0_tree.specs.Tree.{Sort, Tree, none, one, end, more, compares, rela
 use Rattle.ob0_layout.specs.declared.line_role.LineRole.{LineRole}
 use Rattle.ob0_layout.specs.declared.line_role.LineRole.TheVariants.{Begins, Opening, Joining, Plain}
 
--- Returns `k` plus 1, capped at 2^32 - 1. The levels of a module are far below that cap.
+-- Returns `k` plus 1, capped at 2^32 - 1, so that the level fits in 32 bits.
 abbrev pub deeper_level : ℕ → ℕ
 deeper_level k = min (k + 1) 4294967295
 
--- Returns the list of roles with the first role replaced by `Begins level`. Returns an empty list
+-- Returns these roles with the first role replaced by `Begins level`. Returns an empty list
 -- unchanged.
-abbrev pub with_line_start : ℕ → List LineRole → List LineRole
-with_line_start level [] = []
-with_line_start level (s ∷ ss) = Begins level ∷ ss
+abbrev pub roles_with_line_start : ℕ → List LineRole → List LineRole
+roles_with_line_start level [] = []
+roles_with_line_start level (s ∷ ss) = Begins level ∷ ss
 
 -- Returns a list with the role of the sign, or an empty list if there is no sign (None).
-abbrev pub sign_role : Option Sign → List LineRole
-sign_role None = []
-sign_role (Some s) = Joining ∷ []
+abbrev pub optional_sign_role : Option Sign → List LineRole
+optional_sign_role None = []
+optional_sign_role (Some s) = Joining ∷ []
 
--- Returns a list with the role of the separator before an item of a list. If the Bool is true, the
--- item is the first one, and the result is empty, because no separator comes before that item.
-abbrev pub separator_role : Bool → List LineRole
-separator_role true = []
-separator_role false = Plain ∷ []
+-- Returns a list with the role of the separator before an item of a list. If the argument is true,
+-- the item is the first one. Then no separator comes before it, and the result is empty.
+abbrev pub separator_role_unless_first : Bool → List LineRole
+separator_role_unless_first true = []
+separator_role_unless_first false = Plain ∷ []
 
 -- Returns the line roles of a tree's tokens, in text order. `k` is an indentation level: the level
 -- of a statement, or the level of the block for declarations and bodies. The module has level 0,
@@ -41,7 +41,7 @@ line_roles k end = []
 line_roles k (more t ts) = line_roles k t ++ line_roles k ts
 line_roles k (compares left compared) = line_roles k left ++ line_roles k compared
 line_roles k (relates relation right) = Plain ∷ line_roles k right
-line_roles k (sum sign first terms) = sign_role sign ++ (line_roles k first ++ line_roles k terms)
+line_roles k (sum sign first terms) = optional_sign_role sign ++ (line_roles k first ++ line_roles k terms)
 line_roles k (adds operator t) = Plain ∷ line_roles k t
 line_roles k (product first factors) = line_roles k first ++ line_roles k factors
 line_roles k (multiplies operator f) = Plain ∷ line_roles k f
@@ -94,7 +94,7 @@ line_roles k (declares_constants cs) = Begins k ∷ line_roles k cs
 line_roles k (declares_type name t) = Begins (deeper_level k) ∷ Plain ∷ (line_roles 0 t ++ (Plain ∷ []))
 line_roles k (declares_types ts) = Begins k ∷ line_roles k ts
 line_roles k (declares_variable ns t) =
-    with_line_start (deeper_level k) (line_roles 0 ns) ++ (Plain ∷ (line_roles 0 t ++ (Plain ∷ [])))
+    roles_with_line_start (deeper_level k) (line_roles 0 ns) ++ (Plain ∷ (line_roles 0 t ++ (Plain ∷ [])))
 line_roles k (declares_variables vs) = Begins k ∷ line_roles k vs
 line_roles k (declares_procedure name fs b closing) =
     Begins (deeper_level k)

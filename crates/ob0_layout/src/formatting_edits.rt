@@ -3,19 +3,19 @@
 ghost use Rattle.std.specs.Prelude.{◌≡◌, ◌≤◌, ◌<◌, ◌⊎◌, ◌↔◌, IsTrue, Some, IfOk, IfErr, IsErrOf, map, length};
 ghost use Rattle.std.specs.List.{All};
 ghost use Rattle.std.specs.Str.{chars};
-ghost use Rattle.ob0_scan.specs.TextWithTokens.{IsScan, max_text};
-ghost use Rattle.ob0_text.specs.Patches.{patched};
+ghost use Rattle.ob0_scan.specs.TextWithTokens.{IsScan, max_text_length};
+ghost use Rattle.ob0_text.specs.Patches.{patched_text};
 ghost use Rattle.ob0_text.specs.Units.{width_of};
 ghost use Rattle.ob0_text.specs.declared.refusals.EditRefusal.TheVariants.{TooLong, Memory};
 ghost use Rattle.ob0_tree.specs.ParsedModule.{named_tree_of};
-ghost use Rattle.ob0_layout.specs.Layout.{layout};
+ghost use Rattle.ob0_layout.specs.Layout.{formatted_text};
 ghost use Rattle.ob0_layout.specs.LineRoles.{line_roles};
-ghost use Rattle.ob0_layout.specs.Cuts.{gap_cut, LiesIn};
-ghost use Rattle.ob0_layout.specs.Gaps.{all_gaps, changed_gaps, edit_content, edit_of, formatted_len_from};
+ghost use Rattle.ob0_layout.specs.Cuts.{gap_cut, GapLiesWithin};
+ghost use Rattle.ob0_layout.specs.Gaps.{all_gaps, changed_gaps, edit_content, edit_of_cut, formatted_len_from};
 
 use crate::sites::{GapSite, changed_sites};
 use crate::walk::line_roles;
-use ob0_scan::MAX_TEXT;
+use ob0_scan::MAX_TEXT_LENGTH;
 use ob0_text::{Edit, EditRefusal, Indent, Range, TextStore};
 use ob0_tree::Module;
 use std::alloc::{AllocError, Global};
@@ -24,7 +24,7 @@ use std::alloc::{AllocError, Global};
 /// A gap is the white space between two neighbouring tokens or comments, or at the start or end of
 /// the text. Each edit replaces a whole gap. If `store` holds the module's text, applying all the
 /// edits to that text gives the formatted text. Fails with `TooLong` if the formatted text would
-/// have more than `MAX_TEXT` bytes, and with `Memory` if an allocation fails.
+/// have more than `MAX_TEXT_LENGTH` bytes, and with `Memory` if an allocation fails.
 pub fn format<T: TextStore>(
     alloc: Global,
     store: &T,
@@ -33,48 +33,48 @@ pub fn format<T: TextStore>(
 ) -> Result<Vec<Edit>, EditRefusal>
     ensures edits { (scan : IsScan module.now.source)
         → IfOk result (λ edits. map edit_content edits.items ≡
-        map (edit_of (width_of (T.unit_of store.now)) (T.content store.now))
+        map (edit_of_cut (width_of (T.unit_of store.now)) (T.content store.now))
         (changed_gaps module.now.source.text (all_gaps indent module.now.source.text
         (line_roles 0 (named_tree_of module.now)) scan.lexemes))) }
     ensures fits { (scan : IsScan module.now.source)
         → IfOk result
-        (λ _. length (layout indent (named_tree_of module.now) scan.lexemes) ≤ max_text) }
+        (λ _. length (formatted_text indent (named_tree_of module.now) scan.lexemes) ≤ max_text_length) }
     ensures too_long { (scan : IsScan module.now.source)
         → IsErrOf result TooLong
-        → max_text < length (layout indent (named_tree_of module.now) scan.lexemes) }
-    ensures patched { (scan : IsScan module.now.source)
+        → max_text_length < length (formatted_text indent (named_tree_of module.now) scan.lexemes) }
+    ensures patched_text { (scan : IsScan module.now.source)
         → T.content store.now ≡ chars module.now.source.text → IfOk result (λ edits.
-        patched (width_of (T.unit_of store.now)) (T.content store.now) edits.items
-        ≡ Some (chars (layout indent (named_tree_of module.now) scan.lexemes))) }
+        patched_text (width_of (T.unit_of store.now)) (T.content store.now) edits.items
+        ≡ Some (chars (formatted_text indent (named_tree_of module.now) scan.lexemes))) }
     ensures refusals { IfErr result (λ refusal. (refusal ≡ TooLong) ⊎ (refusal ≡ Memory)) }
 {
     let tokens = module.tokens();
     let roles = line_roles(alloc, module)?;
     let sites = changed_sites(alloc, tokens, &roles, indent)?;
-    if !is_within_limit(&sites, tokens.text().len(), indent) {
+    if !is_formatted_text_within_limit(&sites, tokens.text().len(), indent) {
         return Err(EditRefusal::TooLong);
     }
     Ok(edits(alloc, store, &sites, indent)?)
 }
 
-/// Returns whether a text of `len` bytes has at most `MAX_TEXT` bytes after the gaps `sites` are
-/// formatted.
-fn is_within_limit(sites: &[GapSite], len: usize, indent: Indent) -> bool
-    requires length { len ≤ max_text }
-    requires within { All (LiesIn len) sites.now }
+/// Returns whether a text of `len` bytes has at most `MAX_TEXT_LENGTH` bytes after the gaps `sites`
+/// are formatted.
+fn is_formatted_text_within_limit(sites: &[GapSite], len: usize, indent: Indent) -> bool
+    requires length { len ≤ max_text_length }
+    requires within { All (GapLiesWithin len) sites.now }
     ensures { IsTrue result
-        ↔ formatted_len_from len 0 (map (gap_cut indent) sites.now) ≤ max_text }
+        ↔ formatted_len_from len 0 (map (gap_cut indent) sites.now) ≤ max_text_length }
 {
     let mut made = 0;
     let mut at = 0;
     for site in sites {
         made += site.start.saturating_sub(at) + site.gap.len(indent);
-        if made > MAX_TEXT {
+        if made > MAX_TEXT_LENGTH {
             return false;
         }
         at = site.end;
     }
-    made + len.saturating_sub(at) <= MAX_TEXT
+    made + len.saturating_sub(at) <= MAX_TEXT_LENGTH
 }
 
 /// Returns the edits that replace the gaps `sites` by their formatted texts, in the same order.
@@ -85,7 +85,7 @@ fn edits<T: TextStore>(
     indent: Indent,
 ) -> Result<Vec<Edit>, AllocError>
     ensures { IfOk result (λ edits. map edit_content edits.items
-        ≡ map (λ site. edit_of (width_of (T.unit_of store.now)) (T.content store.now)
+        ≡ map (λ site. edit_of_cut (width_of (T.unit_of store.now)) (T.content store.now)
         (gap_cut indent site)) sites.now) }
 {
     let gap_starts = gap_starts(alloc, sites)?;

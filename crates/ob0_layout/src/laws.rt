@@ -12,36 +12,36 @@ ghost use Rattle.ob0_text.specs.Patches.{Cut, text_with_cuts};
 ghost use Rattle.ob0_text.specs.declared.edits.Indent.{Indent};
 ghost use Rattle.ob0_tree.specs.Tree.{Tree, module_text};
 ghost use Rattle.ob0_tree.specs.Module.{ModuleOf};
-ghost use Rattle.ob0_layout.specs.Layout.{without_white_space, formatted_lexemes, layout};
-ghost use Rattle.ob0_layout.specs.Gaps.{CutsWhiteSpace, all_gaps, changed_gaps, formatted_len_from};
+ghost use Rattle.ob0_layout.specs.Layout.{lexemes_without_white_space, formatted_lexemes, formatted_text};
+ghost use Rattle.ob0_layout.specs.Gaps.{ReplacesOnlyWhiteSpace, all_gaps, changed_gaps, formatted_len_from};
 ghost use Rattle.ob0_layout.specs.LineRoles.{line_roles};
 
 /// Proves two facts: scanning a formatted text gives `formatted_lexemes`, and formatting changes no
 /// token and no comment.
-pub fn formatting_keeps_lexemes()
+pub fn formatting_keeps_tokens_and_comments()
     ensures lexed { (indent : Indent) (s : TextWithTokens) (scan : IsScan s)
         (tree : Tree (List ℕ) module_text)
         → ModuleOf s tree
-        → LexesInto (layout indent tree scan.lexemes) (formatted_lexemes indent tree scan.lexemes) }
-    ensures without_white_space { (indent : Indent) (s : TextWithTokens) (scan : IsScan s)
+        → LexesInto (formatted_text indent tree scan.lexemes) (formatted_lexemes indent tree scan.lexemes) }
+    ensures lexemes_without_white_space { (indent : Indent) (s : TextWithTokens) (scan : IsScan s)
         (tree : Tree (List ℕ) module_text)
         → ModuleOf s tree
-        → without_white_space (formatted_lexemes indent tree scan.lexemes) ≡ without_white_space scan.lexemes }
+        → lexemes_without_white_space (formatted_lexemes indent tree scan.lexemes) ≡ lexemes_without_white_space scan.lexemes }
 {}
 
 /// Proves that a formatted text is a module with the same tree as the original text.
 pub fn formatting_keeps_module()
     ensures { (indent : Indent) (s : TextWithTokens) (scan : IsScan s) (tree : Tree (List ℕ) module_text)
         → ModuleOf s tree
-        → (t : TextWithTokens) → IsScan t → t.text ≡ layout indent tree scan.lexemes → ModuleOf t tree }
+        → (t : TextWithTokens) → IsScan t → t.text ≡ formatted_text indent tree scan.lexemes → ModuleOf t tree }
 {}
 
 /// Proves that formatting a formatted text changes nothing.
 pub fn formatting_is_idempotent()
     ensures { (indent : Indent) (s : TextWithTokens) (scan : IsScan s) (tree : Tree (List ℕ) module_text)
         → ModuleOf s tree
-        → (t : TextWithTokens) (again : IsScan t) → t.text ≡ layout indent tree scan.lexemes
-        → layout indent tree again.lexemes ≡ layout indent tree scan.lexemes }
+        → (t : TextWithTokens) (again : IsScan t) → t.text ≡ formatted_text indent tree scan.lexemes
+        → formatted_text indent tree again.lexemes ≡ formatted_text indent tree scan.lexemes }
 {}
 
 /// Proves three facts: replacing the gaps that formatting changes gives the formatted text, the
@@ -50,25 +50,25 @@ pub fn formatting_is_idempotent()
 pub fn gaps_give_formatted_text()
     ensures utf8 { (indent : Indent) (s : TextWithTokens) (scan : IsScan s)
         (tree : Tree (List ℕ) module_text)
-        → IsUtf8 (layout indent tree scan.lexemes) }
+        → IsUtf8 (formatted_text indent tree scan.lexemes) }
     ensures made { (indent : Indent) (s : TextWithTokens) (scan : IsScan s)
         (tree : Tree (List ℕ) module_text)
         → text_with_cuts s.text 0
         (changed_gaps s.text (all_gaps indent s.text (line_roles 0 tree) scan.lexemes))
-        ≡ layout indent tree scan.lexemes }
+        ≡ formatted_text indent tree scan.lexemes }
     ensures length { (indent : Indent) (s : TextWithTokens) (scan : IsScan s)
         (tree : Tree (List ℕ) module_text)
         → formatted_len_from (length s.text) 0
         (all_gaps indent s.text (line_roles 0 tree) scan.lexemes)
-        ≡ length (layout indent tree scan.lexemes) }
+        ≡ length (formatted_text indent tree scan.lexemes) }
 {}
 
-/// Proves that each gap between tokens and comments contains only white space, before formatting
-/// and also afterwards.
+/// Proves that each gap between tokens and comments contains only white space, both before and
+/// after formatting.
 pub fn gaps_are_white_space()
     ensures before { (indent : Indent) (s : TextWithTokens) (scan : IsScan s)
         (tree : Tree (List ℕ) module_text)
-        → All (CutsWhiteSpace s.text) (all_gaps indent s.text (line_roles 0 tree) scan.lexemes) }
+        → All (ReplacesOnlyWhiteSpace s.text) (all_gaps indent s.text (line_roles 0 tree) scan.lexemes) }
     ensures after { (indent : Indent) (s : TextWithTokens) (scan : IsScan s)
         (tree : Tree (List ℕ) module_text)
         → All (λ (c : Cut). AllPass is_space c.new)

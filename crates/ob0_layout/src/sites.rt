@@ -5,9 +5,9 @@
 
 ghost use Rattle.std.specs.Prelude.{◌≡◌, ◌||◌, ◌==◌, ◌++◌, ◌∷◌, [], IfOk, OnOk, is_none, drop, length, map};
 ghost use Rattle.ob0_scan.specs.TextWithTokens.{IsScan};
-ghost use Rattle.ob0_layout.specs.Cuts.{changed_sites, gap_cut, next_lexeme, gap_before, last_gap, LiesIn};
-ghost use Rattle.ob0_layout.specs.Gaps.{all_gaps, changed_gaps, is_changed};
-ghost use Rattle.ob0_layout.specs.Layout.{next_line_level, next_role, comment_role, has_break};
+ghost use Rattle.ob0_layout.specs.Cuts.{changed_sites, gap_cut, next_token_or_comment, gap_before, last_gap, GapLiesWithin};
+ghost use Rattle.ob0_layout.specs.Gaps.{all_gaps, changed_gaps, formatting_changes_gap};
+ghost use Rattle.ob0_layout.specs.Layout.{next_line_level, next_line_role, comment_role, contains_line_break};
 
 use crate::LineRole;
 use crate::gap::{Gap, gap_between};
@@ -31,9 +31,9 @@ pub struct KindAndRole {
     pub role: LineRole,
 }
 
-/// The next token or comment of a text. A comment is given by its span.
+/// A token or comment of a text. A comment is given by its span.
 #[derive(Clone, Copy)]
-pub enum NextLexeme {
+pub enum TokenOrComment {
     Token(Token),
     Comment(Span),
 }
@@ -58,9 +58,9 @@ pub fn changed_sites(
     let mut before: Option<KindAndRole> = None;
     let mut level = 0;
     let mut start = 0;
-    while let Some(next) = next_lexeme(left, comments) {
+    while let Some(next) = next_token_or_comment(left, comments) {
         match next {
-            NextLexeme::Comment(span) => {
+            TokenOrComment::Comment(span) => {
                 let broken = comment_begins_line(before, &text[start..span.start as usize]);
                 let role = comment_role(broken, next_line_level(level, roles));
                 let kind = LexemeKind::Comment;
@@ -71,8 +71,8 @@ pub fn changed_sites(
                 start = span.end as usize;
                 comments = without_first_item(comments);
             }
-            NextLexeme::Token(token) => {
-                let role = next_role(roles);
+            TokenOrComment::Token(token) => {
+                let role = next_line_role(roles);
                 let kind = LexemeKind::Token(token.kind);
                 let gap = gap_before(before, kind, role);
                 let end = token.span.start as usize;
@@ -98,42 +98,42 @@ fn add_gap_if_changed(
     site: GapSite,
     indent: Indent,
 ) -> Result<(), AllocError>
-    requires { LiesIn (length text.now) site }
+    requires { GapLiesWithin (length text.now) site }
     ensures { OnOk result
         (sites.new.items ≡ sites.old.items ++ changed_sites indent text.now (site ∷ [])) }
 {
-    if is_changed(text, site, indent) {
+    if formatting_changes_gap(text, site, indent) {
         sites.push(site)?;
     }
     Ok(())
 }
 
 /// Returns whether formatting changes the white space of the gap `site` of `text`.
-fn is_changed(text: &[u8], site: GapSite, indent: Indent) -> bool
-    requires { LiesIn (length text.now) site }
-    ensures { result ≡ is_changed text.now (gap_cut indent site) }
+fn formatting_changes_gap(text: &[u8], site: GapSite, indent: Indent) -> bool
+    requires { GapLiesWithin (length text.now) site }
+    ensures { result ≡ formatting_changes_gap text.now (gap_cut indent site) }
 {
     !site.gap.matches_bytes(&text[site.start..site.end], indent)
 }
 
 /// Returns the token or comment that comes first in the text among the remaining tokens `left` and
 /// the remaining comments. Returns None if both lists are empty.
-fn next_lexeme(left: &[Token], comments: &[Span]) -> Option<NextLexeme>
-    ensures { result ≡ next_lexeme left.now comments.now }
+fn next_token_or_comment(left: &[Token], comments: &[Span]) -> Option<TokenOrComment>
+    ensures { result ≡ next_token_or_comment left.now comments.now }
 {
     if left.is_empty() {
         if comments.is_empty() {
             return None;
         }
-        return Some(NextLexeme::Comment(comments[0]));
+        return Some(TokenOrComment::Comment(comments[0]));
     }
     if comments.is_empty() {
-        return Some(NextLexeme::Token(left[0]));
+        return Some(TokenOrComment::Token(left[0]));
     }
     if comments[0].start < left[0].span.start {
-        Some(NextLexeme::Comment(comments[0]))
+        Some(TokenOrComment::Comment(comments[0]))
     } else {
-        Some(NextLexeme::Token(left[0]))
+        Some(TokenOrComment::Token(left[0]))
     }
 }
 
@@ -178,8 +178,8 @@ fn next_line_level(level: u32, roles: &[LineRole]) -> u32
 
 /// Returns the line role of the next token, or `Plain` if no token is left. `roles` has the roles
 /// of the remaining tokens.
-fn next_role(roles: &[LineRole]) -> LineRole
-    ensures { result ≡ next_role roles.now }
+fn next_line_role(roles: &[LineRole]) -> LineRole
+    ensures { result ≡ next_line_role roles.now }
 {
     if roles.is_empty() {
         return LineRole::Plain;
@@ -209,17 +209,17 @@ fn comment_role(broken: bool, level: u32) -> LineRole
     }
 }
 
-/// Returns whether a comment begins a line, given the bytes of the gap before it. The comment does
-/// if the gap has a line break, or if the gap is at the start of the text (`before` is None).
+/// Returns whether a comment begins a line, given the bytes of the gap before it. It begins a line
+/// if the gap has a line break or is at the start of the text (`before` is None).
 fn comment_begins_line(before: Option<KindAndRole>, gap: &[u8]) -> bool
-    ensures { result ≡ (is_none before || has_break gap.now) }
+    ensures { result ≡ (is_none before || contains_line_break gap.now) }
 {
-    before.is_none() || has_break(gap)
+    before.is_none() || contains_line_break(gap)
 }
 
 /// Returns whether the gap contains a line feed or a carriage return.
-fn has_break(gap: &[u8]) -> bool
-    ensures { result ≡ has_break gap.now }
+fn contains_line_break(gap: &[u8]) -> bool
+    ensures { result ≡ contains_line_break gap.now }
 {
     for b in gap {
         if *b == b'\n' || *b == b'\r' {

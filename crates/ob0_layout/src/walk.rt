@@ -2,15 +2,15 @@
 
 ghost use Rattle.std.specs.Prelude.{◌≡◌, ◌++◌, ◌∷◌, [], IfOk};
 ghost use Rattle.ob0_layout.specs.declared.line_role.LineRole.TheVariants.{Begins, Plain};
-ghost use Rattle.ob0_layout.specs.LineRoles.{line_roles, deeper_level, sign_role, separator_role};
+ghost use Rattle.ob0_layout.specs.LineRoles.{line_roles, deeper_level, optional_sign_role, separator_role_unless_first};
 ghost use Rattle.ob0_tree.specs.ParsedModule.{tree_of};
 ghost use Rattle.ob0_tree.specs.Tree.{then_name};
-ghost use Rattle.ob0_tree.specs.View.{items_of, expression_of, compound_of, simple_of, term_of, factor_of, selector_of, designator_of, assignment_of, arguments_of_vec, call_of, statement_of, if_of, elsifs_of_vec, sequence_of_vec, type_of, record_type_of, fields_of, section_of, formals_of, constants_of, types_of, variables_of, body_of, procedure_of, block_of};
+ghost use Rattle.ob0_tree.specs.View.{items_of, expression_of, compound_expression_of, simple_expression_of, term_of, factor_of, selector_of, designator_of, assignment_of, arguments_of_vec, call_of, statement_of, if_of, elsifs_of_vec, sequence_of_vec, type_of, record_type_of, optional_field_group_of, parameter_section_of, formals_of, constants_of, types_of, variables_of, body_of, procedure_of, block_of};
 
 use crate::line_role::LineRole;
 use ob0_tree::{
     Assignment, Block, Call, CompoundExpression, Constant, Designator, Elsif, Expression, Factor,
-    Fields, If, Module, Names, ParameterSection, Procedure, RecordType, Selector, Sign,
+    If, Module, Names, OptionalFieldGroup, ParameterSection, Procedure, RecordType, Selector, Sign,
     SimpleExpression, Statement, Term, TypeDeclaration, VariableDeclaration, WrittenType,
 };
 use std::alloc::{AllocError, Global};
@@ -37,7 +37,7 @@ fn deeper_level(level: u32) -> u32
     level.saturating_add(1)
 }
 
-/// Appends the line role `Plain`, for one token that doesn't begin a line.
+/// Appends the line role `Plain`, for one token.
 fn add_plain_role(out: &mut Vec<LineRole>) -> Result<(), AllocError>
     ensures { IfOk result (λ _. out.new.items ≡ out.old.items ++ (Plain ∷ [])) }
 {
@@ -53,14 +53,17 @@ fn add_expression_roles(out: &mut Vec<LineRole>, e: &Expression) -> Result<(), A
 {
     match e {
         Expression::Factor(f) => add_factor_roles(out, f),
-        Expression::CompoundExpression(c) => add_compound_roles(out, c),
+        Expression::CompoundExpression(c) => add_compound_expression_roles(out, c),
     }
 }
 
 /// Appends the roles of the tokens in an expression that isn't a single factor.
 #[cycle(expressions)]
-fn add_compound_roles(out: &mut Vec<LineRole>, c: &CompoundExpression) -> Result<(), AllocError>
-    ensures { IfOk result (λ _. out.new.items ≡ out.old.items ++ line_roles 0 (compound_of c.now)) }
+fn add_compound_expression_roles(
+    out: &mut Vec<LineRole>,
+    c: &CompoundExpression,
+) -> Result<(), AllocError>
+    ensures { IfOk result (λ _. out.new.items ≡ out.old.items ++ line_roles 0 (compound_expression_of c.now)) }
 {
     add_simple_expression_roles(out, &c.left)?;
     if let Some(compared) = &c.compared {
@@ -72,8 +75,8 @@ fn add_compound_roles(out: &mut Vec<LineRole>, c: &CompoundExpression) -> Result
 
 /// Appends the line role of a simple expression's sign. If there is no sign (None), appends
 /// nothing.
-fn add_sign_role(out: &mut Vec<LineRole>, sign: Option<Sign>) -> Result<(), AllocError>
-    ensures { IfOk result (λ _. out.new.items ≡ out.old.items ++ sign_role sign) }
+fn add_optional_sign_role(out: &mut Vec<LineRole>, sign: Option<Sign>) -> Result<(), AllocError>
+    ensures { IfOk result (λ _. out.new.items ≡ out.old.items ++ optional_sign_role sign) }
 {
     if sign.is_some() {
         out.push(LineRole::Joining)?;
@@ -87,9 +90,9 @@ fn add_simple_expression_roles(
     out: &mut Vec<LineRole>,
     s: &SimpleExpression,
 ) -> Result<(), AllocError>
-    ensures { IfOk result (λ _. out.new.items ≡ out.old.items ++ line_roles 0 (simple_of s.now)) }
+    ensures { IfOk result (λ _. out.new.items ≡ out.old.items ++ line_roles 0 (simple_expression_of s.now)) }
 {
-    add_sign_role(out, s.sign)?;
+    add_optional_sign_role(out, s.sign)?;
     add_term_roles(out, &s.first)?;
     for addend in &s.more {
         add_plain_role(out)?;
@@ -164,8 +167,8 @@ fn add_selector_roles(out: &mut Vec<LineRole>, s: &Selector) -> Result<(), Alloc
 
 /// Appends the role of the separator before an item of a list. Appends nothing if the item is the
 /// first one of its list (`first`).
-fn add_separator_role(out: &mut Vec<LineRole>, first: bool) -> Result<(), AllocError>
-    ensures { IfOk result (λ _. out.new.items ≡ out.old.items ++ separator_role first) }
+fn add_separator_role_unless_first(out: &mut Vec<LineRole>, first: bool) -> Result<(), AllocError>
+    ensures { IfOk result (λ _. out.new.items ≡ out.old.items ++ separator_role_unless_first first) }
 {
     if !first {
         add_plain_role(out)?;
@@ -186,7 +189,7 @@ fn add_sequence_roles(
 {
     let mut first = true;
     for s in statements {
-        add_separator_role(out, first)?;
+        add_separator_role_unless_first(out, first)?;
         add_statement_roles(out, level, s)?;
         first = false;
     }
@@ -265,7 +268,7 @@ fn add_argument_roles(out: &mut Vec<LineRole>, given: &Vec<Expression>) -> Resul
     out.push(LineRole::Opening)?;
     let mut first = true;
     for e in given {
-        add_separator_role(out, first)?;
+        add_separator_role_unless_first(out, first)?;
         add_expression_roles(out, e)?;
         first = false;
     }
@@ -315,7 +318,11 @@ fn add_elsif_roles(
 
 /// Appends the roles of the tokens in a list of names, including the commas. `first` is the role of
 /// the first name.
-fn add_name_roles(out: &mut Vec<LineRole>, first: LineRole, ns: &Names) -> Result<(), AllocError>
+fn add_name_list_roles(
+    out: &mut Vec<LineRole>,
+    first: LineRole,
+    ns: &Names,
+) -> Result<(), AllocError>
     ensures { IfOk result (λ _. out.new.items
         ≡ out.old.items ++ (first ∷ line_roles 0 (items_of then_name ns.now.more.items))) }
 {
@@ -329,7 +336,7 @@ fn add_name_roles(out: &mut Vec<LineRole>, first: LineRole, ns: &Names) -> Resul
 
 /// Appends the roles of a written type's tokens.
 #[cycle(types)]
-fn add_type_roles(out: &mut Vec<LineRole>, t: &WrittenType) -> Result<(), AllocError>
+fn add_written_type_roles(out: &mut Vec<LineRole>, t: &WrittenType) -> Result<(), AllocError>
     ensures { IfOk result (λ _. out.new.items ≡ out.old.items ++ line_roles 0 (type_of t.now)) }
 {
     match t {
@@ -338,22 +345,22 @@ fn add_type_roles(out: &mut Vec<LineRole>, t: &WrittenType) -> Result<(), AllocE
             add_plain_role(out)?;
             add_expression_roles(out, &a.size)?;
             add_plain_role(out)?;
-            add_type_roles(out, &a.element)
+            add_written_type_roles(out, &a.element)
         }
-        WrittenType::Record(r) => add_record_roles(out, r),
+        WrittenType::Record(r) => add_record_type_roles(out, r),
     }
 }
 
 /// Appends the roles of a record type's tokens.
 #[cycle(types)]
-fn add_record_roles(out: &mut Vec<LineRole>, r: &RecordType) -> Result<(), AllocError>
+fn add_record_type_roles(out: &mut Vec<LineRole>, r: &RecordType) -> Result<(), AllocError>
     ensures { IfOk result (λ _. out.new.items ≡ out.old.items ++ line_roles 0 (record_type_of r.now)) }
 {
     add_plain_role(out)?;
     let mut first = true;
     for group in &r.groups {
-        add_separator_role(out, first)?;
-        add_field_roles(out, group)?;
+        add_separator_role_unless_first(out, first)?;
+        add_optional_field_group_roles(out, group)?;
         first = false;
     }
     add_plain_role(out)
@@ -361,22 +368,25 @@ fn add_record_roles(out: &mut Vec<LineRole>, r: &RecordType) -> Result<(), Alloc
 
 /// Appends the roles of the tokens in a group of fields. An empty group has no tokens.
 #[cycle(types)]
-fn add_field_roles(out: &mut Vec<LineRole>, f: &Fields) -> Result<(), AllocError>
-    ensures { IfOk result (λ _. out.new.items ≡ out.old.items ++ line_roles 0 (fields_of f.now)) }
+fn add_optional_field_group_roles(
+    out: &mut Vec<LineRole>,
+    f: &OptionalFieldGroup,
+) -> Result<(), AllocError>
+    ensures { IfOk result (λ _. out.new.items ≡ out.old.items ++ line_roles 0 (optional_field_group_of f.now)) }
 {
     match f {
-        Fields::Empty => Ok(()),
-        Fields::Listed(l) => {
-            add_name_roles(out, LineRole::Plain, &l.names)?;
+        OptionalFieldGroup::Empty => Ok(()),
+        OptionalFieldGroup::Listed(l) => {
+            add_name_list_roles(out, LineRole::Plain, &l.names)?;
             add_plain_role(out)?;
-            add_type_roles(out, &l.written)
+            add_written_type_roles(out, &l.written)
         }
     }
 }
 
 /// Appends the line roles of the tokens in a procedure's formal parameters, including the
 /// parentheses. If the procedure has no parentheses (None), appends nothing.
-fn add_formal_roles(
+fn add_formal_parameter_roles(
     out: &mut Vec<LineRole>,
     sections: &Option<Vec<ParameterSection>>,
 ) -> Result<(), AllocError>
@@ -389,28 +399,31 @@ fn add_formal_roles(
     out.push(LineRole::Opening)?;
     let mut first = true;
     for s in sections {
-        add_separator_role(out, first)?;
-        add_section_roles(out, s)?;
+        add_separator_role_unless_first(out, first)?;
+        add_parameter_section_roles(out, s)?;
         first = false;
     }
     add_plain_role(out)
 }
 
 /// Appends the roles of the tokens in a section of parameters.
-fn add_section_roles(out: &mut Vec<LineRole>, s: &ParameterSection) -> Result<(), AllocError>
-    ensures { IfOk result (λ _. out.new.items ≡ out.old.items ++ line_roles 0 (section_of s.now)) }
+fn add_parameter_section_roles(
+    out: &mut Vec<LineRole>,
+    s: &ParameterSection,
+) -> Result<(), AllocError>
+    ensures { IfOk result (λ _. out.new.items ≡ out.old.items ++ line_roles 0 (parameter_section_of s.now)) }
 {
     if s.by_reference {
         add_plain_role(out)?;
     }
-    add_name_roles(out, LineRole::Plain, &s.names)?;
+    add_name_list_roles(out, LineRole::Plain, &s.names)?;
     add_plain_role(out)?;
-    add_type_roles(out, &s.written)
+    add_written_type_roles(out, &s.written)
 }
 
 /// Appends the roles of the tokens in a block's CONST section, if there is one. `level` is the
 /// level of the block. Each declaration begins a line one level deeper.
-fn add_constant_roles(
+fn add_constant_section_roles(
     out: &mut Vec<LineRole>,
     level: u32,
     declared: &Option<Vec<Constant>>,
@@ -433,7 +446,7 @@ fn add_constant_roles(
 
 /// Appends the roles of the tokens in a block's TYPE section, if there is one. `level` is the level
 /// of the block. Each declaration begins a line one level deeper.
-fn add_type_declaration_roles(
+fn add_type_section_roles(
     out: &mut Vec<LineRole>,
     level: u32,
     declared: &Option<Vec<TypeDeclaration>>,
@@ -448,7 +461,7 @@ fn add_type_declaration_roles(
     for d in declared {
         add_line_start_role(out, deeper_level(level))?;
         add_plain_role(out)?;
-        add_type_roles(out, &d.written)?;
+        add_written_type_roles(out, &d.written)?;
         add_plain_role(out)?;
     }
     Ok(())
@@ -456,7 +469,7 @@ fn add_type_declaration_roles(
 
 /// Appends the roles of the tokens in a block's VAR section, if there is one. `level` is the level
 /// of the block. Each declaration begins a line one level deeper.
-fn add_variable_roles(
+fn add_variable_section_roles(
     out: &mut Vec<LineRole>,
     level: u32,
     declared: &Option<Vec<VariableDeclaration>>,
@@ -469,9 +482,9 @@ fn add_variable_roles(
     };
     add_line_start_role(out, level)?;
     for v in declared {
-        add_name_roles(out, LineRole::Begins(deeper_level(level)), &v.names)?;
+        add_name_list_roles(out, LineRole::Begins(deeper_level(level)), &v.names)?;
         add_plain_role(out)?;
-        add_type_roles(out, &v.written)?;
+        add_written_type_roles(out, &v.written)?;
         add_plain_role(out)?;
     }
     Ok(())
@@ -502,9 +515,9 @@ fn add_block_roles(out: &mut Vec<LineRole>, level: u32, b: &Block) -> Result<(),
     ensures { IfOk result
         (λ _. out.new.items ≡ out.old.items ++ line_roles level (block_of b.now)) }
 {
-    add_constant_roles(out, level, &b.constants)?;
-    add_type_declaration_roles(out, level, &b.types)?;
-    add_variable_roles(out, level, &b.variables)?;
+    add_constant_section_roles(out, level, &b.constants)?;
+    add_type_section_roles(out, level, &b.types)?;
+    add_variable_section_roles(out, level, &b.variables)?;
     for p in &b.procedures {
         add_procedure_roles(out, level, p)?;
     }
@@ -521,7 +534,7 @@ fn add_procedure_roles(out: &mut Vec<LineRole>, level: u32, p: &Procedure) -> Re
     let inner = deeper_level(level);
     add_line_start_role(out, inner)?;
     add_plain_role(out)?;
-    add_formal_roles(out, &p.formals)?;
+    add_formal_parameter_roles(out, &p.formals)?;
     add_plain_role(out)?;
     add_block_roles(out, inner, &p.block)?;
     add_line_start_role(out, inner)?;

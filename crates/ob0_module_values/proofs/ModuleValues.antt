@@ -8,7 +8,7 @@ use Rattle.ob0_tree.specs.declared.tree.ModuleTree.{ModuleTree}
 use Rattle.ob0_tree.specs.Lexeme.{EndOfText}
 use Rattle.ob0_tree.specs.Module.{ModuleOf, max_nesting, terminals_of_text}
 use Rattle.ob0_tree.specs.ParsedModule.{IsParsed, ParsedModule, named_tree_of, parsed_module, tree_of}
-use Rattle.ob0_tree.specs.Places.{index_terminals, index_terminals_from, token_text_at, token_value_at}
+use Rattle.ob0_tree.specs.Places.{indexed_terminals, indexed_terminals_from, token_text_at, token_value_at}
 use Rattle.ob0_tree.specs.Tree.{Tree, module_text, nesting, spell}
 use Rattle.ob0_tree.proofs.Indexed.{indexed, nesting_indexed, reindexed, reindexed-append, spell_indexed}
 use Rattle.ob0_tree_values.proofs.TreeValues.{tree_made}
@@ -31,11 +31,11 @@ pub record ParsedOf (s : TextWithTokens) (t : Tree (List ℕ) module_text) : Typ
   pub parsed : IsParsed module_read
   pub tree : named_tree_of module_read ≡ t
 
-lexemes_counted : (i : ℕ) (ts : List Token) → length (index_terminals_from i ts) ≡ length ts + 1
+lexemes_counted : (i : ℕ) (ts : List Token) → length (indexed_terminals_from i ts) ≡ length ts + 1
 lexemes_counted i [] = refl
 lexemes_counted i (t ∷ ts) = omega (arith, lexemes_counted (i + 1) ts)
 
-places_of : (s : TextWithTokens) (t : Tree (List ℕ) module_text) → terminals_of_text s ≡ spell t → spell (indexed 0 t) ++ (EndOfText ∷ []) ≡ index_terminals s.tokens
+places_of : (s : TextWithTokens) (t : Tree (List ℕ) module_text) → terminals_of_text s ≡ spell t → spell (indexed 0 t) ++ (EndOfText ∷ []) ≡ indexed_terminals s.tokens
 places_of s t spelled =
     ap (λ z. z ++ (EndOfText ∷ [])) (spell_indexed 0 t)
     ∙ (sym (reindexed-append 0 (spell t) (EndOfText ∷ []))

@@ -2,14 +2,14 @@
 use Rattle.std.proofs.Common.{◌≡◌, ℕ, zero, suc, ◌+◌, ◌-◌, ◌<◌, ◌≤◌, Option, Some, None, IfSome, List, [], ◌∷◌, ◌++◌, take, drop, length, refl, sym, ◌∙◌, ap, arith, slice_range, length-drop}
 use Rattle.std.proofs.lemmas.List.{drop-drop, length-map}
 use Rattle.ob0_scan.specs.declared.lexeme.Token.{Token}
-use Rattle.ob0_scan.specs.declared.tokens.SameParts.{SameParts}
+use Rattle.ob0_scan.specs.declared.tokens.CommonPrefixAndSuffix.{CommonPrefixAndSuffix}
 use Rattle.ob0_scan.specs.Reused.{kind_without_value, kinds}
 use Rattle.ob0_tree.specs.declared.tree.Procedure.{Procedure, out-Procedure, roll-out-Procedure}
 use Rattle.ob0_tree.specs.Tree.{Sort, Tree, declares_procedure}
 use Rattle.ob0_tree.specs.View.{procedure_of, formals_of, block_of, body_of}
 use Rattle.ob0_tree.proofs.Viewed.{procedure_parts}
-use Rattle.ob0_scan.specs.SameKinds.{HasSameKinds}
-use Rattle.ob0_parse.specs.KeptTokens.{index_terminals_of_kinds, first_token_index, end_token_index, HasTokensAt, IsProcedureInPlace, IsKeptInPlace, IsKeptBodyInPlace, RelocatesBody, RelocatesAnyBody, HoldsForEach, AreInPlace}
+use Rattle.ob0_scan.specs.SameKinds.{PrefixAndSuffixHaveSameKinds}
+use Rattle.ob0_parse.specs.KeptTokens.{indexed_terminals_of_kinds, first_token_index, end_token_index, HasTokensAt, IsProcedureInPlace, IsKeptProcedureInPlace, IsKeptBodyInPlace, RelocatesBody, RelocatesOptionalBody, HoldsForEach, AreKeptTreesInPlace}
 use Rattle.ob0_parse.specs.declared.kept.KeptBody.{KeptBody}
 use Rattle.ob0_parse.specs.declared.kept.KeptTrees.{KeptTrees}
 
@@ -44,13 +44,13 @@ within_front (x ∷ xs) (suc at) count (suc front) h = within_front xs at count 
 -- If other tokens have the same kinds as a tree's tokens, the tree is at those tokens as well.
 there_again : {s : Sort} (old new : List Token) (from at next here end : ℕ) (t : Tree ℕ s) → HasTokensAt old from at next t → slice_range (kinds old) at next ≡ slice_range (kinds new) here end → here < end → end ≤ length new → HasTokensAt new from here end t
 there_again old new from at next here end t p same forward within = record {
-  spelled = p.spelled ∙ ap (λ ks. index_terminals_of_kinds from ks) same;
+  spelled = p.spelled ∙ ap (λ ks. indexed_terminals_of_kinds from ks) same;
   shallow = p.shallow;
   forward = forward;
   within = within;
 }
 
-pub front_stays : {s : Sort} (old new : List Token) (same : SameParts) (from at next : ℕ) (t : Tree ℕ s) → HasSameKinds same old new → next ≤ same.prefix → HasTokensAt old from at next t → HasTokensAt new from at next t
+pub front_stays : {s : Sort} (old new : List Token) (same : CommonPrefixAndSuffix) (from at next : ℕ) (t : Tree ℕ s) → PrefixAndSuffixHaveSameKinds same old new → next ≤ same.prefix → HasTokensAt old from at next t → HasTokensAt new from at next t
 front_stays old new same from at next t h inside p =
     let small : at + (next - at) ≤ same.prefix = omega (arith, p.forward, inside) in
     let alike : slice_range (kinds old) at next ≡ slice_range (kinds new) at next =
@@ -60,7 +60,7 @@ front_stays old new same from at next t h inside p =
 count_kinds : (ts : List Token) (i : ℕ) → length (drop i (kinds ts)) ≡ length ts - i
 count_kinds ts i = length-drop i (kinds ts) ∙ ap (λ n. n - i) (length-map ts (λ (t : Token). kind_without_value t.kind))
 
-pub back_moves : {s : Sort} (old new : List Token) (same : SameParts) (from at next here end : ℕ) (t : Tree ℕ s) → HasSameKinds same old new
+pub back_moves : {s : Sort} (old new : List Token) (same : CommonPrefixAndSuffix) (from at next here end : ℕ) (t : Tree ℕ s) → PrefixAndSuffixHaveSameKinds same old new
     → same.old_suffix ≤ at → here + same.old_suffix ≡ at + same.new_suffix → same.old_suffix ≤ next → end + same.old_suffix ≡ next + same.new_suffix
     → HasTokensAt old from at next t → HasTokensAt new from here end t
 back_moves old new same from at next here end t h in_at to_here in_next to_end p =
@@ -87,7 +87,7 @@ pub some_as : {A : Type 0} (P Q : A → Type 0) (o : Option A) → ((x : A) → 
 some_as P Q None f p = tt
 some_as P Q (Some x) f p = f x p
 
-pub any_carried : (same : SameParts) (b : KeptBody) (r : Option KeptBody) → IfSome r (RelocatesBody same b) → RelocatesAnyBody same (Some b) r
+pub any_carried : (same : CommonPrefixAndSuffix) (b : KeptBody) (r : Option KeptBody) → IfSome r (RelocatesBody same b) → RelocatesOptionalBody same (Some b) r
 any_carried same b None h = λ old new s p. tt
 any_carried same b (Some k) h = h
 
@@ -97,9 +97,9 @@ there_still old new from at next t same p =
     there_again old new from at next at next t p (ap (λ ks. slice_range ks at next) (sym same)) p.forward (omega (arith, count, p.within))
 
 -- If all tokens have the same kinds as before, the kept trees are at their places.
-pub kept_stay : (old new : List Token) (k : KeptTrees) → kinds new ≡ kinds old → AreInPlace old k → AreInPlace new k
+pub kept_stay : (old new : List Token) (k : KeptTrees) → kinds new ≡ kinds old → AreKeptTreesInPlace old k → AreKeptTreesInPlace new k
 kept_stay old new k same kept = record {
   made = each_as (IsProcedureInPlace old) (IsProcedureInPlace new) k.made.items (λ p m. there_still old new (first_token_index (procedure_of p)) (first_token_index (procedure_of p)) (end_token_index (procedure_of p)) (procedure_of p) same m) kept.made;
-  waiting = each_as (IsKeptInPlace old) (IsKeptInPlace new) k.waiting.items (λ w m. there_still old new (first_token_index (procedure_of w.procedure)) w.at w.next (procedure_of w.procedure) same m) kept.waiting;
+  waiting = each_as (IsKeptProcedureInPlace old) (IsKeptProcedureInPlace new) k.waiting.items (λ w m. there_still old new (first_token_index (procedure_of w.procedure)) w.at w.next (procedure_of w.procedure) same m) kept.waiting;
   body = some_as (IsKeptBodyInPlace old) (IsKeptBodyInPlace new) k.body (λ b m. there_still old new b.from b.at b.next (body_of (Some b.statements)) same m) kept.body;
 }

@@ -15,7 +15,7 @@ use Rattle.ob0_tree.specs.declared.tree.Statement.{Statement}
 use Rattle.ob0_tree.specs.Lexeme.{Terminal, Name, WordOrSymbol, EndOfText}
 use Rattle.ob0_tree.specs.Module.{max_nesting}
 use Rattle.ob0_tree.specs.ParsedModule.{ParsedModule, IsParsed, tree_of, parsed_module}
-use Rattle.ob0_tree.specs.Places.{index_terminals, token_text_at, token_value_at}
+use Rattle.ob0_tree.specs.Places.{indexed_terminals, token_text_at, token_value_at}
 use Rattle.ob0_tree.specs.Tree.{procedure, body, Sort, item, items, maybe, Tree, declares_procedure, declares, forms_block, is_module, spell, nesting}
 use Rattle.ob0_tree.specs.View.{items_of, procedure_of, constants_of, types_of, variables_of, body_of}
 use Rattle.ob0_tree.proofs.Mapped.{nesting_mapped}
@@ -30,20 +30,20 @@ some_tokens : (t : Tree ℕ (item procedure)) → 0 < length (spell t)
 some_tokens (declares_procedure x fs b y) = omega arith
 
 -- If a tree's tokens are between other tokens, the tree is at its place.
-between : {s : Sort} (ts : List Token) (begun left : List (Terminal ℕ)) (t : Tree ℕ s) → index_terminals ts ≡ begun ++ (spell t ++ left) → nesting t ≤ max_nesting → 0 < length (spell t) → 0 < length left → IsInPlace ts (length begun) (length begun + length (spell t)) t
+between : {s : Sort} (ts : List Token) (begun left : List (Terminal ℕ)) (t : Tree ℕ s) → indexed_terminals ts ≡ begun ++ (spell t ++ left) → nesting t ≤ max_nesting → 0 < length (spell t) → 0 < length left → IsInPlace ts (length begun) (length begun + length (spell t)) t
 between ts begun left t is shallow some more =
     let at : ℕ = length begun in
     let next : ℕ = at + length (spell t) in
-    let further : index_terminals ts ≡ (begun ++ spell t) ++ left = is ∙ sym (append_assoc begun (spell t) left) in
-    let here : drop at (index_terminals ts) ≡ spell t ++ left = ap (drop at) is ∙ drop_at begun (spell t ++ left) at refl in
-    let following : drop next (index_terminals ts) ≡ left = ap (drop next) further ∙ drop_at (begun ++ spell t) left next (length-append begun (spell t)) in
+    let further : indexed_terminals ts ≡ (begun ++ spell t) ++ left = is ∙ sym (append_assoc begun (spell t) left) in
+    let here : drop at (indexed_terminals ts) ≡ spell t ++ left = ap (drop at) is ∙ drop_at begun (spell t ++ left) at refl in
+    let following : drop next (indexed_terminals ts) ≡ left = ap (drop next) further ∙ drop_at (begun ++ spell t) left next (length-append begun (spell t)) in
     let count : length ts + 1 ≡ next + length left =
     sym (count_lexemes 0 ts) ∙ ap (λ w. length w) further ∙ length-append (begun ++ spell t) left ∙ omega (arith, length-append begun (spell t)) in
     kept_there ts at next t (here ∙ ap (λ w. spell t ++ w) (sym following)) shallow (omega (arith, some)) (omega (arith, count, more))
 
 -- ---- procedures, one after another
 
-first_is : (ts : List Token) (begun left : List (Terminal ℕ)) (p : Procedure) (ps : List Procedure) → index_terminals ts ≡ begun ++ (spell (items_of procedure_of (p ∷ ps)) ++ left) → nesting (items_of procedure_of (p ∷ ps)) ≤ max_nesting → 0 < length left
+first_is : (ts : List Token) (begun left : List (Terminal ℕ)) (p : Procedure) (ps : List Procedure) → indexed_terminals ts ≡ begun ++ (spell (items_of procedure_of (p ∷ ps)) ++ left) → nesting (items_of procedure_of (p ∷ ps)) ≤ max_nesting → 0 < length left
     → IsInPlace ts (length begun) (length begun + length (spell (procedure_of p))) (procedure_of p)
 first_is ts begun left p ps is shallow more =
     let t : Tree ℕ (item procedure) = procedure_of p in
@@ -51,14 +51,14 @@ first_is ts begun left p ps is shallow more =
     between ts begun (spell others ++ left) t (is ∙ ap (λ w. begun ++ w) (append_assoc (spell t) (spell others) left))
     (omega (arith, shallow)) (some_tokens t) (omega (arith, more, length-append (spell others) left))
 
-following_are : (ts : List Token) (begun left : List (Terminal ℕ)) (p : Procedure) (ps : List Procedure) → index_terminals ts ≡ begun ++ (spell (items_of procedure_of (p ∷ ps)) ++ left)
-    → index_terminals ts ≡ (begun ++ spell (procedure_of p)) ++ (spell (items_of procedure_of ps) ++ left)
+following_are : (ts : List Token) (begun left : List (Terminal ℕ)) (p : Procedure) (ps : List Procedure) → indexed_terminals ts ≡ begun ++ (spell (items_of procedure_of (p ∷ ps)) ++ left)
+    → indexed_terminals ts ≡ (begun ++ spell (procedure_of p)) ++ (spell (items_of procedure_of ps) ++ left)
 following_are ts begun left p ps is =
     let t : Tree ℕ (item procedure) = procedure_of p in
     let others : Tree ℕ (items procedure) = items_of procedure_of ps in
     is ∙ ap (λ w. begun ++ w) (append_assoc (spell t) (spell others) left) ∙ sym (append_assoc begun (spell t) (spell others ++ left))
 
-items_made : (ts : List Token) (begun left : List (Terminal ℕ)) (ps : List Procedure) → index_terminals ts ≡ begun ++ (spell (items_of procedure_of ps) ++ left) → nesting (items_of procedure_of ps) ≤ max_nesting → 0 < length left → HoldsForEach (IsProcedureInPlace ts) ps
+items_made : (ts : List Token) (begun left : List (Terminal ℕ)) (ps : List Procedure) → indexed_terminals ts ≡ begun ++ (spell (items_of procedure_of ps) ++ left) → nesting (items_of procedure_of ps) ≤ max_nesting → 0 < length left → HoldsForEach (IsProcedureInPlace ts) ps
 items_made ts begun left [] is shallow more = tt
 items_made ts begun left (p ∷ ps) is shallow more = (
   made_there ts (length begun) (length begun + length (spell (procedure_of p))) (procedure_of p) (first_is ts begun left p ps is shallow more),
@@ -80,7 +80,7 @@ has_last [] n h = absurd (nothing_some h)
 has_last (p ∷ ps) n h = omega arith
 
 -- The last procedure ends right before the first token after the procedures.
-last_end : (ts : List Token) (begun left : List (Terminal ℕ)) (ps : List Procedure) (i n : ℕ) → index_terminals ts ≡ begun ++ (spell (items_of procedure_of ps) ++ left) → nesting (items_of procedure_of ps) ≤ max_nesting → 0 < length left
+last_end : (ts : List Token) (begun left : List (Terminal ℕ)) (ps : List Procedure) (i n : ℕ) → indexed_terminals ts ≡ begun ++ (spell (items_of procedure_of ps) ++ left) → nesting (items_of procedure_of ps) ≤ max_nesting → 0 < length left
     → i + 1 ≡ length ps → end_at ps i ≡ Some n → n ≡ length begun + length (spell (items_of procedure_of ps))
 last_end ts begun left [] i n is shallow more count h = absurd (omega (arith, count))
 last_end ts begun left (p ∷ []) (suc i) n is shallow more count h = absurd (omega (arith, count))
@@ -106,7 +106,7 @@ ended closing = WordOrSymbol (kind.ReservedWord reserved.End) ∷ Name closing �
 -- name.
 record HasParts (ts : List Token) (ps : List Procedure) (ss : Option (Vec Statement Global)) (closing : ℕ) : Type 0 where
   begun : List (Terminal ℕ)
-  whole : index_terminals ts ≡ begun ++ (spell (items_of procedure_of ps) ++ (spell (body_of ss) ++ ended closing))
+  whole : indexed_terminals ts ≡ begun ++ (spell (items_of procedure_of ps) ++ (spell (body_of ss) ++ ended closing))
   procedures_shallow : nesting (items_of procedure_of ps) ≤ max_nesting
   body_shallow : nesting (body_of ss) ≤ max_nesting
 
@@ -122,7 +122,7 @@ parts_of m parsed =
     let ps = items_of procedure_of b.procedures.items in
     let s = body_of b.body in
     let last : List (Terminal ℕ) = WordOrSymbol (kind.ReservedWord reserved.End) ∷ Name m.closing ∷ WordOrSymbol (kind.Symbol symbol.Dot) ∷ [] in
-    let all : index_terminals m.source.tokens ≡ spell (is_module m.name (forms_block (declares cs ds vs ps) s) m.closing) ++ (EndOfText ∷ []) =
+    let all : indexed_terminals m.source.tokens ≡ spell (is_module m.name (forms_block (declares cs ds vs ps) s) m.closing) ++ (EndOfText ∷ []) =
     sym parsed.places ∙ ap (λ t. spell (is_module m.name t m.closing) ++ (EndOfText ∷ [])) (block_parts m.block) in
     let named : nesting (tree_of m) ≤ max_nesting = subst (λ n. n ≤ max_nesting) (nesting_mapped (token_text_at m.source) (token_value_at m.source) (tree_of m)) parsed.module_of.shallow in
     let shallow : nesting (is_module m.name (forms_block (declares cs ds vs ps) s) m.closing) ≤ max_nesting = subst (λ t. nesting (is_module m.name t m.closing) ≤ max_nesting) (block_parts m.block) named in
@@ -150,7 +150,7 @@ body_there ts ps ss closing from h first next closed =
     let t : Tree ℕ (maybe body) = body_of (Some ss) in
     let procedures : List (Terminal ℕ) = spell (items_of procedure_of ps) in
     let begun : List (Terminal ℕ) = h.begun ++ procedures in
-    let whole : index_terminals ts ≡ begun ++ (spell t ++ ended closing) = h.whole ∙ sym (append_assoc h.begun procedures (spell t ++ ended closing)) in
+    let whole : indexed_terminals ts ≡ begun ++ (spell t ++ ended closing) = h.whole ∙ sym (append_assoc h.begun procedures (spell t ++ ended closing)) in
     let here : from ≡ length begun =
     last_end ts h.begun (spell t ++ ended closing) ps (length ps - 1) from h.whole h.procedures_shallow (some_left (spell t) closing) (has_last ps from first) first
     ∙ sym (length-append h.begun procedures) in

@@ -9,47 +9,47 @@ use Rattle.ob0_scan.specs.declared.lexeme.Token.{Token}
 use Rattle.ob0_scan.specs.Reused.{kind_without_value, kinds}
 use Rattle.ob0_tree.specs.Lexeme.{Terminal, Name, WordOrSymbol, EndOfText}
 use Rattle.ob0_tree.specs.Module.{max_nesting}
-use Rattle.ob0_tree.specs.Places.{index_terminal, index_terminals_from, index_terminals}
+use Rattle.ob0_tree.specs.Places.{indexed_terminal, indexed_terminals_from, indexed_terminals}
 use Rattle.ob0_tree.specs.Tree.{procedure, Sort, item, Tree, declares_procedure, spell, nesting}
 use Rattle.ob0_parse_descent.proofs.Unique.{head_of, tail_of}
-use Rattle.ob0_parse.specs.KeptTokens.{index_terminals_of_kinds, first_token_index, end_token_index, IsInPlace}
+use Rattle.ob0_parse.specs.KeptTokens.{indexed_terminals_of_kinds, first_token_index, end_token_index, IsInPlace}
 
 -- ---- tokens, given by their kinds
 
-pub count_lexemes : (i : ℕ) (ts : List Token) → length (index_terminals_from i ts) ≡ length ts + 1
+pub count_lexemes : (i : ℕ) (ts : List Token) → length (indexed_terminals_from i ts) ≡ length ts + 1
 count_lexemes i [] = refl
 count_lexemes i (t ∷ ts) = let h = count_lexemes (i + 1) ts in omega (arith, h)
 
 -- An integer's lexeme at an index has the index in place of the value, so the value doesn't matter.
-pub by_kind : (i : ℕ) (k : TokenKind) → index_terminal i (kind_without_value k) ≡ index_terminal i k
+pub by_kind : (i : ℕ) (k : TokenKind) → indexed_terminal i (kind_without_value k) ≡ indexed_terminal i k
 by_kind i kind.Identifier = refl
 by_kind i (kind.ReservedWord word) = refl
 by_kind i (kind.Integer value) = refl
 by_kind i (kind.Symbol symbol) = refl
 
-first_lexemes : (i n : ℕ) (ts : List Token) → n ≤ length ts → index_terminals_from i ts ≡ index_terminals_of_kinds i (take n (kinds ts)) ++ drop n (index_terminals_from i ts)
+first_lexemes : (i n : ℕ) (ts : List Token) → n ≤ length ts → indexed_terminals_from i ts ≡ indexed_terminals_of_kinds i (take n (kinds ts)) ++ drop n (indexed_terminals_from i ts)
 first_lexemes i zero ts h = refl
 first_lexemes i (suc n) [] h = absurd (omega (arith, h))
 first_lexemes i (suc n) (t ∷ ts) h =
-    ap (λ x. x ∷ index_terminals_from (i + 1) ts) (sym (by_kind i t.kind))
-    ∙ ap (λ xs. index_terminal i (kind_without_value t.kind) ∷ xs) (first_lexemes (i + 1) n ts (omega (arith, h)))
+    ap (λ x. x ∷ indexed_terminals_from (i + 1) ts) (sym (by_kind i t.kind))
+    ∙ ap (λ xs. indexed_terminal i (kind_without_value t.kind) ∷ xs) (first_lexemes (i + 1) n ts (omega (arith, h)))
 
-pieces : (i at next count : ℕ) (ts : List Token) → at + count ≡ next → next ≤ length ts → drop at (index_terminals_from i ts) ≡ index_terminals_of_kinds (i + at) (take count (drop at (kinds ts))) ++ drop next (index_terminals_from i ts)
+pieces : (i at next count : ℕ) (ts : List Token) → at + count ≡ next → next ≤ length ts → drop at (indexed_terminals_from i ts) ≡ indexed_terminals_of_kinds (i + at) (take count (drop at (kinds ts))) ++ drop next (indexed_terminals_from i ts)
 pieces i zero next count ts h within =
     let e : i ≡ i + 0 = omega arith in
     let f : count ≡ next = omega (arith, h) in
-    first_lexemes i count ts (omega (arith, f, within)) ∙ (λ k. index_terminals_of_kinds (e k) (take count (kinds ts)) ++ drop (f k) (index_terminals_from i ts))
+    first_lexemes i count ts (omega (arith, f, within)) ∙ (λ k. indexed_terminals_of_kinds (e k) (take count (kinds ts)) ++ drop (f k) (indexed_terminals_from i ts))
 pieces i (suc at) zero count ts h within = absurd (omega (arith, h))
 pieces i (suc at) (suc next) count [] h within = absurd (omega (arith, within))
 pieces i (suc at) (suc next) count (t ∷ ts) h within =
     let e : i + 1 + at ≡ i + suc at = omega arith in
     pieces (i + 1) at next count ts (omega (arith, h)) (omega (arith, within))
-    ∙ ap (λ j. index_terminals_of_kinds j (take count (drop at (kinds ts))) ++ drop next (index_terminals_from (i + 1) ts)) e
+    ∙ ap (λ j. indexed_terminals_of_kinds j (take count (drop at (kinds ts))) ++ drop next (indexed_terminals_from (i + 1) ts)) e
 
-pub pieces_of_rest : (ts : List Token) (at next : ℕ) → at ≤ next → next ≤ length ts → drop at (index_terminals ts) ≡ index_terminals_of_kinds at (slice_range (kinds ts) at next) ++ drop next (index_terminals ts)
+pub pieces_of_rest : (ts : List Token) (at next : ℕ) → at ≤ next → next ≤ length ts → drop at (indexed_terminals ts) ≡ indexed_terminals_of_kinds at (slice_range (kinds ts) at next) ++ drop next (indexed_terminals ts)
 pieces_of_rest ts at next h within =
     let e : 0 + at ≡ at = omega arith in
-    pieces 0 at next (next - at) ts (omega (arith, h)) within ∙ ap (λ j. index_terminals_of_kinds j (slice_range (kinds ts) at next) ++ drop next (index_terminals ts)) e
+    pieces 0 at next (next - at) ts (omega (arith, h)) within ∙ ap (λ j. indexed_terminals_of_kinds j (slice_range (kinds ts) at next) ++ drop next (indexed_terminals ts)) e
 
 pub count_slice : (ts : List Token) (at next : ℕ) → at ≤ next → next ≤ length ts → length (slice_range (kinds ts) at next) ≡ next - at
 count_slice ts at next h within =
@@ -62,7 +62,7 @@ count_slice ts at next h within =
 same_names : {a b : ℕ} → Name a ≡ Name b → a ≡ b
 same_names e = cc
 
-named_here : (i n : ℕ) (k : TokenKind) → index_terminal i k ≡ Name n → i ≡ n
+named_here : (i n : ℕ) (k : TokenKind) → indexed_terminal i k ≡ Name n → i ≡ n
 named_here i n kind.Identifier e = same_names e
 named_here i n (kind.Integer value) e = cc
 named_here i n (kind.ReservedWord word) e = cc
@@ -74,25 +74,25 @@ no_more e = cc
 end_not_name : {n : ℕ} → ◌≡◌ {A = Terminal ℕ} EndOfText (Name n) → ⊥
 end_not_name e = cc
 
-named_second : (i n : ℕ) (ks : List TokenKind) (x : Terminal ℕ) (xs : List (Terminal ℕ)) → index_terminals_of_kinds i ks ≡ x ∷ Name n ∷ xs → n ≡ i + 1
+named_second : (i n : ℕ) (ks : List TokenKind) (x : Terminal ℕ) (xs : List (Terminal ℕ)) → indexed_terminals_of_kinds i ks ≡ x ∷ Name n ∷ xs → n ≡ i + 1
 named_second i n [] x xs e = absurd (no_more e)
 named_second i n (k ∷ []) x xs e = absurd (no_more (tail_of e))
 named_second i n (k ∷ l ∷ ks) x xs e = sym (named_here (i + 1) n l (head_of (tail_of e)))
 
-last_named : (i n : ℕ) (ks : List TokenKind) (z : Terminal ℕ) → index_terminals_of_kinds i ks ≡ Name n ∷ z ∷ [] → n + 2 ≡ i + length ks
+last_named : (i n : ℕ) (ks : List TokenKind) (z : Terminal ℕ) → indexed_terminals_of_kinds i ks ≡ Name n ∷ z ∷ [] → n + 2 ≡ i + length ks
 last_named i n [] z e = absurd (no_more e)
 last_named i n (k ∷ []) z e = absurd (no_more (tail_of e))
 last_named i n (k ∷ l ∷ []) z e = let h = named_here i n k (head_of e) in omega (arith, h)
 last_named i n (k ∷ l ∷ m ∷ ks) z e = absurd (no_more (sym (tail_of (tail_of e))))
 
-named_last : (i n : ℕ) (ks : List TokenKind) (xs : List (Terminal ℕ)) (z : Terminal ℕ) → index_terminals_of_kinds i ks ≡ xs ++ (Name n ∷ z ∷ []) → n + 2 ≡ i + length ks
+named_last : (i n : ℕ) (ks : List TokenKind) (xs : List (Terminal ℕ)) (z : Terminal ℕ) → indexed_terminals_of_kinds i ks ≡ xs ++ (Name n ∷ z ∷ []) → n + 2 ≡ i + length ks
 named_last i n ks [] z e = last_named i n ks z e
 named_last i n [] (x ∷ xs) z e = absurd (no_more e)
 named_last i n (k ∷ ks) (x ∷ xs) z e = let h = named_last (i + 1) n ks xs z (tail_of e) in omega (arith, h)
 
 -- A procedure that is spelled starting at index `at` has its first token there, and ends after as
 -- many tokens as it spells.
-pub in_place : (t : Tree ℕ (item procedure)) (at : ℕ) (ks : List TokenKind) → spell t ≡ index_terminals_of_kinds at ks → (first_token_index t ≡ at) × (end_token_index t ≡ at + length ks)
+pub in_place : (t : Tree ℕ (item procedure)) (at : ℕ) (ks : List TokenKind) → spell t ≡ indexed_terminals_of_kinds at ks → (first_token_index t ≡ at) × (end_token_index t ≡ at + length ks)
 in_place (declares_procedure x fs b y) at ks e =
     let second = named_second at x ks _ _ (sym e) in
     let begun : List (Terminal ℕ) = WordOrSymbol (kind.ReservedWord reserved.Procedure) ∷ Name x ∷ (spell fs ++ (WordOrSymbol (kind.Symbol symbol.Semicolon) ∷ (spell b ++ (WordOrSymbol (kind.ReservedWord reserved.End) ∷ [])))) in
@@ -106,11 +106,11 @@ in_place (declares_procedure x fs b y) at ks e =
 -- ---- trees at their tokens
 
 -- If a tree's tokens are at `at..next`, the tree is in place.
-pub kept_there : {s : Sort} (ts : List Token) (at next : ℕ) (t : Tree ℕ s) → drop at (index_terminals ts) ≡ spell t ++ drop next (index_terminals ts) → nesting t ≤ max_nesting → at < next → next ≤ length ts → IsInPlace ts at next t
+pub kept_there : {s : Sort} (ts : List Token) (at next : ℕ) (t : Tree ℕ s) → drop at (indexed_terminals ts) ≡ spell t ++ drop next (indexed_terminals ts) → nesting t ≤ max_nesting → at < next → next ≤ length ts → IsInPlace ts at next t
 kept_there ts at next t spelled shallow forward within =
     let ks : List TokenKind = slice_range (kinds ts) at next in
     record {
-      spelled = append_cancel_right (spell t) (index_terminals_of_kinds at ks) (drop next (index_terminals ts)) (sym spelled ∙ pieces_of_rest ts at next (omega (arith, forward)) within);
+      spelled = append_cancel_right (spell t) (indexed_terminals_of_kinds at ks) (drop next (indexed_terminals ts)) (sym spelled ∙ pieces_of_rest ts at next (omega (arith, forward)) within);
       shallow = shallow;
       forward = forward;
       within = within;
@@ -129,7 +129,7 @@ made_there ts at next t p =
     subst (λ n. IsInPlace ts (first_token_index t) n t) (sym places.1) (subst (λ i. IsInPlace ts i next t) (sym places.0) p)
 
 -- If a name stands among the tokens that are named by their indexes, the name is the index.
-pub named_at : (i n : ℕ) (ts : List Token) (xs z : List (Terminal ℕ)) → index_terminals_from i ts ≡ xs ++ (Name n ∷ z) → n ≡ i + length xs
+pub named_at : (i n : ℕ) (ts : List Token) (xs z : List (Terminal ℕ)) → indexed_terminals_from i ts ≡ xs ++ (Name n ∷ z) → n ≡ i + length xs
 named_at i n [] [] z e = absurd (end_not_name (head_of e))
 named_at i n [] (x ∷ []) z e = absurd (no_more (tail_of e))
 named_at i n [] (x ∷ y ∷ xs) z e = absurd (no_more (tail_of e))

@@ -13,11 +13,11 @@ use Rattle.ob0_tree.specs.View.{body_of}
 use Rattle.ob0_parse_descent.specs.Follow.{EndsConstruct}
 use Rattle.ob0_parse_descent.specs.Reading.{rest, IsReadTree, ReadsToken, TellsIfTokenAt}
 use Rattle.ob0_parse_descent.specs.declared.refusal.ParseRefusal.{ParseRefusal}
-use Rattle.ob0_parse.specs.KeptTokens.{IsReusedBody}
+use Rattle.ob0_parse.specs.KeptTokens.{IsBodyInPlaceAt}
 use Rattle.ob0_parse.proofs.TakenOver.{taken_kept}
 
 -- If END follows a body with its leaves in place, that body may be reused.
-pub taken_body : (ts : List Token) (at : ℕ) (x : Vec Statement Global × ℕ) → IsReusedBody ts at x → TellsIfTokenAt (kind.ReservedWord reserved.End) ts x.1 true → IsReadTree (body_of (Some x.0)) max_nesting ts at x.1
+pub taken_body : (ts : List Token) (at : ℕ) (x : Vec Statement Global × ℕ) → IsBodyInPlaceAt ts at x → TellsIfTokenAt (kind.ReservedWord reserved.End) ts x.1 true → IsReadTree (body_of (Some x.0)) max_nesting ts at x.1
 taken_body ts at x there ends = taken_kept ts at x.1 (body_of (Some x.0)) (subst (λ w. EndsConstruct 16 w) (sym ends.0) (omega arith)) there
 
 -- An expected token is here exactly if it was read.

@@ -2,10 +2,10 @@
 use Rattle.std.proofs.Common.{◌≡◌, ◌≢◌, ℕ, zero, suc, ◌≤◌, ◌<◌, ◌+◌, List, [], ◌∷◌, length, set, get_or, length-set, get_or-set_other, refl, sym, ◌∙◌, ap, subst, arith, add-one}
 use Rattle.ob0_tree.specs.declared.tree.Expression.{Expression}
 use Rattle.ob0_tree.specs.declared.tree.Statement.{Statement}
-use Rattle.ob0_tree.specs.declared.tree.Fields.{Fields}
+use Rattle.ob0_tree.specs.declared.tree.OptionalFieldGroup.{OptionalFieldGroup}
 use Rattle.ob0_tree.specs.declared.tree.ParameterSection.{ParameterSection}
 use Rattle.ob0_tree.specs.Tree.{Sort, Item, item, Tree, more, some_arguments, then_argument, runs, then_statement, record_type, then_fields, some_formals, then_section}
-use Rattle.ob0_tree.specs.View.{items_of, expression_of, further_argument_of, arguments_of_list, statement_of, further_statement_of, sequence_of_list, fields_of, further_fields_of_group, record_of_list, section_of, further_section_of, formals_of_list}
+use Rattle.ob0_tree.specs.View.{items_of, expression_of, further_argument_of, arguments_of_list, statement_of, further_statement_of, sequence_of_list, optional_field_group_of, further_field_group_of, record_type_of_list, parameter_section_of, further_parameter_section_of, formals_of_list}
 use Rattle.ob0_parse.specs.MovedTrees.{moved_tree}
 use Rattle.ob0_parse.specs.declared.leaf_moves.LeafMove.{LeafMove}
 use Rattle.ob0_parse_descent.proofs.Unique.{head_of, tail_of}
@@ -106,18 +106,18 @@ sequence_moved by (x ∷ xs) (y ∷ ys) h =
     ap (λ t. runs t (items_of further_statement_of ys)) h.0
     ∙ ap (runs (moved_tree by (statement_of x))) (items_moved statement_of then_statement by (λ t. refl) xs ys h.1)
 
-pub record_moved : (by : LeafMove) (xs ys : List Fields) → AllMoved fields_of by xs ys → record_of_list ys ≡ moved_tree by (record_of_list xs)
+pub record_moved : (by : LeafMove) (xs ys : List OptionalFieldGroup) → AllMoved optional_field_group_of by xs ys → record_type_of_list ys ≡ moved_tree by (record_type_of_list xs)
 record_moved by [] [] h = refl
 record_moved by [] (y ∷ ys) h = absurd (nothing_there h)
 record_moved by (x ∷ xs) [] h = absurd h
 record_moved by (x ∷ xs) (y ∷ ys) h =
-    ap (λ t. record_type t (items_of further_fields_of_group ys)) h.0
-    ∙ ap (record_type (moved_tree by (fields_of x))) (items_moved fields_of then_fields by (λ t. refl) xs ys h.1)
+    ap (λ t. record_type t (items_of further_field_group_of ys)) h.0
+    ∙ ap (record_type (moved_tree by (optional_field_group_of x))) (items_moved optional_field_group_of then_fields by (λ t. refl) xs ys h.1)
 
-pub formals_moved : (by : LeafMove) (xs ys : List ParameterSection) → AllMoved section_of by xs ys → formals_of_list ys ≡ moved_tree by (formals_of_list xs)
+pub formals_moved : (by : LeafMove) (xs ys : List ParameterSection) → AllMoved parameter_section_of by xs ys → formals_of_list ys ≡ moved_tree by (formals_of_list xs)
 formals_moved by [] [] h = refl
 formals_moved by [] (y ∷ ys) h = absurd (nothing_there h)
 formals_moved by (x ∷ xs) [] h = absurd h
 formals_moved by (x ∷ xs) (y ∷ ys) h =
-    ap (λ t. some_formals t (items_of further_section_of ys)) h.0
-    ∙ ap (some_formals (moved_tree by (section_of x))) (items_moved section_of then_section by (λ t. refl) xs ys h.1)
+    ap (λ t. some_formals t (items_of further_parameter_section_of ys)) h.0
+    ∙ ap (some_formals (moved_tree by (parameter_section_of x))) (items_moved parameter_section_of then_section by (λ t. refl) xs ys h.1)

@@ -23,7 +23,7 @@ use Rattle.ob0_tree.specs.declared.tree.VariableDeclaration.{VariableDeclaration
 use Rattle.ob0_tree.specs.declared.tree.Procedure.{Procedure}
 use Rattle.ob0_tree.specs.declared.tree.Block.{Block, roll-Block, out-Block, out-roll-Block}
 use Rattle.ob0_tree.specs.Tree.{Tree, maybe, items, elsif_part, else_part, constants, type_definitions, variables, procedure, body, expression, sequence, sum, product, while_loop, repeat_loop, branches, declares, forms_block}
-use Rattle.ob0_tree.specs.View.{simple_of, addend_of, term_of, multiplier_of, factor_of, designator_of, items_of, expression_of, statement_of, sequence_of_list, if_of, elsif_of, else_part_of, type_of, record_of_list, constants_of, types_of, variables_of, procedure_of, body_of, block_of}
+use Rattle.ob0_tree.specs.View.{simple_expression_of, addend_of, term_of, multiplier_of, factor_of, designator_of, items_of, expression_of, statement_of, sequence_of_list, if_of, elsif_of, else_part_of, type_of, record_type_of_list, constants_of, types_of, variables_of, procedure_of, body_of, block_of}
 use Rattle.ob0_tree.proofs.Viewed.{simple_made, simple_parts, term_made, term_parts, designator_made, made_record_type, while_made, repeat_made, if_made, if_parts, block_made, block_parts}
 use Rattle.ob0_parse.specs.MovedTrees.{moved_tree}
 use Rattle.ob0_parse.specs.declared.leaf_moves.LeafMove.{LeafMove}
@@ -35,7 +35,7 @@ same_block e f g h i = cc (e, f, g, h, i)
 pub simple_moved : (by : LeafMove) (s : SimpleExpression) (t : Term) (m : Vec Addend Global)
     → term_of t ≡ moved_tree by (term_of (out-SimpleExpression s).first)
     → items_of addend_of m.items ≡ moved_tree by (items_of addend_of (out-SimpleExpression (roll-SimpleExpression record { sign = (out-SimpleExpression s).sign; first = t; more = (out-SimpleExpression s).more })).more.items)
-    → simple_of (roll-SimpleExpression record { sign = (out-SimpleExpression (roll-SimpleExpression record { sign = (out-SimpleExpression s).sign; first = t; more = (out-SimpleExpression s).more })).sign; first = (out-SimpleExpression (roll-SimpleExpression record { sign = (out-SimpleExpression s).sign; first = t; more = (out-SimpleExpression s).more })).first; more = m }) ≡ moved_tree by (simple_of s)
+    → simple_expression_of (roll-SimpleExpression record { sign = (out-SimpleExpression (roll-SimpleExpression record { sign = (out-SimpleExpression s).sign; first = t; more = (out-SimpleExpression s).more })).sign; first = (out-SimpleExpression (roll-SimpleExpression record { sign = (out-SimpleExpression s).sign; first = t; more = (out-SimpleExpression s).more })).first; more = m }) ≡ moved_tree by (simple_expression_of s)
 simple_moved by s t m first more =
     let between = out-roll-SimpleExpression record { sign = (out-SimpleExpression s).sign; first = t; more = (out-SimpleExpression s).more } in
     simple_made _
@@ -59,7 +59,7 @@ term_moved by t f m first more =
 pub designator_moved : (by : LeafMove) (d e : Designator) → designator_of e ≡ moved_tree by (designator_of d) → factor_of (factor_module.Designator e) ≡ moved_tree by (factor_of (factor_module.Designator d))
 designator_moved by d e h = designator_made e ∙ h ∙ ap (moved_tree by) (sym (designator_made d))
 
-pub record_type_moved : (by : LeafMove) (r q : RecordType) → record_of_list q.groups.items ≡ moved_tree by (record_of_list r.groups.items) → type_of (Record q) ≡ moved_tree by (type_of (Record r))
+pub record_type_moved : (by : LeafMove) (r q : RecordType) → record_type_of_list q.groups.items ≡ moved_tree by (record_type_of_list r.groups.items) → type_of (Record q) ≡ moved_tree by (type_of (Record r))
 record_type_moved by r q h = made_record_type q ∙ h ∙ ap (moved_tree by) (sym (made_record_type r))
 
 pub block_between : (x : Block) (r : _) → x ≡ roll-Block r → out-Block x ≡ r

@@ -6,10 +6,10 @@ use Rattle.ob0_scan.specs.declared.lexeme.TokenKind.TheVariants as kind
 use Rattle.ob0_scan.specs.declared.lexeme.Token.{Token}
 use Rattle.ob0_scan.specs.Reused.{kinds}
 use Rattle.ob0_tree.specs.Lexeme.{Name, Number, mapped_terminal}
-use Rattle.ob0_tree.specs.Places.{index_terminal}
+use Rattle.ob0_tree.specs.Places.{indexed_terminal}
 use Rattle.ob0_tree.specs.Tree.{Sort, Tree, spell, nesting}
 use Rattle.ob0_tree.proofs.Mapped.{spell_mapped, nesting_mapped}
-use Rattle.ob0_parse.specs.KeptTokens.{index_terminals_of_kinds, HasTokensAt, IsInPlace}
+use Rattle.ob0_parse.specs.KeptTokens.{indexed_terminals_of_kinds, HasTokensAt, IsInPlace}
 use Rattle.ob0_parse.specs.MovedTrees.{moved_tree, moved_leaf}
 use Rattle.ob0_parse.specs.declared.leaf_moves.LeafMove.{LeafMove}
 use Rattle.ob0_parse.proofs.Keeping.{count_slice}
@@ -18,20 +18,20 @@ use Rattle.ob0_parse.proofs.Keeping.{count_slice}
 abbrev most : ℕ
 most = 2 ^ 64 - 1
 
-lexeme_moved : (by : LeafMove) (i j : ℕ) (k : TokenKind) → moved_leaf by i ≡ j → mapped_terminal (moved_leaf by) (moved_leaf by) (index_terminal i k) ≡ index_terminal j k
+lexeme_moved : (by : LeafMove) (i j : ℕ) (k : TokenKind) → moved_leaf by i ≡ j → mapped_terminal (moved_leaf by) (moved_leaf by) (indexed_terminal i k) ≡ indexed_terminal j k
 lexeme_moved by i j kind.Identifier e = ap Name e
 lexeme_moved by i j (kind.Integer value) e = ap Number e
 lexeme_moved by i j (kind.ReservedWord word) e = refl
 lexeme_moved by i j (kind.Symbol sign) e = refl
 
-lexemes_moved : (by : LeafMove) (i j : ℕ) (ks : List TokenKind) → by.from ≤ i → j + by.from ≡ i + by.to → j + length ks ≤ most → map (mapped_terminal (moved_leaf by) (moved_leaf by)) (index_terminals_of_kinds i ks) ≡ index_terminals_of_kinds j ks
+lexemes_moved : (by : LeafMove) (i j : ℕ) (ks : List TokenKind) → by.from ≤ i → j + by.from ≡ i + by.to → j + length ks ≤ most → map (mapped_terminal (moved_leaf by) (moved_leaf by)) (indexed_terminals_of_kinds i ks) ≡ indexed_terminals_of_kinds j ks
 lexemes_moved by i j [] low same high = refl
 lexemes_moved by i j (k ∷ ks) low same high =
     let there : i - by.from + by.to ≡ j = omega (arith, low, same) in
     let below : i - by.from + by.to ≤ most = omega (arith, there, high) in
     let first : moved_leaf by i ≡ j = min-eq_left below ∙ there in
-    ap (λ l. l ∷ map (mapped_terminal (moved_leaf by) (moved_leaf by)) (index_terminals_of_kinds (i + 1) ks)) (lexeme_moved by i j k first)
-    ∙ ap (λ ls. index_terminal j k ∷ ls) (lexemes_moved by (i + 1) (j + 1) ks (omega (arith, low)) (omega (arith, same)) (omega (arith, high)))
+    ap (λ l. l ∷ map (mapped_terminal (moved_leaf by) (moved_leaf by)) (indexed_terminals_of_kinds (i + 1) ks)) (lexeme_moved by i j k first)
+    ∙ ap (λ ls. indexed_terminal j k ∷ ls) (lexemes_moved by (i + 1) (j + 1) ks (omega (arith, low)) (omega (arith, same)) (omega (arith, high)))
 
 -- If the leaves of a tree are moved as far as its tokens, the tree is at its place with its leaves
 -- in place.

@@ -5,17 +5,17 @@ use Rattle.std.proofs.lemmas.List.{map-append, length-map, take-map}
 use Rattle.ob0_scan.specs.declared.lexeme.TokenKind.{TokenKind}
 use Rattle.ob0_scan.specs.declared.lexeme.TokenKind.TheVariants as kind
 use Rattle.ob0_scan.specs.declared.lexeme.Token.{Token}
-use Rattle.ob0_scan.specs.TextWithTokens.{TextWithTokens, max_text}
+use Rattle.ob0_scan.specs.TextWithTokens.{TextWithTokens, max_text_length}
 use Rattle.ob0_scan.specs.Reused.{kind_without_value, kinds}
 use Rattle.ob0_tree.specs.Lexeme.{Terminal, EndOfText, mapped_terminal}
 use Rattle.ob0_tree.specs.Tree.{Tree, module_text, nesting, spell, mapped_tree}
 use Rattle.ob0_tree.specs.Module.{max_nesting, terminals_of_text}
 use Rattle.ob0_tree.specs.ParsedModule.{ParsedModule, IsParsed, tree_of}
-use Rattle.ob0_tree.specs.Places.{index_terminal, index_terminals_from, index_terminals, token_text_at, token_value_at}
+use Rattle.ob0_tree.specs.Places.{indexed_terminal, indexed_terminals_from, indexed_terminals, token_text_at, token_value_at}
 use Rattle.ob0_tree.proofs.Mapped.{nesting_mapped, spell_mapped}
 use Rattle.ob0_tree.proofs.Indexed.{reindexed, reindexed-append, indexed, spell_indexed, nesting_indexed}
-use Rattle.ob0_parse_descent.specs.Descent.{DescendsText, Expects, Deep}
-use Rattle.ob0_parse.specs.IsRightParseRefusal.{NoModuleBegins, IsRightParseRefusal}
+use Rattle.ob0_parse_descent.specs.Descent.{DescendsText, Expects, TooDeepAt}
+use Rattle.ob0_parse.specs.IsRightParseRefusal.{NoModuleBeginsWithTokens, IsRightParseRefusal}
 use Rattle.ob0_parse_descent.specs.declared.refusal.ParseRefusal.{ParseRefusal}
 use Rattle.ob0_parse_descent.specs.declared.refusal.ParseRefusal.TheVariants.{Syntax, TooDeep, Memory}
 use Rattle.ob0_parse.proofs.Keeping.{by_kind}
@@ -25,19 +25,19 @@ use Rattle.ob0_parse.proofs.Whole.{module_spelled, texts, indexes_again, reindex
 -- kinds.
 from_kinds : ℕ → List TokenKind → List (Terminal ℕ)
 from_kinds i [] = EndOfText ∷ []
-from_kinds i (k ∷ ks) = index_terminal i k ∷ from_kinds (i + 1) ks
+from_kinds i (k ∷ ks) = indexed_terminal i k ∷ from_kinds (i + 1) ks
 
-by_kinds : (i : ℕ) (ts : List Token) → from_kinds i (kinds ts) ≡ index_terminals_from i ts
+by_kinds : (i : ℕ) (ts : List Token) → from_kinds i (kinds ts) ≡ indexed_terminals_from i ts
 unfolding from_kinds
 by_kinds i [] = refl
 by_kinds i (t ∷ ts) =
     ap (λ x. x ∷ from_kinds (i + 1) (kinds ts)) (by_kind i t.kind)
-    ∙ ap (λ xs. index_terminal i t.kind ∷ xs) (by_kinds (i + 1) ts)
+    ∙ ap (λ xs. indexed_terminal i t.kind ∷ xs) (by_kinds (i + 1) ts)
 
-same_lexemes : (a b : List Token) → kinds a ≡ kinds b → index_terminals a ≡ index_terminals b
+same_lexemes : (a b : List Token) → kinds a ≡ kinds b → indexed_terminals a ≡ indexed_terminals b
 same_lexemes a b same = sym (by_kinds 0 a) ∙ ap (from_kinds 0) same ∙ by_kinds 0 b
 
-pub tree_stays : (old new : ParsedModule) → IsParsed old → tree_of new ≡ tree_of old → length new.source.text ≤ max_text → kinds new.source.tokens ≡ kinds old.source.tokens → IsParsed new
+pub tree_stays : (old new : ParsedModule) → IsParsed old → tree_of new ≡ tree_of old → length new.source.text ≤ max_text_length → kinds new.source.tokens ≡ kinds old.source.tokens → IsParsed new
 tree_stays old new parsed tree short same =
     let places = ap (λ (t : Tree ℕ module_text). spell t ++ (EndOfText ∷ [])) tree ∙ parsed.places ∙ sym (same_lexemes _ _ same) in
     record {
@@ -49,29 +49,29 @@ tree_stays old new parsed tree short same =
     }
 
 -- Replacing the names and numbers of a text's tokens by indexes gives the tokens by their indexes.
-indexed_again : (s : TextWithTokens) → reindexed 0 (terminals_of_text s ++ (EndOfText ∷ [])) ≡ index_terminals s.tokens
+indexed_again : (s : TextWithTokens) → reindexed 0 (terminals_of_text s ++ (EndOfText ∷ [])) ≡ indexed_terminals s.tokens
 indexed_again s = ap (reindexed 0) (sym (texts s)) ∙ indexes_again (token_text_at s) (token_value_at s) s.tokens 0
 
 -- If no module begins with the first tokens of a text, none begins with the first tokens of another
 -- text whose tokens have the same kinds.
-none_begins : (old new : TextWithTokens) (i : ℕ) → kinds new.tokens ≡ kinds old.tokens → NoModuleBegins old i → NoModuleBegins new i
+none_begins : (old new : TextWithTokens) (i : ℕ) → kinds new.tokens ≡ kinds old.tokens → NoModuleBeginsWithTokens old i → NoModuleBeginsWithTokens new i
 none_begins old new i same none t more shallow begins =
     let r = mapped_terminal (token_text_at old) (token_value_at old) in
     let front = take (i + 1) (terminals_of_text new ++ (EndOfText ∷ [])) in
     let unseen : List (Terminal ℕ) = reindexed (0 + length front) more in
-    let seen : reindexed 0 front ≡ take (i + 1) (index_terminals old.tokens) =
+    let seen : reindexed 0 front ≡ take (i + 1) (indexed_terminals old.tokens) =
     reindexed-take (i + 1) 0 (terminals_of_text new ++ (EndOfText ∷ [])) ∙ ap (take (i + 1)) (indexed_again new ∙ same_lexemes _ _ same) in
     let left : reindexed 0 (spell t ++ (EndOfText ∷ [])) ≡ spell (indexed 0 t) ++ (EndOfText ∷ []) =
     reindexed-append 0 (spell t) (EndOfText ∷ []) ∙ ap (λ z. z ++ (EndOfText ∷ [])) (sym (spell_indexed 0 t)) in
-    let whole : spell (indexed 0 t) ++ (EndOfText ∷ []) ≡ take (i + 1) (index_terminals old.tokens) ++ unseen =
+    let whole : spell (indexed 0 t) ++ (EndOfText ∷ []) ≡ take (i + 1) (indexed_terminals old.tokens) ++ unseen =
     sym left ∙ (ap (reindexed 0) begins ∙ (reindexed-append 0 front more ∙ ap (λ z. z ++ unseen) seen)) in
-    let cut : map r (take (i + 1) (index_terminals old.tokens)) ≡ take (i + 1) (terminals_of_text old ++ (EndOfText ∷ [])) =
-    sym (take-map r (i + 1) (index_terminals old.tokens)) ∙ ap (take (i + 1)) (texts old) in
+    let cut : map r (take (i + 1) (indexed_terminals old.tokens)) ≡ take (i + 1) (terminals_of_text old ++ (EndOfText ∷ [])) =
+    sym (take-map r (i + 1) (indexed_terminals old.tokens)) ∙ ap (take (i + 1)) (texts old) in
     let under : spell (mapped_tree (token_text_at old) (token_value_at old) (indexed 0 t)) ++ (EndOfText ∷ []) ≡ map r (spell (indexed 0 t) ++ (EndOfText ∷ [])) =
     ap (λ z. z ++ (EndOfText ∷ [])) (spell_mapped (token_text_at old) (token_value_at old) (indexed 0 t)) ∙ sym (map-append r (spell (indexed 0 t)) (EndOfText ∷ [])) in
     none (mapped_tree (token_text_at old) (token_value_at old) (indexed 0 t)) (map r unseen)
     (subst (λ n. n ≤ max_nesting) (sym (nesting_mapped (token_text_at old) (token_value_at old) (indexed 0 t))) (subst (λ n. n ≤ max_nesting) (sym (nesting_indexed 0 t)) shallow))
-    (under ∙ (ap (map r) whole ∙ (map-append r (take (i + 1) (index_terminals old.tokens)) unseen ∙ ap (λ z. z ++ map r unseen) cut)))
+    (under ∙ (ap (map r) whole ∙ (map-append r (take (i + 1) (indexed_terminals old.tokens)) unseen ∙ ap (λ z. z ++ map r unseen) cut)))
 
 as_many : (a b : List Token) → kinds a ≡ kinds b → length a ≡ length b
 as_many a b same = sym (length-map a (λ (t : Token). kind_without_value t.kind)) ∙ (ap length same ∙ length-map b (λ (t : Token). kind_without_value t.kind))
@@ -85,6 +85,6 @@ refusal_stays old new (Syntax i expected) same by = (
 refusal_stays old new (TooDeep i) same by = (
   subst (λ n. i ≤ n) (sym (as_many _ _ same)) by.0,
   none_begins old new i same by.1,
-  subst (λ w. DescendsText w (Deep i)) (sym (same_lexemes _ _ same)) by.2,
+  subst (λ w. DescendsText w (TooDeepAt i)) (sym (same_lexemes _ _ same)) by.2,
 )
 refusal_stays old new Memory same by = tt

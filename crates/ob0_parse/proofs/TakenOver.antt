@@ -3,10 +3,10 @@ use Rattle.std.proofs.Common.{◌≡◌, ℕ, ◌+◌, ◌-◌, ◌<◌, ◌≤�
 use Rattle.ob0_scan.specs.declared.lexeme.Token.{Token}
 use Rattle.ob0_tree.specs.Lexeme.{Terminal}
 use Rattle.ob0_tree.specs.Module.{max_nesting}
-use Rattle.ob0_tree.specs.Places.{index_terminals}
+use Rattle.ob0_tree.specs.Places.{indexed_terminals}
 use Rattle.ob0_tree.specs.Tree.{Sort, Tree, spell, nesting}
 use Rattle.ob0_parse_descent.specs.Descent.{nonterminal, Descends}
-use Rattle.ob0_parse_descent.specs.Reading.{rest, HaveSameHead, IsReadTree}
+use Rattle.ob0_parse_descent.specs.Reading.{rest, HaveSameFirstToken, IsReadTree}
 use Rattle.ob0_parse_descent.specs.Follow.{level, EndsConstruct}
 use Rattle.ob0_parse_descent.proofs.Finished.{finishes}
 use Rattle.ob0_parse_descent.proofs.Unique.{same}
@@ -16,11 +16,11 @@ use Rattle.ob0_parse.proofs.Keeping.{count_lexemes, pieces_of_rest, kept_there}
 count_rest : (ts : List Token) (at : ℕ) → at ≤ length ts → at + length (rest ts at) ≡ length ts + 1
 unfolding rest
 count_rest ts at inside =
-    let h : length (drop at (index_terminals ts)) ≡ length (index_terminals ts) - at = length-drop at (index_terminals ts) in
+    let h : length (drop at (indexed_terminals ts)) ≡ length (indexed_terminals ts) - at = length-drop at (indexed_terminals ts) in
     omega (arith, h, count_lexemes 0 ts, inside)
 
 -- If a token stops a tree, the token does so whatever comes after it.
-stops_alike : (n : ℕ) (xs w : List (Terminal ℕ)) → HaveSameHead xs w → EndsConstruct n xs → EndsConstruct n w
+stops_alike : (n : ℕ) (xs w : List (Terminal ℕ)) → HaveSameFirstToken xs w → EndsConstruct n xs → EndsConstruct n w
 stops_alike n xs w h p =
     let s : EndsConstruct n (h.head ∷ h.other) = subst (λ y. EndsConstruct n y) h.is p in
     subst (λ y. EndsConstruct n y) (sym h.alike) s

@@ -9,19 +9,20 @@ use Rattle.ob0_scan.specs.declared.lexeme.ReservedWord.TheVariants as reserved
 use Rattle.ob0_scan.specs.declared.lexeme.Symbol.{Symbol}
 use Rattle.ob0_scan.specs.declared.lexeme.Symbol.TheVariants as symbol
 use Rattle.ob0_tree.specs.Lexeme.{Terminal, EndOfText}
-use Rattle.ob0_tree.specs.Places.{index_terminal}
-use Rattle.ob0_parse_descent.specs.Descent.{Stop, Done, Expects, Deep, DescendsText}
-use Rattle.ob0_parse_descent.specs.declared.refusal.Expected.TheVariants as expected
+use Rattle.ob0_tree.specs.Places.{indexed_terminal}
+use Rattle.ob0_parse_descent.specs.Descent.{Stop, Done, Expects, TooDeepAt, DescendsText}
+use Rattle.ob0_parse_descent.specs.declared.refusal.ExpectedSyntax.TheVariants as expected
 
--- Returns the tokens of a text, given their kinds, followed by the end of the text. The first token
--- has the index `i`.
-abbrev pub terminals_of_kinds : ℕ → List TokenKind → List (Terminal ℕ)
-terminals_of_kinds i [] = EndOfText ∷ []
-terminals_of_kinds i (k ∷ ks) = index_terminal i k ∷ terminals_of_kinds (i + 1) ks
+-- Returns the tokens of a text as they are spelled by a tree whose leaves are token indexes,
+-- followed by the end of the text. The tokens are given by their kinds, and the first has the index
+-- `i`.
+abbrev pub indexed_text_terminals_of_kinds : ℕ → List TokenKind → List (Terminal ℕ)
+indexed_text_terminals_of_kinds i [] = EndOfText ∷ []
+indexed_text_terminals_of_kinds i (k ∷ ks) = indexed_terminal i k ∷ indexed_text_terminals_of_kinds (i + 1) ks
 
 -- States that the descent ends with `stop` in a text whose tokens have the kinds `kinds`.
-abbrev pub DescendsKinds : List TokenKind → Stop → Type 0
-DescendsKinds kinds stop = DescendsText (terminals_of_kinds 0 kinds) stop
+abbrev pub DescendsTextWithKinds : List TokenKind → Stop → Type 0
+DescendsTextWithKinds kinds stop = DescendsText (indexed_text_terminals_of_kinds 0 kinds) stop
 
 -- Returns the kind of a reserved word.
 abbrev pub reserved_kind : ReservedWord → TokenKind
@@ -48,20 +49,21 @@ abbrev pub module_end : List TokenKind
 module_end = reserved_kind reserved.End ∷ identifier_kind ∷ symbol_kind symbol.Dot ∷ []
 
 -- Returns the list `ks` repeated `n` times.
-abbrev pub repeat_kinds : ℕ → List TokenKind → List TokenKind
-repeat_kinds zero ks = []
-repeat_kinds (suc n) ks = ks ++ repeat_kinds n ks
+abbrev pub repeated_kinds : ℕ → List TokenKind → List TokenKind
+repeated_kinds zero ks = []
+repeated_kinds (suc n) ks = ks ++ repeated_kinds n ks
 
 -- States at which token the descent stops in each example of docs/LANGUAGE.md, and which token or
 -- construct is expected there. In the last example the descent reads the whole text.
-pub record ExpectedStops : Type 0 where
-  pub empty : DescendsKinds [] (Expects 0 (expected.Word reserved.Module))
+pub record ExamplesStopWhereExpected : Type 0 where
+  -- The empty text: MODULE is expected at its end.
+  pub empty : DescendsTextWithKinds [] (Expects 0 (expected.Word reserved.Module))
   -- `MODULE M; BEGIN x = 1 END M.`: END is expected at `=`.
-  pub equals_for_becomes : DescendsKinds
+  pub equals_for_becomes : DescendsTextWithKinds
       (module_head ++ (reserved_kind reserved.Begin ∷ identifier_kind ∷ symbol_kind symbol.Equal ∷ integer_kind ∷ module_end))
       (Expects 5 (expected.Word reserved.End))
   -- `MODULE M; BEGIN x[0] END M.`: `:=` is expected at END.
-  pub selector_without_becomes : DescendsKinds (module_head
+  pub selector_without_becomes : DescendsTextWithKinds (module_head
       ++ (reserved_kind reserved.Begin
       ∷ identifier_kind
       ∷ symbol_kind symbol.LeftBracket
@@ -69,22 +71,22 @@ pub record ExpectedStops : Type 0 where
       ∷ symbol_kind symbol.RightBracket
       ∷ module_end)) (Expects 8 (expected.Symbol symbol.Becomes))
   -- `MODULE M; VAR x INTEGER; END M.`: a colon is expected at INTEGER.
-  pub no_colon : DescendsKinds
+  pub no_colon : DescendsTextWithKinds
       (module_head ++ (reserved_kind reserved.Var ∷ identifier_kind ∷ identifier_kind ∷ symbol_kind symbol.Semicolon ∷ module_end))
       (Expects 5 (expected.Symbol symbol.Colon))
   -- `MODULE M; VAR x: ; END M.`: a type is expected at the second `;`.
-  pub no_type : DescendsKinds (module_head
+  pub no_type : DescendsTextWithKinds (module_head
       ++ (reserved_kind reserved.Var ∷ identifier_kind ∷ symbol_kind symbol.Colon ∷ symbol_kind symbol.Semicolon ∷ module_end))
       (Expects 6 expected.Type)
   -- `MODULE M; END M. x`: the end of the text is expected at `x`.
-  pub token_after_module : DescendsKinds (module_head ++ (module_end ++ (identifier_kind ∷ [])))
+  pub token_after_module : DescendsTextWithKinds (module_head ++ (module_end ++ (identifier_kind ∷ [])))
       (Expects 6 expected.EndOfText)
   -- `MODULE M; BEGIN WriteLn END M`: a full stop is expected at the end of the text.
-  pub no_full_stop : DescendsKinds
+  pub no_full_stop : DescendsTextWithKinds
       (module_head ++ (reserved_kind reserved.Begin ∷ identifier_kind ∷ reserved_kind reserved.End ∷ identifier_kind ∷ []))
       (Expects 7 (expected.Symbol symbol.Dot))
   -- `MODULE M; VAR UNTIL: INTEGER; END M.`: END is expected at UNTIL.
-  pub reserved_word_as_name : DescendsKinds (module_head
+  pub reserved_word_as_name : DescendsTextWithKinds (module_head
       ++ (reserved_kind reserved.Var
       ∷ reserved_kind reserved.Until
       ∷ symbol_kind symbol.Colon
@@ -92,24 +94,24 @@ pub record ExpectedStops : Type 0 where
       ∷ symbol_kind symbol.Semicolon
       ∷ module_end)) (Expects 4 (expected.Word reserved.End))
   -- `MODULE M; BEGIN WriteLn END M.`: the descent reads the whole text.
-  pub whole_module : DescendsKinds (module_head ++ (reserved_kind reserved.Begin ∷ identifier_kind ∷ module_end)) Done
+  pub whole_module : DescendsTextWithKinds (module_head ++ (reserved_kind reserved.Begin ∷ identifier_kind ∷ module_end)) Done
 
 -- States that the descent stops at the 101st of 101 nested constructs, in three example texts: with
 -- IF statements, with procedures and with array types.
-pub record DeepStops : Type 0 where
+pub record DeepExamplesStopAtLevel101 : Type 0 where
   -- The text is `MODULE M; BEGIN`, 101 times `IF TRUE THEN`, 101 times END, and `END M.`
-  pub ifs : DescendsKinds (module_head
+  pub ifs : DescendsTextWithKinds (module_head
       ++ (reserved_kind reserved.Begin
-      ∷ (repeat_kinds 101 (reserved_kind reserved.If ∷ identifier_kind ∷ reserved_kind reserved.Then ∷ [])
-      ++ (repeat_kinds 101 (reserved_kind reserved.End ∷ []) ++ module_end)))) (Deep 304)
+      ∷ (repeated_kinds 101 (reserved_kind reserved.If ∷ identifier_kind ∷ reserved_kind reserved.Then ∷ [])
+      ++ (repeated_kinds 101 (reserved_kind reserved.End ∷ []) ++ module_end)))) (TooDeepAt 304)
   -- The text is `MODULE M;`, 101 times `PROCEDURE P;`, 101 times `END P;`, and `END M.`
-  pub procedures : DescendsKinds (module_head
-      ++ (repeat_kinds 101 (reserved_kind reserved.Procedure ∷ identifier_kind ∷ symbol_kind symbol.Semicolon ∷ [])
-      ++ (repeat_kinds 101 (reserved_kind reserved.End ∷ identifier_kind ∷ symbol_kind symbol.Semicolon ∷ []) ++ module_end))) (Deep 303)
+  pub procedures : DescendsTextWithKinds (module_head
+      ++ (repeated_kinds 101 (reserved_kind reserved.Procedure ∷ identifier_kind ∷ symbol_kind symbol.Semicolon ∷ [])
+      ++ (repeated_kinds 101 (reserved_kind reserved.End ∷ identifier_kind ∷ symbol_kind symbol.Semicolon ∷ []) ++ module_end))) (TooDeepAt 303)
   -- The text is `MODULE M; VAR x:`, 101 times `ARRAY 1 OF`, and `INTEGER; END M.`
-  pub arrays : DescendsKinds (module_head
+  pub arrays : DescendsTextWithKinds (module_head
       ++ (reserved_kind reserved.Var
       ∷ identifier_kind
       ∷ symbol_kind symbol.Colon
-      ∷ (repeat_kinds 101 (reserved_kind reserved.Array ∷ integer_kind ∷ reserved_kind reserved.Of ∷ [])
-      ++ (identifier_kind ∷ symbol_kind symbol.Semicolon ∷ module_end)))) (Deep 306)
+      ∷ (repeated_kinds 101 (reserved_kind reserved.Array ∷ integer_kind ∷ reserved_kind reserved.Of ∷ [])
+      ++ (identifier_kind ∷ symbol_kind symbol.Semicolon ∷ module_end)))) (TooDeepAt 306)

@@ -6,15 +6,15 @@ use Rattle.ob0_scan.specs.TextWithTokens.{TextWithTokens}
 use Rattle.ob0_tree.specs.Lexeme.{Terminal, EndOfText}
 use Rattle.ob0_tree.specs.Tree.{Tree, module_text, spell, nesting}
 use Rattle.ob0_tree.specs.Module.{max_nesting, terminals_of_text}
-use Rattle.ob0_tree.specs.Places.{index_terminals}
-use Rattle.ob0_parse_descent.specs.Descent.{Expects, Deep, DescendsText}
+use Rattle.ob0_tree.specs.Places.{indexed_terminals}
+use Rattle.ob0_parse_descent.specs.Descent.{Expects, TooDeepAt, DescendsText}
 use Rattle.ob0_parse_descent.specs.declared.refusal.ParseRefusal.{ParseRefusal}
 use Rattle.ob0_parse_descent.specs.declared.refusal.ParseRefusal.TheVariants.{Syntax, TooDeep, Memory}
 
 -- States that no module with at most `max_nesting` levels of nesting begins with the first `i + 1`
 -- tokens of the text. The end of the text counts as a token.
-abbrev pub NoModuleBegins : TextWithTokens → ℕ → Type 0
-NoModuleBegins s i = (t : Tree (List ℕ) module_text) (more : List (Terminal (List ℕ)))
+abbrev pub NoModuleBeginsWithTokens : TextWithTokens → ℕ → Type 0
+NoModuleBeginsWithTokens s i = (t : Tree (List ℕ) module_text) (more : List (Terminal (List ℕ)))
     → nesting t ≤ max_nesting
     → spell t ++ (EndOfText ∷ []) ≡ take (i + 1) (terminals_of_text s ++ (EndOfText ∷ [])) ++ more → ⊥
 
@@ -24,7 +24,7 @@ NoModuleBegins s i = (t : Tree (List ℕ) module_text) (more : List (Terminal (L
 -- the reason that the refusal gives. The refusal `Memory` is always right.
 abbrev pub IsRightParseRefusal : TextWithTokens → ParseRefusal → Type 0
 IsRightParseRefusal s (Syntax i expected) =
-    (i ≤ length s.tokens) × NoModuleBegins s i × DescendsText (index_terminals s.tokens) (Expects i expected)
+    (i ≤ length s.tokens) × NoModuleBeginsWithTokens s i × DescendsText (indexed_terminals s.tokens) (Expects i expected)
 IsRightParseRefusal s (TooDeep i) =
-    (i ≤ length s.tokens) × NoModuleBegins s i × DescendsText (index_terminals s.tokens) (Deep i)
+    (i ≤ length s.tokens) × NoModuleBeginsWithTokens s i × DescendsText (indexed_terminals s.tokens) (TooDeepAt i)
 IsRightParseRefusal s Memory = Unit {0}

@@ -27,9 +27,9 @@ abbrev pub ReadsModuleProcedures : List Procedure → List Token → ℕ → Res
 ReadsModuleProcedures ps ts at (Ok next) = IsReadTree (items_of procedure_of ps) max_nesting ts at next
 ReadsModuleProcedures ps ts at (Err e) = FailsToRead (nonterminal (items procedure) max_nesting ∷ []) ts at e
 
--- States that the result of parsing a module is right. The tree of a parsed module spells the
--- tokens, from the first to the last. If the result is a refusal, the tokens can't be read as a
--- module, for the reason that the refusal gives.
+-- States that the result of parsing a module is right. The tree of a parsed module spells all the
+-- tokens. If the result is a refusal, the tokens can't be read as a module, for the reason that the
+-- refusal gives.
 abbrev pub ReadsModule : List Token → Result (ℕ × Block × ℕ) ParseRefusal → Type 0
 ReadsModule ts (Ok x) = IsReadTree (is_module x.0 (block_of x.1) x.2) max_nesting ts 0 (length ts)
 ReadsModule ts (Err e) = FailsToRead (nonterminal module_text max_nesting ∷ text_end ∷ []) ts 0 e

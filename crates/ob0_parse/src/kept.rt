@@ -14,11 +14,11 @@
 //! the tree. No token can continue a procedure, because a procedure ends with a semicolon
 //! (`stops_zero`). The token after a reused body is END, which can't continue a body. In both cases
 //! no other tree has the same tokens (the lemma `same`). The descent reads every tree that the
-//! tokens spell (the lemma `finishes`). So `IsReadTree` follows if the tree spells the tokens (the
-//! lemma `is_read_tree_at`).
+//! tokens spell (the lemma `finishes`). So the tree fulfils `IsReadTree` if it spells the tokens
+//! (the lemma `is_read_tree_at`).
 //!
 //! The leaves of a procedure determine the range of its tokens. Its name is its second token, and
-//! its closing name is its last token but one. The leaves of a body don't determine the range of
+//! its closing name is its second to last token. The leaves of a body don't determine the range of
 //! its tokens, so a body is kept with the index of its BEGIN. The tree of a module gives that index
 //! only if the module has a procedure: BEGIN is then the token after the last procedure.
 //!
@@ -34,11 +34,11 @@ ghost use Rattle.std.specs.Option.{option_to_list};
 ghost use Rattle.ob0_scan.specs.TextWithTokens.{TextWithTokens};
 ghost use Rattle.ob0_scan.specs.declared.lexeme.Token.{Token};
 ghost use Rattle.ob0_tree.specs.ParsedModule.{IsParsed, parsed_module};
-ghost use Rattle.ob0_scan.specs.SameKinds.{HasSameKinds};
-ghost use Rattle.ob0_parse.specs.KeptTokens.{AreInPlace, RelocatesRange, RelocatesProcedures, AppendsMadeProcedure, AppendsMadeProcedures, AppendsKeptProcedure, RelocatesBody, RelocatesAnyBody, IsLocatedBody, IsKeptBodyInPlace, IsLocatedProcedure, IsReusedFromKept, IsReusedProcedure, IsReusedBody, IsKeptInPlace, RelocatesProcedure, RemainInPlace};
+ghost use Rattle.ob0_scan.specs.SameKinds.{PrefixAndSuffixHaveSameKinds};
+ghost use Rattle.ob0_parse.specs.KeptTokens.{AreKeptTreesInPlace, RelocatesRange, RelocatesProcedures, AreInPlaceAfterAppendingMadeProcedure, AreInPlaceAfterAppendingMadeProcedures, AreInPlaceAfterAppendingKeptProcedure, RelocatesBody, RelocatesOptionalBody, IsLocatedBody, IsKeptBodyInPlace, IsLocatedProcedure, IsProcedureInPlaceIfKeptAre, IsProcedureInPlaceAt, IsBodyInPlaceAt, IsKeptProcedureInPlace, RelocatesProcedure, RemainInPlace};
 
 use crate::leaf_moves::{self, LeafMove};
-use ob0_scan::SameParts;
+use ob0_scan::CommonPrefixAndSuffix;
 use ob0_tree::{ModuleTree, Procedure, Statement};
 use std::alloc::{AllocError, Global};
 
@@ -81,7 +81,7 @@ pub struct KeptTrees {
 impl KeptTrees {
     /// Returns a `KeptTrees` without any tree: no procedures and no body.
     pub fn empty(alloc: Global) -> KeptTrees
-        ensures { (ts : List Token) → AreInPlace ts result }
+        ensures { (ts : List Token) → AreKeptTreesInPlace ts result }
     {
         KeptTrees {
             made: Vec::new(alloc),
@@ -94,7 +94,7 @@ impl KeptTrees {
     /// procedures, its body is also kept. Without a procedure, the tree doesn't give the index of
     /// BEGIN, so the body is dropped.
     pub fn from_tree(alloc: Global, tree: ModuleTree) -> KeptTrees
-        ensures { (s : TextWithTokens) → IsParsed (parsed_module s tree) → AreInPlace s.tokens result }
+        ensures { (s : TextWithTokens) → IsParsed (parsed_module s tree) → AreKeptTreesInPlace s.tokens result }
     {
         let closing = tree.closing;
         let mut block = tree.into_block();
@@ -112,11 +112,15 @@ impl KeptTrees {
     /// tokens in the changed text. `same` describes the tokens that the old and the changed text
     /// share: those before and those after the change. The trees whose tokens have changed are
     /// dropped.
-    pub fn relocate(self, alloc: Global, same: SameParts) -> Result<KeptTrees, AllocError>
+    pub fn relocate(
+        self,
+        alloc: Global,
+        same: CommonPrefixAndSuffix,
+    ) -> Result<KeptTrees, AllocError>
         ensures { IfOk result (λ kept. (old new : List Token)
-            → HasSameKinds same old new
-            → AreInPlace old self
-            → AreInPlace new kept) }
+            → PrefixAndSuffixHaveSameKinds same old new
+            → AreKeptTreesInPlace old self
+            → AreKeptTreesInPlace new kept) }
     {
         let KeptTrees {
             mut made,
@@ -161,7 +165,7 @@ fn locate_body(
 fn relocate_waiting_procedures(
     alloc: Global,
     waiting: Vec<KeptProcedure>,
-    same: SameParts,
+    same: CommonPrefixAndSuffix,
 ) -> Result<Vec<KeptProcedure>, AllocError>
     ensures { IfOk result (λ kept. RelocatesProcedures same waiting.items kept.items) }
 {
@@ -179,11 +183,11 @@ fn relocate_waiting_procedures(
 fn relocate_parsed_procedures(
     kept: &mut Vec<KeptProcedure>,
     made: &mut Vec<Procedure>,
-    same: SameParts,
+    same: CommonPrefixAndSuffix,
 ) -> Result<(), AllocError>
     ensures empty { OnOk result (made.new.items ≡ []) }
     ensures kept { OnOk result
-        (AppendsMadeProcedures same made.old.items kept.old.items kept.new.items) }
+        (AreInPlaceAfterAppendingMadeProcedures same made.old.items kept.old.items kept.new.items) }
 {
     while let Some(procedure) = made.pop() {
         push_made_procedure(kept, procedure, same)?;
@@ -196,9 +200,9 @@ fn relocate_parsed_procedures(
 fn push_relocated_procedure(
     kept: &mut Vec<KeptProcedure>,
     procedure: KeptProcedure,
-    same: SameParts,
+    same: CommonPrefixAndSuffix,
 ) -> Result<(), AllocError>
-    ensures { OnOk result (AppendsKeptProcedure same procedure kept.old.items kept.new.items) }
+    ensures { OnOk result (AreInPlaceAfterAppendingKeptProcedure same procedure kept.old.items kept.new.items) }
 {
     if let Some(there) = procedure.relocate(same) {
         kept.push(there)?;
@@ -211,9 +215,9 @@ fn push_relocated_procedure(
 fn push_made_procedure(
     kept: &mut Vec<KeptProcedure>,
     procedure: Procedure,
-    same: SameParts,
+    same: CommonPrefixAndSuffix,
 ) -> Result<(), AllocError>
-    ensures { OnOk result (AppendsMadeProcedure same procedure kept.old.items kept.new.items) }
+    ensures { OnOk result (AreInPlaceAfterAppendingMadeProcedure same procedure kept.old.items kept.new.items) }
 {
     if let Some(there) = locate_procedure(procedure) {
         push_relocated_procedure(kept, there, same)?;
@@ -223,8 +227,8 @@ fn push_made_procedure(
 
 /// Returns the kept body `body` with the range of its tokens in the changed text. Returns None if
 /// there is no kept body, or if the changed text doesn't have the body's tokens.
-fn relocate_body(body: Option<KeptBody>, same: SameParts) -> Option<KeptBody>
-    ensures { RelocatesAnyBody same body result }
+fn relocate_body(body: Option<KeptBody>, same: CommonPrefixAndSuffix) -> Option<KeptBody>
+    ensures { RelocatesOptionalBody same body result }
 {
     match body {
         Some(body) => body.relocate(same),
@@ -250,7 +254,7 @@ fn locate_procedure(procedure: Procedure) -> Option<KeptProcedure>
 impl KeptProcedure {
     /// Returns the procedure with the range of its tokens in the changed text, or None if the
     /// changed text doesn't have these tokens.
-    fn relocate(self, same: SameParts) -> Option<KeptProcedure>
+    fn relocate(self, same: CommonPrefixAndSuffix) -> Option<KeptProcedure>
         ensures { IfSome result (RelocatesProcedure same self) }
     {
         let (at, next) = relocated_range(self.at, self.next, same)?;
@@ -265,7 +269,7 @@ impl KeptProcedure {
 impl KeptBody {
     /// Returns the body with the range of its tokens in the changed text, or None if the changed
     /// text doesn't have these tokens.
-    fn relocate(self, same: SameParts) -> Option<KeptBody>
+    fn relocate(self, same: CommonPrefixAndSuffix) -> Option<KeptBody>
         ensures { IfSome result (RelocatesBody same self) }
     {
         let (at, next) = relocated_range(self.at, self.next, same)?;
@@ -282,7 +286,7 @@ impl KeptBody {
     pub(crate) fn move_leaves(self) -> (Vec<Statement>, usize)
         ensures placed { (ts : List Token)
             → IsKeptBodyInPlace ts self
-            → IsReusedBody ts self.at result }
+            → IsBodyInPlaceAt ts self.at result }
         ensures next { result.1 ≡ self.next }
     {
         let KeptBody {
@@ -301,7 +305,7 @@ impl KeptBody {
 
 /// Returns the range in the changed text of the tokens that have the indexes `at..next` in the old
 /// text. Returns None if the changed text doesn't have all of these tokens.
-fn relocated_range(at: usize, next: usize, same: SameParts) -> Option<(usize, usize)>
+fn relocated_range(at: usize, next: usize, same: CommonPrefixAndSuffix) -> Option<(usize, usize)>
     ensures { IfSome result (RelocatesRange same at next) }
 {
     if next <= same.prefix {
@@ -315,7 +319,7 @@ fn relocated_range(at: usize, next: usize, same: SameParts) -> Option<(usize, us
 /// Returns the index in the changed text of a token that follows all changed tokens, given the
 /// token's index in the old text (`index`). Returns None if the token doesn't follow all changed
 /// tokens, or if the returned index would be out of range.
-fn relocated_index(index: usize, same: SameParts) -> Option<usize>
+fn relocated_index(index: usize, same: CommonPrefixAndSuffix) -> Option<usize>
     ensures { IfSome result (λ place. (same.old_suffix ≤ index)
         × (place + same.old_suffix ≡ index + same.new_suffix)) }
 {
@@ -331,7 +335,7 @@ pub(crate) fn take_procedure_at(
     at: usize,
 ) -> Option<(Procedure, usize)>
     ensures stay { RemainInPlace waiting.old.items waiting.new.items }
-    ensures placed { IfSome result (IsReusedFromKept waiting.old.items at) }
+    ensures placed { IfSome result (IsProcedureInPlaceIfKeptAre waiting.old.items at) }
 {
     while let Some(kept) = pop_if_reached(waiting, at) {
         if kept.at == at {
@@ -360,7 +364,7 @@ fn pop_if_reached(waiting: &mut Vec<KeptProcedure>, at: usize) -> Option<KeptPro
 /// Changes each leaf of the procedure to the index of its token in the present text. Returns the
 /// procedure and the index of the token after the procedure.
 fn move_leaves(kept: KeptProcedure) -> (Procedure, usize)
-    ensures { (ts : List Token) → IsKeptInPlace ts kept → IsReusedProcedure ts kept.at result }
+    ensures { (ts : List Token) → IsKeptProcedureInPlace ts kept → IsProcedureInPlaceAt ts kept.at result }
 {
     let KeptProcedure {
         mut procedure,

@@ -5,10 +5,10 @@
 ghost use Rattle.std.specs.Prelude.{ℕ, List};
 ghost use Rattle.ob0_scan.specs.TextWithTokens.{TextWithTokens};
 ghost use Rattle.ob0_tree.specs.Module.{ModuleOf};
-ghost use Rattle.ob0_tree.specs.Places.{index_terminals};
+ghost use Rattle.ob0_tree.specs.Places.{indexed_terminals};
 ghost use Rattle.ob0_tree.specs.Tree.{Tree, module_text};
 ghost use Rattle.ob0_parse_descent.specs.Descent.{DescendsText, Done, StopIsUnique};
-ghost use Rattle.ob0_parse.specs.DescentExamples.{DeepStops, ExpectedStops};
+ghost use Rattle.ob0_parse.specs.DescentExamples.{DeepExamplesStopAtLevel101, ExamplesStopWhereExpected};
 
 /// Proves that the tokens determine at which token the descent stops, and which token or construct
 /// is expected there.
@@ -21,12 +21,13 @@ pub fn stop_is_unique()
 pub fn descent_reads_modules()
     ensures { (text : TextWithTokens) (tree : Tree (List ℕ) module_text)
         → ModuleOf text tree
-        → DescendsText (index_terminals text.tokens) Done }
+        → DescendsText (indexed_terminals text.tokens) Done }
 {}
 
 /// Proves that the descent stops at the stated tokens in the examples of docs/LANGUAGE.md. With 101
-/// nested IF statements, procedures or array types, it stops at the 101st (`DeepStops`).
+/// nested IF statements, procedures or array types, it stops at the 101st
+/// (`DeepExamplesStopAtLevel101`).
 pub fn examples_stop_as_stated()
-    ensures expected { ExpectedStops }
-    ensures deep { DeepStops }
+    ensures expected { ExamplesStopWhereExpected }
+    ensures deep { DeepExamplesStopAtLevel101 }
 {}

@@ -1,17 +1,17 @@
 //! Adapts the leaves of a procedure or body to a changed text. The leaves are token indexes, so
-//! they change if the tokens have moved.
+//! they change if the tokens move.
 
 ghost use Rattle.std.specs.Prelude.{◌≡◌};
 ghost use Rattle.ob0_tree.specs.Tree.{then_name};
-ghost use Rattle.ob0_tree.specs.View.{expression_of, compound_of, maybe_comparison_of, comparison_of, simple_of, addend_of, term_of, multiplier_of, factor_of, designator_of, selector_of, items_of, names_of, assignment_of, call_of, arguments_of_vec, statement_of, if_of, elsif_of, elsifs_of_vec, sequence_of_vec, type_of, record_of_list, fields_of, section_of, formals_of, formals_of_list, constant_of, constants_of, constants_of_vec, type_declaration_of, types_of, types_of_vec, variable_of, variables_of, variables_of_vec, body_of, procedure_of, procedures_of_vec, block_of};
+ghost use Rattle.ob0_tree.specs.View.{expression_of, compound_expression_of, maybe_comparison_of, comparison_of, simple_expression_of, addend_of, term_of, multiplier_of, factor_of, designator_of, selector_of, items_of, names_of, assignment_of, call_of, arguments_of_vec, statement_of, if_of, elsif_of, elsifs_of_vec, sequence_of_vec, type_of, record_type_of_list, optional_field_group_of, parameter_section_of, formals_of, formals_of_list, constant_of, constants_of, constants_of_vec, type_declaration_of, types_of, types_of_vec, variable_of, variables_of, variables_of_vec, body_of, procedure_of, procedures_of_vec, block_of};
 ghost use Rattle.ob0_tree.specs.declared.tree.CompoundExpression.{back-CompoundExpression-compared};
 ghost use Rattle.ob0_parse.specs.MovedTrees.{moved_tree, moved_leaf};
 
 use ob0_tree::{
     Addend, Assignment, Block, Call, Comparison, CompoundExpression, Constant, Designator, Elsif,
-    Expression, Factor, FieldGroup, Fields, If, Multiplier, Names, ParameterSection, Procedure,
-    Repeat, Selector, SimpleExpression, Statement, Term, TypeDeclaration, VariableDeclaration,
-    While, WrittenType,
+    Expression, Factor, FieldGroup, If, Multiplier, Names, OptionalFieldGroup, ParameterSection,
+    Procedure, Repeat, Selector, SimpleExpression, Statement, Term, TypeDeclaration,
+    VariableDeclaration, While, WrittenType,
 };
 
 /// A move of tokens by a change of the text: the token with the index `from` in the old text has
@@ -24,8 +24,8 @@ pub(crate) struct LeafMove {
 }
 
 impl LeafMove {
-    /// Returns the index after the move of the token that has the index `leaf` before it. The
-    /// result is at most the largest `usize`. An index below `from` counts as `from`.
+    /// Returns the index that a token has after the move, given its index `leaf` before the move.
+    /// The result is at most the largest `usize`. An index below `from` counts as `from`.
     fn moved_leaf(self, leaf: usize) -> usize
         ensures { result ≡ moved_leaf self leaf }
     {
@@ -40,14 +40,14 @@ fn move_expression(e: &mut Expression, by: LeafMove)
 {
     match e {
         Expression::Factor(f) => move_factor(f, by),
-        Expression::CompoundExpression(c) => move_compound(c, by),
+        Expression::CompoundExpression(c) => move_compound_expression(c, by),
     }
 }
 
 /// Applies the move `by` to each token index in an expression that isn't a single factor.
 #[cycle(expressions)]
-fn move_compound(c: &mut CompoundExpression, by: LeafMove)
-    ensures { compound_of c.new ≡ moved_tree by (compound_of c.old) }
+fn move_compound_expression(c: &mut CompoundExpression, by: LeafMove)
+    ensures { compound_expression_of c.new ≡ moved_tree by (compound_expression_of c.old) }
 {
     move_simple_expression(&mut c.left, by);
     move_comparison_if_any(&mut c.compared, by);
@@ -64,7 +64,7 @@ fn move_comparison_if_any(c: &mut Option<Box<Comparison>>, by: LeafMove)
     }
 }
 
-/// Applies the move `by` to each token index in the right side of a comparison.
+/// Applies the move `by` to each token index in a comparison.
 #[cycle(expressions)]
 fn move_comparison(c: &mut Comparison, by: LeafMove)
     ensures { comparison_of c.new ≡ moved_tree by (comparison_of c.old) }
@@ -75,7 +75,7 @@ fn move_comparison(c: &mut Comparison, by: LeafMove)
 /// Applies the move `by` to each token index in a simple expression.
 #[cycle(expressions)]
 fn move_simple_expression(s: &mut SimpleExpression, by: LeafMove)
-    ensures { simple_of s.new ≡ moved_tree by (simple_of s.old) }
+    ensures { simple_expression_of s.new ≡ moved_tree by (simple_expression_of s.old) }
 {
     move_term(&mut s.first, by);
     move_addends(&mut s.more, by);
@@ -92,7 +92,7 @@ fn move_addends(parts: &mut Vec<Addend>, by: LeafMove)
     }
 }
 
-/// Applies the move `by` to each token index in a term after the first.
+/// Applies the move `by` to each token index in a further term of a simple expression.
 #[cycle(expressions)]
 fn move_addend(a: &mut Addend, by: LeafMove)
     ensures { addend_of a.new ≡ moved_tree by (addend_of a.old) }
@@ -120,7 +120,7 @@ fn move_multipliers(parts: &mut Vec<Multiplier>, by: LeafMove)
     }
 }
 
-/// Applies the move `by` to each token index in a factor after the first.
+/// Applies the move `by` to each token index in a further factor of a term.
 #[cycle(expressions)]
 fn move_multiplier(m: &mut Multiplier, by: LeafMove)
     ensures { multiplier_of m.new ≡ moved_tree by (multiplier_of m.old) }
@@ -306,32 +306,32 @@ fn move_type(t: &mut WrittenType, by: LeafMove)
             move_expression(&mut a.size, by);
             move_type(&mut a.element, by);
         }
-        WrittenType::Record(r) => move_groups(&mut r.groups, by),
+        WrittenType::Record(r) => move_field_groups(&mut r.groups, by),
     }
 }
 
 /// Applies the move `by` to each token index in the groups of fields of a record.
 #[cycle(types)]
-fn move_groups(parts: &mut Vec<Fields>, by: LeafMove)
-    ensures { record_of_list parts.new.items ≡ moved_tree by (record_of_list parts.old.items) }
+fn move_field_groups(parts: &mut Vec<OptionalFieldGroup>, by: LeafMove)
+    ensures { record_type_of_list parts.new.items ≡ moved_tree by (record_type_of_list parts.old.items) }
 {
     for i in 0..parts.len() {
-        move_fields(&mut parts[i], by);
+        move_optional_field_group(&mut parts[i], by);
     }
 }
 
-/// Applies the move `by` to each token index in a group of fields, which may be empty.
+/// Applies the move `by` to each token index in an optional group of fields.
 #[cycle(types)]
-fn move_fields(f: &mut Fields, by: LeafMove)
-    ensures { fields_of f.new ≡ moved_tree by (fields_of f.old) }
+fn move_optional_field_group(f: &mut OptionalFieldGroup, by: LeafMove)
+    ensures { optional_field_group_of f.new ≡ moved_tree by (optional_field_group_of f.old) }
 {
     match f {
-        Fields::Empty => {}
-        Fields::Listed(l) => move_field_group(l, by),
+        OptionalFieldGroup::Empty => {}
+        OptionalFieldGroup::Listed(l) => move_field_group(l, by),
     }
 }
 
-/// Applies the move `by` to each token index in a group of fields that isn't empty.
+/// Applies the move `by` to each token index in a group of one or more fields.
 #[cycle(types)]
 fn move_field_group(g: &mut FieldGroup, by: LeafMove)
     ensures names { names_of g.new.names ≡ moved_tree by (names_of g.old.names) }
@@ -342,8 +342,8 @@ fn move_field_group(g: &mut FieldGroup, by: LeafMove)
 }
 
 /// Applies the move `by` to each token index in a section of parameters.
-fn move_section(s: &mut ParameterSection, by: LeafMove)
-    ensures { section_of s.new ≡ moved_tree by (section_of s.old) }
+fn move_parameter_section(s: &mut ParameterSection, by: LeafMove)
+    ensures { parameter_section_of s.new ≡ moved_tree by (parameter_section_of s.old) }
 {
     move_names(&mut s.names, by);
     move_type(&mut s.written, by);
@@ -354,16 +354,16 @@ fn move_formals(sections: &mut Option<Vec<ParameterSection>>, by: LeafMove)
     ensures { formals_of sections.new ≡ moved_tree by (formals_of sections.old) }
 {
     if let Some(listed) = sections {
-        move_section_list(listed, by);
+        move_parameter_section_list(listed, by);
     }
 }
 
 /// Applies the move `by` to each token index in a list of parameter sections.
-fn move_section_list(listed: &mut Vec<ParameterSection>, by: LeafMove)
+fn move_parameter_section_list(listed: &mut Vec<ParameterSection>, by: LeafMove)
     ensures { formals_of_list listed.new.items ≡ moved_tree by (formals_of_list listed.old.items) }
 {
     for i in 0..listed.len() {
-        move_section(&mut listed[i], by);
+        move_parameter_section(&mut listed[i], by);
     }
 }
 

@@ -7,14 +7,15 @@ ghost use Rattle.ob0_scan.specs.declared.lexeme.ReservedWord.TheVariants as rese
 ghost use Rattle.ob0_tree.specs.View.{block_of, body_of, procedure_of};
 ghost use Rattle.ob0_tree.specs.Module.{max_nesting};
 ghost use Rattle.ob0_parse_descent.specs.Reading.{Reads, ReadsItem, IsReadTree, TellsIfTokenAt};
-ghost use Rattle.ob0_parse.specs.KeptTokens.{AreInPlace, HoldsForEach, IsAnyKeptBodyInPlace, IsKeptInPlace};
+ghost use Rattle.ob0_parse.specs.KeptTokens.{AreKeptTreesInPlace, HoldsForEach, IsOptionalKeptBodyInPlace, IsKeptProcedureInPlace};
 ghost use Rattle.ob0_parse.specs.ModuleBlock.{block_with_procedures, ReadsModule, ReadsModuleProcedures};
-ghost use Rattle.ob0_parse.specs.AreInPlaceAfterParse.{AreInPlaceAfterParse};
+ghost use Rattle.ob0_parse.specs.AreKeptTreesInPlaceAfterParse.{AreKeptTreesInPlaceAfterParse};
 
 use crate::kept::take_procedure_at;
 use crate::{KeptBody, KeptProcedure, KeptTrees};
 use ob0_parse_descent::{
-    ConstructResult, Expected, ItemResult, ParseRefusal, Parser, push_doubling, syntax_error,
+    ConstructResult, ExpectedSyntax, ItemResult, ParseRefusal, Parser, push_with_doubling,
+    syntax_error,
 };
 use ob0_scan::{ReservedWord, Symbol};
 use ob0_tree::{
@@ -31,10 +32,10 @@ fn parse_module_block(
     kept: &mut KeptTrees,
 ) -> ConstructResult<ModuleBlockParts>
     requires at { at ≤ length parser.now.tokens.now }
-    requires kept { AreInPlace parser.now.tokens.now kept.old }
+    requires kept { AreKeptTreesInPlace parser.now.tokens.now kept.old }
     ensures read { Reads (block_with_procedures kept.new.made.items) max_nesting parser.now.tokens.now at
         result }
-    ensures stay { AreInPlaceAfterParse parser.now.tokens.now kept.new result }
+    ensures stay { AreKeptTreesInPlaceAfterParse parser.now.tokens.now kept.new result }
 {
     let (constants, next) = parser.parse_constants(at, MAX_NESTING)?;
     let (types, next) = parser.parse_types(next, MAX_NESTING)?;
@@ -61,31 +62,31 @@ fn parse_module_procedures(
     kept: &mut KeptTrees,
 ) -> Result<usize, ParseRefusal>
     requires at { at ≤ length parser.now.tokens.now }
-    requires kept { AreInPlace parser.now.tokens.now kept.old }
+    requires kept { AreKeptTreesInPlace parser.now.tokens.now kept.old }
     ensures read { ReadsModuleProcedures kept.new.made.items parser.now.tokens.now at result }
-    ensures stay { AreInPlaceAfterParse parser.now.tokens.now kept.new result }
+    ensures stay { AreKeptTreesInPlaceAfterParse parser.now.tokens.now kept.new result }
 {
     kept.made.clear();
     let mut next = at;
     while let Some((procedure, end)) = next_module_procedure(parser, next, &mut kept.waiting)? {
-        push_doubling(&mut kept.made, procedure)?;
+        push_with_doubling(&mut kept.made, procedure)?;
         next = end;
     }
     Ok(next)
 }
 
-/// Returns the procedure that begins at the token `at`, and the index of the token after it. If the
-/// procedure is in `waiting`, it is reused, otherwise it is parsed. Returns None if the token at
-/// `at` isn't PROCEDURE.
+/// Returns the procedure that begins at the token `at`, and the index of the token after it. If a
+/// procedure in `waiting` begins at that token, it is reused. Otherwise the procedure is parsed.
+/// Returns None if that token isn't PROCEDURE.
 fn next_module_procedure(
     parser: &Parser<'_>,
     at: usize,
     waiting: &mut Vec<KeptProcedure>,
 ) -> ItemResult<Procedure>
     requires at { at ≤ length parser.now.tokens.now }
-    requires waiting { HoldsForEach (IsKeptInPlace parser.now.tokens.now) waiting.old.items }
+    requires waiting { HoldsForEach (IsKeptProcedureInPlace parser.now.tokens.now) waiting.old.items }
     ensures read { ReadsItem procedure_of max_nesting parser.now.tokens.now at result }
-    ensures waiting { HoldsForEach (IsKeptInPlace parser.now.tokens.now) waiting.new.items }
+    ensures waiting { HoldsForEach (IsKeptProcedureInPlace parser.now.tokens.now) waiting.new.items }
 {
     match take_procedure_at(waiting, at) {
         Some(taken) => Ok(Some(taken)),
@@ -94,17 +95,17 @@ fn next_module_procedure(
 }
 
 /// Returns the body that begins at the token `at`, and the index of the token after it. If the kept
-/// body begins at that token, it is reused, otherwise the body is parsed. The returned body is None
-/// if the token isn't BEGIN.
+/// body begins at that token and is followed by END, it is reused. Otherwise the body is parsed.
+/// The returned body is None if that token isn't BEGIN.
 fn parse_module_body(
     parser: &Parser<'_>,
     at: usize,
     kept: &mut Option<KeptBody>,
 ) -> ConstructResult<Option<Vec<Statement>>>
     requires at { at ≤ length parser.now.tokens.now }
-    requires kept { IsAnyKeptBodyInPlace parser.now.tokens.now kept.old }
+    requires kept { IsOptionalKeptBodyInPlace parser.now.tokens.now kept.old }
     ensures read { Reads body_of max_nesting parser.now.tokens.now at result }
-    ensures stay { IsAnyKeptBodyInPlace parser.now.tokens.now kept.new }
+    ensures stay { IsOptionalKeptBodyInPlace parser.now.tokens.now kept.new }
 {
     match take_kept_body(parser, at, kept) {
         Some((statements, next)) => Ok((Some(statements), next)),
@@ -121,10 +122,10 @@ fn take_kept_body(
     at: usize,
     kept: &mut Option<KeptBody>,
 ) -> Option<(Vec<Statement>, usize)>
-    requires kept { IsAnyKeptBodyInPlace parser.now.tokens.now kept.old }
+    requires kept { IsOptionalKeptBodyInPlace parser.now.tokens.now kept.old }
     ensures taken { IfSome result (λ x.
         IsReadTree (body_of (Some x.0)) max_nesting parser.now.tokens.now at x.1) }
-    ensures stay { IsAnyKeptBodyInPlace parser.now.tokens.now kept.new }
+    ensures stay { IsOptionalKeptBodyInPlace parser.now.tokens.now kept.new }
 {
     let body = kept.take()?;
     if body.at == at && has_end_word_at(parser, body.next) {
@@ -148,9 +149,9 @@ pub(crate) fn parse_module(
     parser: &Parser<'_>,
     kept: &mut KeptTrees,
 ) -> Result<(usize, Block, usize), ParseRefusal>
-    requires { AreInPlace parser.now.tokens.now kept.old }
+    requires { AreKeptTreesInPlace parser.now.tokens.now kept.old }
     ensures read { ReadsModule parser.now.tokens.now result }
-    ensures stay { AreInPlaceAfterParse parser.now.tokens.now kept.new result }
+    ensures stay { AreKeptTreesInPlaceAfterParse parser.now.tokens.now kept.new result }
 {
     let start = parser.expect_word(0, ReservedWord::Module)?;
     let (name, next) = parser.expect_identifier(start)?;
@@ -160,7 +161,7 @@ pub(crate) fn parse_module(
     let (closing, next) = parser.expect_identifier(last)?;
     let end = parser.expect_symbol(next, Symbol::Dot)?;
     match parser.kind(end) {
-        Some(_) => syntax_error(end, Expected::EndOfText),
+        Some(_) => syntax_error(end, ExpectedSyntax::EndOfText),
         None => {
             let made = mem::replace(&mut kept.made, Vec::new(parser.alloc));
             Ok((name, parts.into_block_with(made), closing))

@@ -5,9 +5,9 @@ use Rattle.ob0_scan.specs.declared.lexeme.TokenKind.TheVariants as kind
 use Rattle.ob0_scan.specs.declared.lexeme.Symbol.TheVariants as symbol
 use Rattle.ob0_scan.specs.declared.lexeme.Token.{Token}
 use Rattle.ob0_tree.specs.Lexeme.{Terminal, Name, Number, WordOrSymbol, EndOfText}
-use Rattle.ob0_tree.specs.Tree.{arguments, further_argument, expression, simple, term, factor, compares, sum, product, designator, integer, parenthesised, negation, no_arguments, some_arguments, item, items, Tree, spell, single_token}
-use Rattle.ob0_parse_descent.specs.Follow.{NextHasRank, opens_expression}
-use Rattle.ob0_parse_descent.specs.Reading.{rest, terminal_or_end, ProductionPart, token, nonterminal, BeginsWithParts, HaveSameHead, DescentsEndWithSameStop, IsReadTree, FailsToRead, ItemFails, IsReadList}
+use Rattle.ob0_tree.specs.Tree.{arguments, further_argument, expression, simple, term, factor, compares, sum, product, designator, integer, parenthesised, negation, no_arguments, some_arguments, item, items, Tree, spell, single_token_list}
+use Rattle.ob0_parse_descent.specs.Follow.{NextHasRank, may_begin_expression}
+use Rattle.ob0_parse_descent.specs.Reading.{rest, terminal_or_end, ProductionPart, token, nonterminal, BeginsWithParts, HaveSameFirstToken, DescentsEndWithSameStop, IsReadTree, FailsToRead, ItemBeginsButCantBeRead, IsReadList}
 use Rattle.ob0_parse_descent.specs.Descent.{parts, symbol_part, is_expression_next}
 use Rattle.ob0_parse_descent.proofs.Descent.{both, by, read_mark, read_led}
 use Rattle.ob0_parse_descent.specs.declared.refusal.ParseRefusal.{ParseRefusal}
@@ -24,10 +24,10 @@ use Rattle.ob0_parse_descent.proofs.OneToken.{mark_is}
 abbrev opening : Terminal ℕ → Bool
 opening (Name n) = true
 opening (Number n) = true
-opening (WordOrSymbol k) = opens_expression (Some k)
+opening (WordOrSymbol k) = may_begin_expression (Some k)
 opening EndOfText = false
 
-opening_at : (i : ℕ) (f : Option TokenKind) → opening (terminal_or_end i f) ≡ opens_expression f
+opening_at : (i : ℕ) (f : Option TokenKind) → opening (terminal_or_end i f) ≡ may_begin_expression f
 opening_at i None = refl
 opening_at i (Some kind.Identifier) = refl
 opening_at i (Some (kind.Integer _)) = refl
@@ -71,40 +71,40 @@ arguments_read {room = room} {ts = ts} {at = at} {b = true} e here = read_led (n
 arguments_read {room = room} {ts = ts} {at = at} {b = false} e here = read_led (token (kind.Symbol symbol.RightParen) ∷ [])
     (ap (λ b. if b then parts (symbol_part symbol.LeftParen ∷ nonterminal expression room ∷ nonterminal (items further_argument) room ∷ symbol_part symbol.RightParen ∷ []) else parts (symbol_part symbol.LeftParen ∷ symbol_part symbol.RightParen ∷ [])) e) here
 
-expression_next : (ts : List Token) (at : ℕ) {b : Bool} (f : Option TokenKind) → opens_expression f ≡ b → rest ts at ≡ terminal_or_end at f ∷ rest ts (at + 1) → is_expression_next (rest ts at) ≡ b
+expression_next : (ts : List Token) (at : ℕ) {b : Bool} (f : Option TokenKind) → may_begin_expression f ≡ b → rest ts at ≡ terminal_or_end at f ∷ rest ts (at + 1) → is_expression_next (rest ts at) ≡ b
 expression_next ts at f opened first = ap is_expression_next first ∙ (next_opening (terminal_or_end at f) (rest ts (at + 1)) ∙ (opening_at at f ∙ opened))
 
 abbrev pub arguments_following : ℕ → List ProductionPart
 arguments_following room = nonterminal expression room ∷ nonterminal (items further_argument) room ∷ token (kind.Symbol symbol.RightParen) ∷ []
 
 -- If no expression can begin after `(`, `)` must come next.
-none_parts : (room i : ℕ) (f : Option TokenKind) (xs z w : List (Terminal ℕ)) → opens_expression f ≡ false → xs ≡ terminal_or_end i f ∷ z → HaveSameHead xs w → BeginsWithParts (nonterminal (item arguments) room ∷ []) (WordOrSymbol (kind.Symbol symbol.LeftParen) ∷ w) → BeginsWithParts (token (kind.Symbol symbol.RightParen) ∷ []) w
+none_parts : (room i : ℕ) (f : Option TokenKind) (xs z w : List (Terminal ℕ)) → may_begin_expression f ≡ false → xs ≡ terminal_or_end i f ∷ z → HaveSameFirstToken xs w → BeginsWithParts (nonterminal (item arguments) room ∷ []) (WordOrSymbol (kind.Symbol symbol.LeftParen) ∷ w) → BeginsWithParts (token (kind.Symbol symbol.RightParen) ∷ []) w
 none_parts room i f xs y w closed here h (no_arguments, z, e, n, s, b) = (z, tail_of e, tt)
 none_parts room i f xs y w closed here h (some_arguments a es, z, e, n, s, b) =
     let first : terminal_or_end i f ≡ h.head = head_of (sym here ∙ h.is) in
     absurd (true_false (opens a h.head _ h.other (sym (append_assoc (spell a) _ z) ∙ (sym (tail_of e) ∙ h.alike))) (ap opening (sym first) ∙ (opening_at i f ∙ closed)))
 
-pub arguments_fail_none : {room : ℕ} {ts : List Token} {at : ℕ} {e : ParseRefusal} (f : Option TokenKind) → opens_expression f ≡ false → rest ts (at + 1) ≡ terminal_or_end (at + 1) f ∷ rest ts (at + 1 + 1) → rest ts at ≡ WordOrSymbol (kind.Symbol symbol.LeftParen) ∷ rest ts (at + 1) → FailsToRead (token (kind.Symbol symbol.RightParen) ∷ []) ts (at + 1) e → ItemFails arguments room ts at e
+pub arguments_fail_none : {room : ℕ} {ts : List Token} {at : ℕ} {e : ParseRefusal} (f : Option TokenKind) → may_begin_expression f ≡ false → rest ts (at + 1) ≡ terminal_or_end (at + 1) f ∷ rest ts (at + 1 + 1) → rest ts at ≡ WordOrSymbol (kind.Symbol symbol.LeftParen) ∷ rest ts (at + 1) → FailsToRead (token (kind.Symbol symbol.RightParen) ∷ []) ts (at + 1) e → ItemBeginsButCantBeRead arguments room ts at e
 arguments_fail_none {room = room} {ts = ts} {at = at} f closed first here q = record {
   is_here = subst (λ y. NextHasRank 6 y) (sym here) refl;
   fails = fails_following_alike {qs = token (kind.Symbol symbol.RightParen) ∷ []} (arguments_read (expression_next ts (at + 1) f closed first) here) here (λ w h b. none_parts room (at + 1) f (rest ts (at + 1)) _ w closed first h b) q;
 }
 
-some_parts : (room i : ℕ) (f : Option TokenKind) (xs z w : List (Terminal ℕ)) → opens_expression f ≡ true → xs ≡ terminal_or_end i f ∷ z → HaveSameHead xs w → BeginsWithParts (nonterminal (item arguments) room ∷ []) (WordOrSymbol (kind.Symbol symbol.LeftParen) ∷ w) → BeginsWithParts (arguments_following room) w
+some_parts : (room i : ℕ) (f : Option TokenKind) (xs z w : List (Terminal ℕ)) → may_begin_expression f ≡ true → xs ≡ terminal_or_end i f ∷ z → HaveSameFirstToken xs w → BeginsWithParts (nonterminal (item arguments) room ∷ []) (WordOrSymbol (kind.Symbol symbol.LeftParen) ∷ w) → BeginsWithParts (arguments_following room) w
 some_parts room i f xs y w opened here h (no_arguments, z, e, n, s, b) =
     let first : terminal_or_end i f ≡ h.head = head_of (sym here ∙ h.is) in
     let close : h.head ≡ WordOrSymbol (kind.Symbol symbol.RightParen) = head_of (sym h.alike ∙ tail_of e) in
-    absurd (true_false opened (ap opens_expression (mark_is f i (kind.Symbol symbol.RightParen) (first ∙ close))))
+    absurd (true_false opened (ap may_begin_expression (mark_is f i (kind.Symbol symbol.RightParen) (first ∙ close))))
 some_parts room i f xs y w opened here h (some_arguments a es, z, e, n, s, b) = (
   a,
   _,
   tail_of e ∙ append_assoc (spell a) _ z,
   omega arith,
   stops_closed es (kind.Symbol symbol.RightParen) z 4 (omega arith) (omega arith),
-  (es, WordOrSymbol (kind.Symbol symbol.RightParen) ∷ z, append_assoc (spell es) (single_token (kind.Symbol symbol.RightParen)) z, omega arith, omega arith, (z, refl, tt)),
+  (es, WordOrSymbol (kind.Symbol symbol.RightParen) ∷ z, append_assoc (spell es) (single_token_list (kind.Symbol symbol.RightParen)) z, omega arith, omega arith, (z, refl, tt)),
 )
 
-pub arguments_fail : {room : ℕ} {ts : List Token} {at : ℕ} {e : ParseRefusal} (f : Option TokenKind) → opens_expression f ≡ true → rest ts (at + 1) ≡ terminal_or_end (at + 1) f ∷ rest ts (at + 1 + 1) → rest ts at ≡ WordOrSymbol (kind.Symbol symbol.LeftParen) ∷ rest ts (at + 1) → FailsToRead (arguments_following room) ts (at + 1) e → ItemFails arguments room ts at e
+pub arguments_fail : {room : ℕ} {ts : List Token} {at : ℕ} {e : ParseRefusal} (f : Option TokenKind) → may_begin_expression f ≡ true → rest ts (at + 1) ≡ terminal_or_end (at + 1) f ∷ rest ts (at + 1 + 1) → rest ts at ≡ WordOrSymbol (kind.Symbol symbol.LeftParen) ∷ rest ts (at + 1) → FailsToRead (arguments_following room) ts (at + 1) e → ItemBeginsButCantBeRead arguments room ts at e
 arguments_fail {room = room} {ts = ts} {at = at} f opened first here q = record {
   is_here = subst (λ y. NextHasRank 6 y) (sym here) refl;
   fails = fails_following_alike {qs = arguments_following room} (arguments_read (expression_next ts (at + 1) f opened first) here) here (λ w h b. some_parts room (at + 1) f (rest ts (at + 1)) _ w opened first h b) q;
@@ -125,7 +125,7 @@ taken_arguments {room = room} {ts = ts} {at = at} {n = n} xs here p close =
     let a = expression_of p.first in
     let es = items_of further_argument_of p.others in
     subst (λ l. IsReadTree (arguments_of_list l) room ts at n) (sym p.is) record {
-      spelled = here ∙ ap (λ y. WordOrSymbol (kind.Symbol symbol.LeftParen) ∷ y) (joined _ (spell a) _ p.head.spelled (joined _ (spell es) (single_token (kind.Symbol symbol.RightParen)) p.tail.spelled close.0));
+      spelled = here ∙ ap (λ y. WordOrSymbol (kind.Symbol symbol.LeftParen) ∷ y) (joined _ (spell a) _ p.head.spelled (joined _ (spell es) (single_token_list (kind.Symbol symbol.RightParen)) p.tail.spelled close.0));
       shallow = omega (arith, p.head.shallow, p.tail.shallow);
       only = λ u z w h s e. only_zero (some_arguments a es) u z w refl s e;
       reads = by (arguments_read (ap is_expression_next p.head.spelled ∙ tree_next a (rest ts p.middle)) here) (both p.head.reads (both p.tail.reads (read_mark close)));

@@ -7,8 +7,8 @@ use Rattle.ob0_scan.specs.declared.lexeme.Symbol.{Symbol}
 use Rattle.ob0_scan.specs.declared.lexeme.Symbol.TheVariants as symbol
 use Rattle.ob0_tree.specs.Lexeme.{Terminal, Name, Number, WordOrSymbol, EndOfText}
 use Rattle.ob0_tree.specs.Tree.{Sort}
-use Rattle.ob0_parse_descent.specs.Descent.{ProductionPart, token, name, number, nonterminal, text_end, ProductionChoice, parts, missing, too_deep, chosen_production, Stop, Done, Expects, Deep, Descends, done, taken, other, made, absent, deep}
-use Rattle.ob0_parse_descent.specs.declared.refusal.Expected.TheVariants as expected
+use Rattle.ob0_parse_descent.specs.Descent.{ProductionPart, token, name, number, nonterminal, text_end, ProductionChoice, parts, missing, too_deep, chosen_production, Stop, Done, Expects, TooDeepAt, Descends, done, taken, other, made, absent, deep}
+use Rattle.ob0_parse_descent.specs.declared.refusal.ExpectedSyntax.TheVariants as expected
 
 -- Numbers the reserved words and symbols, so that they can be compared.
 
@@ -162,7 +162,7 @@ abbrev pub stop_of : ℕ → List ProductionPart → ℕ → List (Terminal ℕ)
 stop_of zero ps i tokens = None
 stop_of (suc n) [] i tokens = Some Done
 stop_of (suc n) (nonterminal s room ∷ ps) i tokens =
-    elim (chosen_production s room tokens) as (λ c. Option Stop) [ parts qs ↦ stop_of n (qs ++ ps) i tokens | missing e ↦ Some (Expects i e) | too_deep ↦ Some (Deep i) ]
+    elim (chosen_production s room tokens) as (λ c. Option Stop) [ parts qs ↦ stop_of n (qs ++ ps) i tokens | missing e ↦ Some (Expects i e) | too_deep ↦ Some (TooDeepAt i) ]
 stop_of (suc n) (token (kind.ReservedWord w) ∷ ps) i (x ∷ tokens) =
     elim (is_word w x) as (λ b. Option Stop) [ true ↦ stop_of n ps (i + 1) tokens | false ↦ Some (Expects i (expected.Word w)) ]
 stop_of (suc n) (token (kind.Symbol w) ∷ ps) i (x ∷ tokens) =
@@ -200,7 +200,7 @@ sign_isnt w x e is = true≢false (sym (eq-eqb (sign_code w) (sign_code w) refl)
 
 module _ (n : ℕ) (further : (ps : List ProductionPart) (i : ℕ) (tokens : List (Terminal ℕ)) (o : Stop) → stop_of n ps i tokens ≡ Some o → Descends ps i tokens o) where
   by_choice : (s : Sort) (room : ℕ) (ps : List ProductionPart) (i : ℕ) (tokens : List (Terminal ℕ)) (o : Stop) (c : ProductionChoice) → chosen_production s room tokens ≡ c
-      → elim c as (λ c. Option Stop) [ parts qs ↦ stop_of n (qs ++ ps) i tokens | missing e ↦ Some (Expects i e) | too_deep ↦ Some (Deep i) ] ≡ Some o → Descends (nonterminal s room ∷ ps) i tokens o
+      → elim c as (λ c. Option Stop) [ parts qs ↦ stop_of n (qs ++ ps) i tokens | missing e ↦ Some (Expects i e) | too_deep ↦ Some (TooDeepAt i) ] ≡ Some o → Descends (nonterminal s room ∷ ps) i tokens o
   by_choice s room ps i tokens o (parts qs) c e = made qs c (further (qs ++ ps) i tokens o e)
   by_choice s room ps i tokens o (missing x) c e = subst (λ y. Descends (nonterminal s room ∷ ps) i tokens y) (same_stop e) (absent c)
   by_choice s room ps i tokens o too_deep c e = subst (λ y. Descends (nonterminal s room ∷ ps) i tokens y) (same_stop e) (deep c)

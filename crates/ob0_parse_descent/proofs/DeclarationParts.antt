@@ -6,12 +6,12 @@ use Rattle.ob0_scan.specs.declared.lexeme.ReservedWord.TheVariants as reserved
 use Rattle.ob0_scan.specs.declared.lexeme.Symbol.TheVariants as symbol
 use Rattle.ob0_scan.specs.declared.lexeme.Token.{Token}
 use Rattle.ob0_tree.specs.Lexeme.{Terminal, Name, WordOrSymbol, EndOfText}
-use Rattle.ob0_tree.specs.Tree.{formals, further_section, constant, constants, type_definition, type_definitions, variable, variables, procedure, body, expression, names, written_type, fields, section, block, module_text, some_fields, listed, no_formals, some_formals, value_section, variable_section, declares_constant, declares_type, declares_variable, declares_procedure, declares, forms_block, is_module, item, items, maybe, Tree, spell, single_token}
-use Rattle.ob0_tree.specs.Places.{index_terminal}
+use Rattle.ob0_tree.specs.Tree.{formals, further_section, constant, constants, type_definition, type_definitions, variable, variables, procedure, body, expression, names, written_type, fields, section, block, module_text, some_fields, listed, no_formals, some_formals, value_section, variable_section, declares_constant, declares_type, declares_variable, declares_procedure, declares, forms_block, is_module, item, items, maybe, Tree, spell, single_token_list}
+use Rattle.ob0_tree.specs.Places.{indexed_terminal}
 use Rattle.ob0_parse_descent.specs.Follow.{rank, EndsConstruct, NextHasRank}
-use Rattle.ob0_parse_descent.specs.Reading.{rest, ProductionPart, token, name, nonterminal, text_end, BeginsWithParts, HaveSameHead, DescentsEndWithSameStop, IsReadTree, FailsToRead, ItemFails, IsTokenOtherThan, IsNotIdentifier, TellsIfTokenAt, TellsIfIdentifierAt, TellsIfSectionMayBegin, IsReadList}
-use Rattle.ob0_parse_descent.specs.Descent.{parts, symbol_part, is_section_next, chosen_production, made, deep}
-use Rattle.ob0_parse_descent.specs.declared.refusal.Expected.TheVariants as expected
+use Rattle.ob0_parse_descent.specs.Reading.{rest, ProductionPart, token, name, nonterminal, text_end, BeginsWithParts, HaveSameFirstToken, DescentsEndWithSameStop, IsReadTree, FailsToRead, ItemBeginsButCantBeRead, IsTokenOtherThan, IsNotIdentifier, TellsIfTokenAt, TellsIfIdentifierAt, TellsIfParameterSectionMayBegin, IsReadList}
+use Rattle.ob0_parse_descent.specs.Descent.{parts, symbol_part, is_parameter_section_next, chosen_production, made, deep}
+use Rattle.ob0_parse_descent.specs.declared.refusal.ExpectedSyntax.TheVariants as expected
 use Rattle.ob0_parse_descent.proofs.Descent.{both, by, read_name, read_mark, read_made, read_led, read_opened, read_back, unmade}
 use Rattle.ob0_parse_descent.specs.declared.refusal.ParseRefusal.{ParseRefusal}
 use Rattle.ob0_parse_descent.specs.declared.refusal.ParseRefusal.TheVariants.{Syntax, TooDeep}
@@ -20,7 +20,7 @@ use Rattle.ob0_parse_descent.proofs.Refusals.{select, fails_by, fails_weaken, fa
 use Rattle.ob0_parse_descent.proofs.Expressions.{joined, head_at, too_deep_at_once}
 use Rattle.ob0_parse_descent.proofs.Leads.{fails_here, stops_here, only_zero}
 use Rattle.ob0_tree.specs.declared.tree.ParameterSection.{ParameterSection}
-use Rattle.ob0_tree.specs.View.{section_of, further_section_of, formals_of_list, items_of}
+use Rattle.ob0_tree.specs.View.{parameter_section_of, further_parameter_section_of, formals_of_list, items_of}
 use Rattle.ob0_parse_descent.proofs.TypeParts.{unnested, typed_following, chosen_fields}
 use Rattle.ob0_parse_descent.proofs.Apart.{name_not_mark}
 
@@ -43,7 +43,7 @@ taken_value_section {room = room} ns t p = record { spelled = p.spelled; shallow
 pub taken_variable_section : {room : ℕ} {ts : List Token} {at n : ℕ} (ns : Tree ℕ names) (t : Tree ℕ written_type) → rest ts at ≡ WordOrSymbol (kind.ReservedWord reserved.Var) ∷ rest ts (at + 1) → IsReadTree (some_fields ns t) room ts (at + 1) n → IsReadTree (variable_section ns t) room ts at n
 taken_variable_section {room = room} ns t here p = record { spelled = here ∙ ap (λ y. WordOrSymbol (kind.ReservedWord reserved.Var) ∷ y) p.spelled; shallow = p.shallow; only = λ u z w h s e. only_zero (variable_section ns t) u z w refl s e; reads = by (read_led (typed_following room) refl here) (typed_read ns t p); within = p.within; forward = omega (arith, p.forward) }
 
-value_parts : (room : ℕ) (ts : List Token) (at : ℕ) (w : List (Terminal ℕ)) → IsTokenOtherThan (WordOrSymbol (kind.ReservedWord reserved.Var)) ts at → HaveSameHead (rest ts at) w → BeginsWithParts (nonterminal section room ∷ []) w → BeginsWithParts (typed_following room) w
+value_parts : (room : ℕ) (ts : List Token) (at : ℕ) (w : List (Terminal ℕ)) → IsTokenOtherThan (WordOrSymbol (kind.ReservedWord reserved.Var)) ts at → HaveSameFirstToken (rest ts at) w → BeginsWithParts (nonterminal section room ∷ []) w → BeginsWithParts (typed_following room) w
 value_parts room ts at w o h (value_section ns t, z, e, n, s, b) = (ns, _, e ∙ append_assoc (spell ns) _ z, unnested ns, omega arith, (_, refl, (t, z, refl, n, s, tt)))
 value_parts room ts at w o h (variable_section ns t, z, e, n, s, b) = absurd (o.differs (head_of (sym o.here ∙ h.is) ∙ head_of (sym h.alike ∙ e)))
 
@@ -63,40 +63,40 @@ abbrev pub formals_following : ℕ → List ProductionPart
 formals_following room = nonterminal section room ∷ nonterminal (items further_section) room ∷ token (kind.Symbol symbol.RightParen) ∷ []
 
 -- The token after `(` determines the production of formal parameters.
-formals_read : {room : ℕ} {ts : List Token} {at : ℕ} {b : Bool} → is_section_next (rest ts (at + 1)) ≡ b → rest ts at ≡ WordOrSymbol (kind.Symbol symbol.LeftParen) ∷ rest ts (at + 1) → DescentsEndWithSameStop (nonterminal (item formals) room ∷ []) (if b then formals_following room else token (kind.Symbol symbol.RightParen) ∷ []) ts at (at + 1)
+formals_read : {room : ℕ} {ts : List Token} {at : ℕ} {b : Bool} → is_parameter_section_next (rest ts (at + 1)) ≡ b → rest ts at ≡ WordOrSymbol (kind.Symbol symbol.LeftParen) ∷ rest ts (at + 1) → DescentsEndWithSameStop (nonterminal (item formals) room ∷ []) (if b then formals_following room else token (kind.Symbol symbol.RightParen) ∷ []) ts at (at + 1)
 formals_read {room = room} {b = true} e here = read_led (formals_following room) (ap (λ c. if c then parts (symbol_part symbol.LeftParen ∷ formals_following room) else parts (symbol_part symbol.LeftParen ∷ symbol_part symbol.RightParen ∷ [])) e) here
 formals_read {room = room} {b = false} e here = read_led (token (kind.Symbol symbol.RightParen) ∷ []) (ap (λ c. if c then parts (symbol_part symbol.LeftParen ∷ formals_following room) else parts (symbol_part symbol.LeftParen ∷ symbol_part symbol.RightParen ∷ [])) e) here
 
-no_section : (x : Terminal ℕ) (w : List (Terminal ℕ)) → rank x ≢ 7 → x ≢ WordOrSymbol (kind.ReservedWord reserved.Var) → is_section_next (x ∷ w) ≡ false
+no_section : (x : Terminal ℕ) (w : List (Terminal ℕ)) → rank x ≢ 7 → x ≢ WordOrSymbol (kind.ReservedWord reserved.Var) → is_parameter_section_next (x ∷ w) ≡ false
 no_section (Name n) w p o = absurd (p refl)
 no_section (WordOrSymbol (kind.ReservedWord reserved.Var)) w p o = absurd (o refl)
 no_section x w p o = refl
 
 -- If an identifier is next, a section of formal parameters may begin. The next lemmas prove the
--- other answers of `section_may_begin`.
-pub name_is_section : (ts : List Token) (at : ℕ) → TellsIfIdentifierAt ts at true → TellsIfSectionMayBegin ts at true
-name_is_section ts at h = (record { fault = Name at; here = h.0; differs = λ e. cc; within = omega (arith, h.1) }, ap is_section_next h.0)
+-- other answers of `parameter_section_may_begin`.
+pub name_is_section : (ts : List Token) (at : ℕ) → TellsIfIdentifierAt ts at true → TellsIfParameterSectionMayBegin ts at true
+name_is_section ts at h = (record { fault = Name at; here = h.0; differs = λ e. cc; within = omega (arith, h.1) }, ap is_parameter_section_next h.0)
 
-pub word_is_section : {ts : List Token} {at : ℕ} (b : Bool) → IsNotIdentifier ts at → TellsIfTokenAt (kind.ReservedWord reserved.Var) ts at b → TellsIfSectionMayBegin ts at b
-word_is_section true unnamed h = (record { fault = WordOrSymbol (kind.ReservedWord reserved.Var); here = h.0; differs = λ e. cc; within = omega (arith, h.1) }, ap is_section_next h.0)
+pub word_is_section : {ts : List Token} {at : ℕ} (b : Bool) → IsNotIdentifier ts at → TellsIfTokenAt (kind.ReservedWord reserved.Var) ts at b → TellsIfParameterSectionMayBegin ts at b
+word_is_section true unnamed h = (record { fault = WordOrSymbol (kind.ReservedWord reserved.Var); here = h.0; differs = λ e. cc; within = omega (arith, h.1) }, ap is_parameter_section_next h.0)
 word_is_section false unnamed o = (unnamed, o)
 
-pub section_next : (a : Tree ℕ section) (x : List (Terminal ℕ)) → is_section_next (spell a ++ x) ≡ true
+pub section_next : (a : Tree ℕ section) (x : List (Terminal ℕ)) → is_parameter_section_next (spell a ++ x) ≡ true
 section_next (value_section (listed k ks) t) x = refl
 section_next (variable_section ns t) x = refl
 
-no_parts : (room : ℕ) (ts : List Token) (at : ℕ) (w : List (Terminal ℕ)) → IsNotIdentifier ts at → IsTokenOtherThan (WordOrSymbol (kind.ReservedWord reserved.Var)) ts at → HaveSameHead (rest ts at) w → BeginsWithParts (nonterminal (item formals) room ∷ []) (WordOrSymbol (kind.Symbol symbol.LeftParen) ∷ w) → BeginsWithParts (token (kind.Symbol symbol.RightParen) ∷ []) w
+no_parts : (room : ℕ) (ts : List Token) (at : ℕ) (w : List (Terminal ℕ)) → IsNotIdentifier ts at → IsTokenOtherThan (WordOrSymbol (kind.ReservedWord reserved.Var)) ts at → HaveSameFirstToken (rest ts at) w → BeginsWithParts (nonterminal (item formals) room ∷ []) (WordOrSymbol (kind.Symbol symbol.LeftParen) ∷ w) → BeginsWithParts (token (kind.Symbol symbol.RightParen) ∷ []) w
 no_parts room ts at w unnamed o h (no_formals, z, e, n, s, b) = (z, tail_of e, tt)
 no_parts room ts at w unnamed o h (some_formals (value_section (listed k ks) t) fs, z, e, n, s, b) = absurd (unnamed.ranked (ap rank (head_of (sym unnamed.here ∙ h.is) ∙ head_of (sym h.alike ∙ tail_of e))))
 no_parts room ts at w unnamed o h (some_formals (variable_section ns t) fs, z, e, n, s, b) = absurd (o.differs (head_of (sym o.here ∙ h.is) ∙ head_of (sym h.alike ∙ tail_of e)))
 
-pub formals_fail_none : {room : ℕ} {ts : List Token} {at : ℕ} {e : ParseRefusal} → IsNotIdentifier ts (at + 1) → IsTokenOtherThan (WordOrSymbol (kind.ReservedWord reserved.Var)) ts (at + 1) → rest ts at ≡ WordOrSymbol (kind.Symbol symbol.LeftParen) ∷ rest ts (at + 1) → FailsToRead (token (kind.Symbol symbol.RightParen) ∷ []) ts (at + 1) e → ItemFails formals room ts at e
+pub formals_fail_none : {room : ℕ} {ts : List Token} {at : ℕ} {e : ParseRefusal} → IsNotIdentifier ts (at + 1) → IsTokenOtherThan (WordOrSymbol (kind.ReservedWord reserved.Var)) ts (at + 1) → rest ts at ≡ WordOrSymbol (kind.Symbol symbol.LeftParen) ∷ rest ts (at + 1) → FailsToRead (token (kind.Symbol symbol.RightParen) ∷ []) ts (at + 1) e → ItemBeginsButCantBeRead formals room ts at e
 formals_fail_none {room = room} {ts = ts} {at = at} unnamed o here q = record {
   is_here = subst (λ y. NextHasRank 6 y) (sym here) refl;
-  fails = fails_following_alike {qs = token (kind.Symbol symbol.RightParen) ∷ []} (formals_read (ap is_section_next unnamed.here ∙ no_section unnamed.fault (rest ts (at + 1 + 1)) unnamed.ranked (λ e. o.differs (head_of (sym o.here ∙ unnamed.here) ∙ e))) here) here (λ w h b. no_parts room ts (at + 1) w unnamed o h b) q;
+  fails = fails_following_alike {qs = token (kind.Symbol symbol.RightParen) ∷ []} (formals_read (ap is_parameter_section_next unnamed.here ∙ no_section unnamed.fault (rest ts (at + 1 + 1)) unnamed.ranked (λ e. o.differs (head_of (sym o.here ∙ unnamed.here) ∙ e))) here) here (λ w h b. no_parts room ts (at + 1) w unnamed o h b) q;
 }
 
-some_parts : (room : ℕ) (ts : List Token) (at : ℕ) (w : List (Terminal ℕ)) → IsTokenOtherThan (WordOrSymbol (kind.Symbol symbol.RightParen)) ts at → HaveSameHead (rest ts at) w → BeginsWithParts (nonterminal (item formals) room ∷ []) (WordOrSymbol (kind.Symbol symbol.LeftParen) ∷ w) → BeginsWithParts (formals_following room) w
+some_parts : (room : ℕ) (ts : List Token) (at : ℕ) (w : List (Terminal ℕ)) → IsTokenOtherThan (WordOrSymbol (kind.Symbol symbol.RightParen)) ts at → HaveSameFirstToken (rest ts at) w → BeginsWithParts (nonterminal (item formals) room ∷ []) (WordOrSymbol (kind.Symbol symbol.LeftParen) ∷ w) → BeginsWithParts (formals_following room) w
 some_parts room ts at w o h (no_formals, z, e, n, s, b) = absurd (o.differs (head_of (sym o.here ∙ h.is) ∙ head_of (sym h.alike ∙ tail_of e)))
 some_parts room ts at w o h (some_formals a fs, z, e, n, s, b) = (
   a,
@@ -104,27 +104,27 @@ some_parts room ts at w o h (some_formals a fs, z, e, n, s, b) = (
   tail_of e ∙ append_assoc (spell a) _ z,
   omega arith,
   stops_closed fs (kind.Symbol symbol.RightParen) z 0 (omega arith) (omega arith),
-  (fs, WordOrSymbol (kind.Symbol symbol.RightParen) ∷ z, append_assoc (spell fs) (single_token (kind.Symbol symbol.RightParen)) z, omega arith, omega arith, (z, refl, tt)),
+  (fs, WordOrSymbol (kind.Symbol symbol.RightParen) ∷ z, append_assoc (spell fs) (single_token_list (kind.Symbol symbol.RightParen)) z, omega arith, omega arith, (z, refl, tt)),
 )
 
-pub formals_fail : {room : ℕ} {ts : List Token} {at : ℕ} {e : ParseRefusal} → IsTokenOtherThan (WordOrSymbol (kind.Symbol symbol.RightParen)) ts (at + 1) × (is_section_next (rest ts (at + 1)) ≡ true) → rest ts at ≡ WordOrSymbol (kind.Symbol symbol.LeftParen) ∷ rest ts (at + 1) → FailsToRead (formals_following room) ts (at + 1) e → ItemFails formals room ts at e
+pub formals_fail : {room : ℕ} {ts : List Token} {at : ℕ} {e : ParseRefusal} → IsTokenOtherThan (WordOrSymbol (kind.Symbol symbol.RightParen)) ts (at + 1) × (is_parameter_section_next (rest ts (at + 1)) ≡ true) → rest ts at ≡ WordOrSymbol (kind.Symbol symbol.LeftParen) ∷ rest ts (at + 1) → FailsToRead (formals_following room) ts (at + 1) e → ItemBeginsButCantBeRead formals room ts at e
 formals_fail {room = room} {ts = ts} {at = at} o here q = record {
   is_here = subst (λ y. NextHasRank 6 y) (sym here) refl;
   fails = fails_following_alike {qs = formals_following room} (formals_read o.1 here) here (λ w h b. some_parts room ts (at + 1) w o.0 h b) q;
 }
 
 pub taken_no_formals : {room : ℕ} {ts : List Token} {at n : ℕ} → rest ts at ≡ WordOrSymbol (kind.Symbol symbol.LeftParen) ∷ rest ts (at + 1) → (rest ts (at + 1) ≡ WordOrSymbol (kind.Symbol symbol.RightParen) ∷ rest ts n) × (at + 1 < length ts) × (n ≡ at + 1 + 1) → IsReadTree no_formals room ts at n
-taken_no_formals here close = record { spelled = here ∙ ap (λ y. WordOrSymbol (kind.Symbol symbol.LeftParen) ∷ y) close.0; shallow = omega arith; only = λ u z w h s e. only_zero no_formals u z w refl s e; reads = by (formals_read (ap is_section_next close.0) here) (read_mark close); within = omega (arith, close.1, close.2); forward = omega (arith, close.2) }
+taken_no_formals here close = record { spelled = here ∙ ap (λ y. WordOrSymbol (kind.Symbol symbol.LeftParen) ∷ y) close.0; shallow = omega arith; only = λ u z w h s e. only_zero no_formals u z w refl s e; reads = by (formals_read (ap is_parameter_section_next close.0) here) (read_mark close); within = omega (arith, close.1, close.2); forward = omega (arith, close.2) }
 
-pub taken_formals : {room : ℕ} {ts : List Token} {at m n : ℕ} (xs : List ParameterSection) → rest ts at ≡ WordOrSymbol (kind.Symbol symbol.LeftParen) ∷ rest ts (at + 1) → IsReadList section_of further_section_of xs room ts (at + 1) m → (rest ts m ≡ WordOrSymbol (kind.Symbol symbol.RightParen) ∷ rest ts n) × (m < length ts) × (n ≡ m + 1) → IsReadTree (formals_of_list xs) room ts at n
+pub taken_formals : {room : ℕ} {ts : List Token} {at m n : ℕ} (xs : List ParameterSection) → rest ts at ≡ WordOrSymbol (kind.Symbol symbol.LeftParen) ∷ rest ts (at + 1) → IsReadList parameter_section_of further_parameter_section_of xs room ts (at + 1) m → (rest ts m ≡ WordOrSymbol (kind.Symbol symbol.RightParen) ∷ rest ts n) × (m < length ts) × (n ≡ m + 1) → IsReadTree (formals_of_list xs) room ts at n
 taken_formals {room = room} {ts = ts} {at = at} {n = n} xs here p close =
-    let a = section_of p.first in
-    let fs = items_of further_section_of p.others in
+    let a = parameter_section_of p.first in
+    let fs = items_of further_parameter_section_of p.others in
     subst (λ l. IsReadTree (formals_of_list l) room ts at n) (sym p.is) record {
-      spelled = here ∙ ap (λ y. WordOrSymbol (kind.Symbol symbol.LeftParen) ∷ y) (joined _ (spell a) _ p.head.spelled (joined _ (spell fs) (single_token (kind.Symbol symbol.RightParen)) p.tail.spelled close.0));
+      spelled = here ∙ ap (λ y. WordOrSymbol (kind.Symbol symbol.LeftParen) ∷ y) (joined _ (spell a) _ p.head.spelled (joined _ (spell fs) (single_token_list (kind.Symbol symbol.RightParen)) p.tail.spelled close.0));
       shallow = omega (arith, p.head.shallow, p.tail.shallow);
       only = λ u z w h s e. only_zero (some_formals a fs) u z w refl s e;
-      reads = by (formals_read (ap is_section_next p.head.spelled ∙ section_next a (rest ts p.middle)) here) (both p.head.reads (both p.tail.reads (read_mark close)));
+      reads = by (formals_read (ap is_parameter_section_next p.head.spelled ∙ section_next a (rest ts p.middle)) here) (both p.head.reads (both p.tail.reads (read_mark close)));
       within = omega (arith, close.1, close.2);
       forward = omega (arith, p.head.forward, p.tail.forward, close.2);
     }
@@ -133,7 +133,7 @@ taken_formals {room = room} {ts = ts} {at = at} {n = n} xs here p close =
 
 pub taken_constant : {room : ℕ} {ts : List Token} {at m n k : ℕ} (a : Tree ℕ expression) → rest ts at ≡ Name at ∷ rest ts (at + 1) → (rest ts (at + 1) ≡ WordOrSymbol (kind.Symbol symbol.Equal) ∷ rest ts m) × (at + 1 < length ts) × (m ≡ at + 1 + 1) → IsReadTree a room ts m n → (rest ts n ≡ WordOrSymbol (kind.Symbol symbol.Semicolon) ∷ rest ts k) × (n < length ts) × (k ≡ n + 1) → IsReadTree (declares_constant at a) room ts at k
 taken_constant {at = at} a here equal p close = record {
-  spelled = here ∙ ap (λ y. Name at ∷ y) (equal.0 ∙ ap (λ y. WordOrSymbol (kind.Symbol symbol.Equal) ∷ y) (joined _ (spell a) (single_token (kind.Symbol symbol.Semicolon)) p.spelled close.0));
+  spelled = here ∙ ap (λ y. Name at ∷ y) (equal.0 ∙ ap (λ y. WordOrSymbol (kind.Symbol symbol.Equal) ∷ y) (joined _ (spell a) (single_token_list (kind.Symbol symbol.Semicolon)) p.spelled close.0));
   shallow = p.shallow;
   only = λ u z w h s e. only_zero (declares_constant at a) u z w refl s e;
   reads = by (read_made refl) (both (read_name here refl) (both (read_mark equal) (both p.reads (read_mark close))));
@@ -145,16 +145,16 @@ abbrev pub constant_following : ℕ → List ProductionPart
 constant_following room = name ∷ token (kind.Symbol symbol.Equal) ∷ nonterminal expression room ∷ token (kind.Symbol symbol.Semicolon) ∷ []
 
 constant_parts : (room : ℕ) (w : List (Terminal ℕ)) → BeginsWithParts (nonterminal (item constant) room ∷ []) w → BeginsWithParts (constant_following room) w
-constant_parts room w (declares_constant k a, z, e, n, s, b) = (k, _, e, (_, refl, (a, WordOrSymbol (kind.Symbol symbol.Semicolon) ∷ z, append_assoc (spell a) (single_token (kind.Symbol symbol.Semicolon)) z, n, omega arith, (z, refl, tt))))
+constant_parts room w (declares_constant k a, z, e, n, s, b) = (k, _, e, (_, refl, (a, WordOrSymbol (kind.Symbol symbol.Semicolon) ∷ z, append_assoc (spell a) (single_token_list (kind.Symbol symbol.Semicolon)) z, n, omega arith, (z, refl, tt))))
 
-pub constant_fails : {room : ℕ} {ts : List Token} {at : ℕ} {e : ParseRefusal} → rest ts at ≡ Name at ∷ rest ts (at + 1) → FailsToRead (constant_following room) ts at e → ItemFails constant room ts at e
+pub constant_fails : {room : ℕ} {ts : List Token} {at : ℕ} {e : ParseRefusal} → rest ts at ≡ Name at ∷ rest ts (at + 1) → FailsToRead (constant_following room) ts at e → ItemBeginsButCantBeRead constant room ts at e
 constant_fails {room = room} here q = record { is_here = subst (λ y. NextHasRank 7 y) (sym here) refl; fails = fails_weaken {qs = constant_following room} (read_made refl) (λ w h b. constant_parts room w b) q }
 
 -- Lemmas on declarations of types: `ident "=" type ";"`.
 
 pub taken_type_name : {room : ℕ} {ts : List Token} {at m n k : ℕ} (a : Tree ℕ written_type) → rest ts at ≡ Name at ∷ rest ts (at + 1) → (rest ts (at + 1) ≡ WordOrSymbol (kind.Symbol symbol.Equal) ∷ rest ts m) × (at + 1 < length ts) × (m ≡ at + 1 + 1) → IsReadTree a room ts m n → (rest ts n ≡ WordOrSymbol (kind.Symbol symbol.Semicolon) ∷ rest ts k) × (n < length ts) × (k ≡ n + 1) → IsReadTree (declares_type at a) room ts at k
 taken_type_name {at = at} a here equal p close = record {
-  spelled = here ∙ ap (λ y. Name at ∷ y) (equal.0 ∙ ap (λ y. WordOrSymbol (kind.Symbol symbol.Equal) ∷ y) (joined _ (spell a) (single_token (kind.Symbol symbol.Semicolon)) p.spelled close.0));
+  spelled = here ∙ ap (λ y. Name at ∷ y) (equal.0 ∙ ap (λ y. WordOrSymbol (kind.Symbol symbol.Equal) ∷ y) (joined _ (spell a) (single_token_list (kind.Symbol symbol.Semicolon)) p.spelled close.0));
   shallow = p.shallow;
   only = λ u z w h s e. only_zero (declares_type at a) u z w refl s e;
   reads = by (read_made refl) (both (read_name here refl) (both (read_mark equal) (both p.reads (read_mark close))));
@@ -166,16 +166,16 @@ abbrev pub type_name_following : ℕ → List ProductionPart
 type_name_following room = name ∷ token (kind.Symbol symbol.Equal) ∷ nonterminal written_type room ∷ token (kind.Symbol symbol.Semicolon) ∷ []
 
 type_name_parts : (room : ℕ) (w : List (Terminal ℕ)) → BeginsWithParts (nonterminal (item type_definition) room ∷ []) w → BeginsWithParts (type_name_following room) w
-type_name_parts room w (declares_type k a, z, e, n, s, b) = (k, _, e, (_, refl, (a, WordOrSymbol (kind.Symbol symbol.Semicolon) ∷ z, append_assoc (spell a) (single_token (kind.Symbol symbol.Semicolon)) z, n, omega arith, (z, refl, tt))))
+type_name_parts room w (declares_type k a, z, e, n, s, b) = (k, _, e, (_, refl, (a, WordOrSymbol (kind.Symbol symbol.Semicolon) ∷ z, append_assoc (spell a) (single_token_list (kind.Symbol symbol.Semicolon)) z, n, omega arith, (z, refl, tt))))
 
-pub type_name_fails : {room : ℕ} {ts : List Token} {at : ℕ} {e : ParseRefusal} → rest ts at ≡ Name at ∷ rest ts (at + 1) → FailsToRead (type_name_following room) ts at e → ItemFails type_definition room ts at e
+pub type_name_fails : {room : ℕ} {ts : List Token} {at : ℕ} {e : ParseRefusal} → rest ts at ≡ Name at ∷ rest ts (at + 1) → FailsToRead (type_name_following room) ts at e → ItemBeginsButCantBeRead type_definition room ts at e
 type_name_fails {room = room} here q = record { is_here = subst (λ y. NextHasRank 7 y) (sym here) refl; fails = fails_weaken {qs = type_name_following room} (read_made refl) (λ w h b. type_name_parts room w b) q }
 
 -- Lemmas on declarations of variables: `names ":" type ";"`.
 
 pub taken_variable : {room : ℕ} {ts : List Token} {at m n : ℕ} (ns : Tree ℕ names) (t : Tree ℕ written_type) → IsReadTree (some_fields ns t) room ts at m → (rest ts m ≡ WordOrSymbol (kind.Symbol symbol.Semicolon) ∷ rest ts n) × (m < length ts) × (n ≡ m + 1) → IsReadTree (declares_variable ns t) room ts at n
 taken_variable {ts = ts} {n = n} ns t p close = record {
-  spelled = p.spelled ∙ (append_assoc (spell ns) _ _ ∙ (ap (λ y. spell ns ++ (WordOrSymbol (kind.Symbol symbol.Colon) ∷ (spell t ++ y))) close.0 ∙ (ap (λ y. spell ns ++ (WordOrSymbol (kind.Symbol symbol.Colon) ∷ y)) (sym (append_assoc (spell t) (single_token (kind.Symbol symbol.Semicolon)) (rest ts n))) ∙ sym (append_assoc (spell ns) _ _))));
+  spelled = p.spelled ∙ (append_assoc (spell ns) _ _ ∙ (ap (λ y. spell ns ++ (WordOrSymbol (kind.Symbol symbol.Colon) ∷ (spell t ++ y))) close.0 ∙ (ap (λ y. spell ns ++ (WordOrSymbol (kind.Symbol symbol.Colon) ∷ y)) (sym (append_assoc (spell t) (single_token_list (kind.Symbol symbol.Semicolon)) (rest ts n))) ∙ sym (append_assoc (spell ns) _ _))));
   shallow = p.shallow;
   only = λ u z w h s e. only_zero (declares_variable ns t) u z w refl s e;
   reads = by (read_made refl) (record { stops_as_following = λ o more r. (typed_read ns t p).stops_as_following o (token (kind.Symbol symbol.Semicolon) ∷ more) ((read_mark close).stops_as_following o more r) });
@@ -188,16 +188,16 @@ variable_following room = nonterminal fields room ∷ token (kind.Symbol symbol.
 
 variable_typed : (room : ℕ) (w : List (Terminal ℕ)) → BeginsWithParts (nonterminal (item variable) room ∷ []) w → BeginsWithParts (typed_following room) w
 variable_typed room w (declares_variable ns t, z, e, n, s, b) =
-    (ns, _, e ∙ append_assoc (spell ns) _ z, unnested ns, omega arith, (_, refl, (t, WordOrSymbol (kind.Symbol symbol.Semicolon) ∷ z, append_assoc (spell t) (single_token (kind.Symbol symbol.Semicolon)) z, n, omega arith, tt)))
+    (ns, _, e ∙ append_assoc (spell ns) _ z, unnested ns, omega arith, (_, refl, (t, WordOrSymbol (kind.Symbol symbol.Semicolon) ∷ z, append_assoc (spell t) (single_token_list (kind.Symbol symbol.Semicolon)) z, n, omega arith, tt)))
 
 variable_closed : (room : ℕ) (w : List (Terminal ℕ)) → BeginsWithParts (nonterminal (item variable) room ∷ []) w → BeginsWithParts (variable_following room) w
 variable_closed room w (declares_variable ns t, z, e, n, s, b) =
-    (some_fields ns t, WordOrSymbol (kind.Symbol symbol.Semicolon) ∷ z, e ∙ (append_assoc (spell ns) _ z ∙ (ap (λ y. spell ns ++ (WordOrSymbol (kind.Symbol symbol.Colon) ∷ y)) (append_assoc (spell t) (single_token (kind.Symbol symbol.Semicolon)) z) ∙ sym (append_assoc (spell ns) _ _))), n, omega arith, (z, refl, tt))
+    (some_fields ns t, WordOrSymbol (kind.Symbol symbol.Semicolon) ∷ z, e ∙ (append_assoc (spell ns) _ z ∙ (ap (λ y. spell ns ++ (WordOrSymbol (kind.Symbol symbol.Colon) ∷ y)) (append_assoc (spell t) (single_token_list (kind.Symbol symbol.Semicolon)) z) ∙ sym (append_assoc (spell ns) _ _))), n, omega arith, (z, refl, tt))
 
-pub variable_fails_typed : {room : ℕ} {ts : List Token} {at : ℕ} {e : ParseRefusal} → rest ts at ≡ Name at ∷ rest ts (at + 1) → FailsToRead (typed_following room) ts at e → ItemFails variable room ts at e
+pub variable_fails_typed : {room : ℕ} {ts : List Token} {at : ℕ} {e : ParseRefusal} → rest ts at ≡ Name at ∷ rest ts (at + 1) → FailsToRead (typed_following room) ts at e → ItemBeginsButCantBeRead variable room ts at e
 variable_fails_typed {room = room} here q = record { is_here = subst (λ y. NextHasRank 7 y) (sym here) refl; fails = fails_by (λ o r more. made _ refl (r (token (kind.Symbol symbol.Semicolon) ∷ more))) (λ after r. select (λ w h b. variable_typed room w b) r) q }
 
-pub variable_fails : {room : ℕ} {ts : List Token} {at : ℕ} {e : ParseRefusal} → rest ts at ≡ Name at ∷ rest ts (at + 1) → FailsToRead (variable_following room) ts at e → ItemFails variable room ts at e
+pub variable_fails : {room : ℕ} {ts : List Token} {at : ℕ} {e : ParseRefusal} → rest ts at ≡ Name at ∷ rest ts (at + 1) → FailsToRead (variable_following room) ts at e → ItemBeginsButCantBeRead variable room ts at e
 variable_fails {room = room} here q = record { is_here = subst (λ y. NextHasRank 7 y) (sym here) refl; fails = fails_weaken {qs = variable_following room} (record { stops_as_following = λ o more r. made _ refl (unmade (ap (λ w. chosen_production fields room w) here) r) }) (λ w h b. variable_closed room w b) q }
 
 -- Lemmas on blocks: `declarations [BEGIN sequence]`.
@@ -208,7 +208,7 @@ block_parts room = nonterminal (maybe constants) room ∷ nonterminal (maybe typ
 block_read : {room : ℕ} {ts : List Token} {at : ℕ} → DescentsEndWithSameStop (nonterminal block room ∷ []) (block_parts room) ts at at
 block_read = record { stops_as_following = λ o more r. made _ refl (made _ refl r) }
 
-block_only : {room : ℕ} {ts : List Token} {at i j k l n : ℕ} (cs : Tree ℕ (maybe constants)) (ds : Tree ℕ (maybe type_definitions)) (vs : Tree ℕ (maybe variables)) (ps : Tree ℕ (items procedure)) (b : Tree ℕ (maybe body)) → IsReadTree cs room ts at i → IsReadTree ds room ts i j → IsReadTree vs room ts j k → IsReadTree ps room ts k l → IsReadTree b room ts l n → (u : Tree ℕ block) (z w : List (Terminal ℕ)) → HaveSameHead (rest ts n) w → EndsConstruct 16 z → spell u ++ z ≡ ((spell cs ++ (spell ds ++ (spell vs ++ spell ps))) ++ spell b) ++ w → (u ≡ forms_block (declares cs ds vs ps) b) × (z ≡ w)
+block_only : {room : ℕ} {ts : List Token} {at i j k l n : ℕ} (cs : Tree ℕ (maybe constants)) (ds : Tree ℕ (maybe type_definitions)) (vs : Tree ℕ (maybe variables)) (ps : Tree ℕ (items procedure)) (b : Tree ℕ (maybe body)) → IsReadTree cs room ts at i → IsReadTree ds room ts i j → IsReadTree vs room ts j k → IsReadTree ps room ts k l → IsReadTree b room ts l n → (u : Tree ℕ block) (z w : List (Terminal ℕ)) → HaveSameFirstToken (rest ts n) w → EndsConstruct 16 z → spell u ++ z ≡ ((spell cs ++ (spell ds ++ (spell vs ++ spell ps))) ++ spell b) ++ w → (u ≡ forms_block (declares cs ds vs ps) b) × (z ≡ w)
 block_only cs ds vs ps b c d v p q (forms_block (declares cs' ds' vs' ps') b') z w h s e =
     let h4 = head_at b q w h in
     let h3 = head_at ps p (spell b ++ w) h4 in
@@ -273,13 +273,13 @@ procedure_parts : (room inner : ℕ) → room ≡ inner + 1 → (w : List (Termi
 procedure_parts room inner d w (declares_procedure x fs b y, z, e, n, s, q) =
     (x, _, tail_of e, (fs, _, append_assoc (spell fs) _ z, omega arith, omega arith, (_, refl, (b, WordOrSymbol (kind.ReservedWord reserved.End) ∷ Name y ∷ WordOrSymbol (kind.Symbol symbol.Semicolon) ∷ z, append_assoc (spell b) _ z, omega arith, omega arith, (_, refl, (y, _, refl, (z, refl, tt)))))))
 
-pub procedure_fails : {room inner : ℕ} {ts : List Token} {at : ℕ} {e : ParseRefusal} → room ≡ inner + 1 → rest ts at ≡ WordOrSymbol (kind.ReservedWord reserved.Procedure) ∷ rest ts (at + 1) → FailsToRead (procedure_following inner) ts (at + 1) e → ItemFails procedure room ts at e
+pub procedure_fails : {room inner : ℕ} {ts : List Token} {at : ℕ} {e : ParseRefusal} → room ≡ inner + 1 → rest ts at ≡ WordOrSymbol (kind.ReservedWord reserved.Procedure) ∷ rest ts (at + 1) → FailsToRead (procedure_following inner) ts (at + 1) e → ItemBeginsButCantBeRead procedure room ts at e
 procedure_fails {room = room} {inner = inner} d here q = record { is_here = subst (λ y. NextHasRank 15 y) (sym here) refl; fails = fails_following {qs = procedure_following inner} (read_opened inner procedure_following refl d here) here (procedure_parts room inner d) q }
 
 no_procedure : (w : List (Terminal ℕ)) → BeginsWithParts (nonterminal (item procedure) 0 ∷ []) (WordOrSymbol (kind.ReservedWord reserved.Procedure) ∷ w) → ⊥
 no_procedure w (declares_procedure x fs b y, z, e, n, s, q) = omega arith
 
-pub procedure_too_deep : {ts : List Token} {at room : ℕ} {e : ParseRefusal} → at < length ts → (room ≡ 0) × (e ≡ TooDeep at) → rest ts at ≡ WordOrSymbol (kind.ReservedWord reserved.Procedure) ∷ rest ts (at + 1) → ItemFails procedure room ts at e
+pub procedure_too_deep : {ts : List Token} {at room : ℕ} {e : ParseRefusal} → at < length ts → (room ≡ 0) × (e ≡ TooDeep at) → rest ts at ≡ WordOrSymbol (kind.ReservedWord reserved.Procedure) ∷ rest ts (at + 1) → ItemBeginsButCantBeRead procedure room ts at e
 procedure_too_deep {ts = ts} {at = at} {e = e} l o here = record {
   is_here = subst (λ y. NextHasRank 15 y) (sym here) refl;
   fails = subst (λ r. FailsToRead (nonterminal (item procedure) r ∷ []) ts at e) (sym o.0) (too_deep_at_once l o.1 here (λ more. deep (ap (λ w. chosen_production (item procedure) 0 w) here)) no_procedure);
@@ -308,11 +308,11 @@ pub module_fails : {ts : List Token} {e : ParseRefusal} → FailsToRead module_p
 module_fails q = fails_weaken {qs = module_parts} (record { stops_as_following = λ o more r. made _ refl r }) (λ w h b. module_head w b) q
 
 -- A token isn't the end of the text.
-not_end : (i : ℕ) (k : TokenKind) → index_terminal i k ≡ EndOfText → ⊥
+not_end : (i : ℕ) (k : TokenKind) → indexed_terminal i k ≡ EndOfText → ⊥
 not_end i kind.Identifier e = cc
 not_end i (kind.Integer _) e = cc
 not_end i (kind.ReservedWord _) e = cc
 not_end i (kind.Symbol _) e = cc
 
-pub ends_not : {ts : List Token} {at : ℕ} (k : TokenKind) → at ≤ length ts → rest ts at ≡ index_terminal at k ∷ rest ts (at + 1) → FailsToRead (text_end ∷ []) ts at (Syntax at expected.EndOfText)
-ends_not {at = at} k l here = fails_here (index_terminal at k) l here (stops_here _ _ here (not_end at k) refl) (λ u b. not_end at k (head_of b.1))
+pub ends_not : {ts : List Token} {at : ℕ} (k : TokenKind) → at ≤ length ts → rest ts at ≡ indexed_terminal at k ∷ rest ts (at + 1) → FailsToRead (text_end ∷ []) ts at (Syntax at expected.EndOfText)
+ends_not {at = at} k l here = fails_here (indexed_terminal at k) l here (stops_here _ _ here (not_end at k) refl) (λ u b. not_end at k (head_of b.1))

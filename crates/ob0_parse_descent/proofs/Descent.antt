@@ -7,29 +7,29 @@ use Rattle.ob0_tree.specs.Tree.{Item, item, items, maybe, Sort}
 use Rattle.ob0_parse_descent.specs.Follow.{rank, item_rank, NextHasRank}
 use Rattle.ob0_parse_descent.specs.Descent.{ProductionPart, token, name, number, nonterminal, parts, missing, too_deep, nested_choice, is_item_next, chosen_production, MatchesPart, Stop, Expects, Descends, done, taken, other, made, absent, deep}
 use Rattle.ob0_parse_descent.specs.Reading.{rest, DescentsEndWithSameStop}
-use Rattle.ob0_parse_descent.specs.declared.refusal.Expected.{Expected}
+use Rattle.ob0_parse_descent.specs.declared.refusal.ExpectedSyntax.{ExpectedSyntax}
 
 -- ---- there is only one stop
 
 same_parts : {a b : List ProductionPart} → parts a ≡ parts b → a ≡ b
 same_parts e = cc
 
-same_missing : {a b : Expected} → missing a ≡ missing b → a ≡ b
+same_missing : {a b : ExpectedSyntax} → missing a ≡ missing b → a ≡ b
 same_missing e = cc
 
-same_some : {a b : Expected} → Some a ≡ Some b → a ≡ b
+same_some : {a b : ExpectedSyntax} → Some a ≡ Some b → a ≡ b
 same_some e = cc
 
-none_some : {a : Expected} → ◌≡◌ {A = Option Expected} None (Some a) → ⊥
+none_some : {a : ExpectedSyntax} → ◌≡◌ {A = Option ExpectedSyntax} None (Some a) → ⊥
 none_some e = cc
 
-parts_missing : {a : List ProductionPart} {b : Expected} → parts a ≡ missing b → ⊥
+parts_missing : {a : List ProductionPart} {b : ExpectedSyntax} → parts a ≡ missing b → ⊥
 parts_missing e = cc
 
 parts_deep : {a : List ProductionPart} → parts a ≡ too_deep → ⊥
 parts_deep e = cc
 
-missing_deep : {a : Expected} → missing a ≡ too_deep → ⊥
+missing_deep : {a : ExpectedSyntax} → missing a ≡ too_deep → ⊥
 missing_deep e = cc
 
 pub same_stop : {ps : List ProductionPart} {i : ℕ} {tokens : List (Terminal ℕ)} {a b : Stop} → Descends ps i tokens a → Descends ps i tokens b → a ≡ b

@@ -8,7 +8,7 @@ use Rattle.ob0_tree.specs.declared.tree.Sign.TheVariants as signs
 use Rattle.ob0_tree.specs.Lexeme.{Terminal, Name, Number, WordOrSymbol}
 use Rattle.ob0_tree.specs.Tree.{Item, arguments, further_argument, further_section, Sort, item, items, maybe, expression, statement, fields, section, Tree, none, one, end, more, compares, relates, sum, adds, product, multiplies, designator, integer, parenthesised, negation, field, index, empty, assigns, calls, branches, while_loop, repeat_loop, no_arguments, some_arguments, then_argument, runs, then_statement, elsif_branch, else_branch, listed, then_name, named_type, array_type, record_type, no_fields, some_fields, then_fields, no_formals, some_formals, value_section, variable_section, then_section, declares_constant, declares_constants, declares_type, declares_types, declares_variable, declares_variables, declares_procedure, declares, begins, forms_block, is_module, spell, nesting}
 use Rattle.ob0_parse_descent.specs.Follow.{rank, item_rank, item_level, level, EndsConstruct, NextHasRank}
-use Rattle.ob0_parse_descent.specs.Descent.{ProductionPart, token, name, number, nonterminal, parts, symbol_part, is_item_next, is_expression_next, is_section_next, is_assignment_next, chosen_production, Stop, Descends, taken, made}
+use Rattle.ob0_parse_descent.specs.Descent.{ProductionPart, token, name, number, nonterminal, parts, symbol_part, is_item_next, is_expression_next, is_parameter_section_next, is_assignment_next, chosen_production, Stop, Descends, taken, made}
 use Rattle.ob0_parse_descent.proofs.Unique.{starts_item, stops_less, stops_items, stops_maybe, stops_else, stops_branches, stops_closed, below, unsigned_term}
 use Rattle.ob0_parse_descent.proofs.Refusals.{no_end}
 use Rattle.ob0_parse_descent.proofs.Descent.{next_item, no_next}
@@ -128,7 +128,7 @@ finishes (some_fields ns t) room ps z n s r =
 finishes (then_fields f) room ps z n s r = prod refl (tok (finishes f room ps z n s r))
 finishes no_formals room ps z n s r = prod refl (tok (tok r))
 finishes (some_formals f fs) room ps z n s r =
-    prod (ap (λ b. if b then parts (symbol_part symbol.LeftParen ∷ nonterminal section room ∷ nonterminal (items further_section) room ∷ symbol_part symbol.RightParen ∷ []) else parts (symbol_part symbol.LeftParen ∷ symbol_part symbol.RightParen ∷ [])) (ap is_section_next (append_assoc (spell f) _ z) ∙ section_next f _))
+    prod (ap (λ b. if b then parts (symbol_part symbol.LeftParen ∷ nonterminal section room ∷ nonterminal (items further_section) room ∷ symbol_part symbol.RightParen ∷ []) else parts (symbol_part symbol.LeftParen ∷ symbol_part symbol.RightParen ∷ [])) (ap is_parameter_section_next (append_assoc (spell f) _ z) ∙ section_next f _))
     (tok (assoc (spell f) _ z (finishes f room _ _ (omega arith) (stops_closed fs (kind.Symbol symbol.RightParen) z 0 (omega arith) (omega arith)) (assoc (spell fs) _ z (finishes fs room _ _ (omega arith) (omega arith) (tok r))))))
 finishes (value_section ns t) room ps z n s r =
     prod (chosen_typed room ns _ (append_assoc (spell ns) _ z)) (assoc (spell ns) _ z (finishes ns 0 _ _ (unnested ns) (omega arith) (tok (finishes t room ps z n s r))))

@@ -5,7 +5,7 @@ use Rattle.ob0_tree.specs.Lexeme.{Terminal}
 use Rattle.ob0_tree.specs.Tree.{Item, item, items, Tree, end, more, spell, nesting}
 use Rattle.ob0_tree.specs.View.{items_of}
 use Rattle.ob0_parse_descent.specs.Follow.{item_rank, item_level, EndsConstruct, NextHasRank}
-use Rattle.ob0_parse_descent.specs.Reading.{rest, ProductionPart, nonterminal, BeginsWithParts, HaveSameHead, DescentsEndWithSameStop, IsReadTree, FailsToRead, ItemFails}
+use Rattle.ob0_parse_descent.specs.Reading.{rest, ProductionPart, nonterminal, BeginsWithParts, HaveSameFirstToken, DescentsEndWithSameStop, IsReadTree, FailsToRead, ItemBeginsButCantBeRead}
 use Rattle.ob0_parse_descent.proofs.Descent.{as_is, both, by, read_more, read_end}
 use Rattle.ob0_parse_descent.specs.declared.refusal.ParseRefusal.{ParseRefusal}
 use Rattle.ob0_parse_descent.proofs.Unique.{not_here, starts_item, stops_items, below}
@@ -26,7 +26,7 @@ pub record Ahead {i : Item} (whole front : Tree ℕ (items i)) (z w : List (Term
 pub record Taking {i : Item} (t : Tree ℕ (items i)) (room : ℕ) (ts : List Token) (at next : ℕ) : Type 0 where
   pub spelled : rest ts at ≡ spell t ++ rest ts next
   pub shallow : nesting t ≤ room
-  pub only : (u : Tree ℕ (items i)) (z w : List (Terminal ℕ)) → HaveSameHead (rest ts next) w → EndsConstruct (item_rank i) z → spell u ++ z ≡ spell t ++ w → Ahead u t z w
+  pub only : (u : Tree ℕ (items i)) (z w : List (Terminal ℕ)) → HaveSameFirstToken (rest ts next) w → EndsConstruct (item_rank i) z → spell u ++ z ≡ spell t ++ w → Ahead u t z w
   pub reads : DescentsEndWithSameStop (nonterminal (items i) room ∷ []) (nonterminal (items i) room ∷ []) ts at next
   pub within : next ≤ length ts
   pub forward : at ≤ next
@@ -63,7 +63,7 @@ taking_more {i = i} f xs x room ts at m n p q = record {
   shallow = nesting_snoc f xs x room p.shallow q.shallow;
   only = λ u z w h s e.
       let e' : spell u ++ z ≡ spell (items_of f xs) ++ (spell (f x) ++ w) = e ∙ (ap (λ y. y ++ w) (spell_snoc f xs x) ∙ append_assoc (spell (items_of f xs)) (spell (f x)) w) in
-      let head : HaveSameHead (rest ts m) (spell (f x) ++ w) = subst (λ y. HaveSameHead y (spell (f x) ++ w)) (sym q.spelled) (head_following (spell (f x)) (rest ts n) w h) in
+      let head : HaveSameFirstToken (rest ts m) (spell (f x) ++ w) = subst (λ y. HaveSameFirstToken y (spell (f x) ++ w)) (sym q.spelled) (head_following (spell (f x)) (rest ts n) w h) in
       let ahead = p.only u z (spell (f x) ++ w) head s e' in
       ahead_more f xs x u ahead.others z w (λ v y t d. q.only v y w h t d) s ahead.is ahead.spelled;
   reads = by p.reads (by (read_more (subst (λ y. NextHasRank (item_rank i) y) (sym q.spelled) (starts_item (f x) (rest ts n)))) (both q.reads as_is));
@@ -105,7 +105,7 @@ next_item {i = i} room ts (more v vs) u z w h s n is e =
     (v, spell vs ++ z, sym e ∙ append_assoc (spell v) (spell vs) z, inner ts v vs room (subst (λ a. nesting a ≤ room) is n), stops_items vs z (item_level i) (below i) s, tt)
 
 -- If the next item is refused, the whole list of items is refused.
-pub taking_fails : {ps : List ProductionPart} {i : Item} {room : ℕ} {ts : List Token} {at next : ℕ} {e : ParseRefusal} (t : Tree ℕ (items i)) → Taking t room ts at next → ItemFails i room ts next e → FailsToRead (nonterminal (items i) room ∷ ps) ts at e
+pub taking_fails : {ps : List ProductionPart} {i : Item} {room : ℕ} {ts : List Token} {at next : ℕ} {e : ParseRefusal} (t : Tree ℕ (items i)) → Taking t room ts at next → ItemBeginsButCantBeRead i room ts next e → FailsToRead (nonterminal (items i) room ∷ ps) ts at e
 taking_fails {ps = ps} {i = i} {room = room} {ts = ts} {at = at} {next = next} t p q = fails_by (λ o r more. p.reads.stops_as_following o (ps ++ more) ((read_more q.is_here).stops_as_following o (ps ++ more) (r (nonterminal (items i) room ∷ (ps ++ more))))) (λ after r. record {
   passed = spell t ++ r.passed;
   fault = r.fault;

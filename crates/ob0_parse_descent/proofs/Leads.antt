@@ -6,7 +6,7 @@ use Rattle.ob0_scan.specs.declared.lexeme.ReservedWord.TheVariants as reserved
 use Rattle.ob0_scan.specs.declared.lexeme.Symbol.TheVariants as symbol
 use Rattle.ob0_scan.specs.declared.lexeme.Token.{Token}
 use Rattle.ob0_tree.specs.Lexeme.{Terminal, Name, Number, WordOrSymbol, EndOfText}
-use Rattle.ob0_parse_descent.specs.declared.refusal.Expected.{Expected}
+use Rattle.ob0_parse_descent.specs.declared.refusal.ExpectedSyntax.{ExpectedSyntax}
 use Rattle.ob0_parse_descent.specs.declared.refusal.ParseRefusal.{ParseRefusal}
 use Rattle.ob0_parse_descent.specs.declared.refusal.ParseRefusal.TheVariants.{Syntax}
 use Rattle.ob0_tree.specs.Tree.{Sort, Tree, spell}
@@ -14,7 +14,7 @@ use Rattle.ob0_parse_descent.specs.Follow.{rank, kind_rank, level, NextHasRank, 
 use Rattle.ob0_parse_descent.proofs.Unique.{same}
 use Rattle.ob0_parse_descent.specs.Reading.{rest, ProductionPart, token, name, BeginsWithParts, DescentStopsWith, FailsToRead, IsTokenOtherThan, IsNotIdentifier}
 use Rattle.ob0_parse_descent.specs.Descent.{MatchesPart, expected_part, expected_token, Expects, Descends, other}
-use Rattle.ob0_parse_descent.specs.declared.refusal.Expected.TheVariants as expected
+use Rattle.ob0_parse_descent.specs.declared.refusal.ExpectedSyntax.TheVariants as expected
 use Rattle.ob0_parse_descent.proofs.Refusals.{at_once, fails_by, in_name, in_token}
 
 -- Returns the only token of a rank, or None if several tokens or none have the rank.
@@ -93,14 +93,14 @@ no_named_item {ts = ts} {at = at} o s = o.ranked (subst (λ y. NextHasRank 7 y) 
 
 -- If parts can't begin with the next token, and the descent over them stops there, they are refused
 -- at that token.
-pub fails_here : {ps : List ProductionPart} {ts : List Token} {at : ℕ} {e : Expected} (x : Terminal ℕ) → at ≤ length ts → rest ts at ≡ x ∷ rest ts (at + 1) → DescentStopsWith ps ts at (Expects at e) → ((u : List (Terminal ℕ)) → BeginsWithParts ps (x ∷ u) → ⊥) → FailsToRead ps ts at (Syntax at e)
+pub fails_here : {ps : List ProductionPart} {ts : List Token} {at : ℕ} {e : ExpectedSyntax} (x : Terminal ℕ) → at ≤ length ts → rest ts at ≡ x ∷ rest ts (at + 1) → DescentStopsWith ps ts at (Expects at e) → ((u : List (Terminal ℕ)) → BeginsWithParts ps (x ∷ u) → ⊥) → FailsToRead ps ts at (Syntax at e)
 fails_here x l here reads never = record { why = (l, at_once here never); reads = reads }
 
 -- If the next token isn't this part, the descent stops there and expects the part.
-pub stops_here : {p : ProductionPart} {x : Terminal ℕ} {e : Expected} (ts : List Token) (at : ℕ) → rest ts at ≡ x ∷ rest ts (at + 1) → ¬ MatchesPart p x → expected_part p ≡ Some e → DescentStopsWith (p ∷ []) ts at (Expects at e)
+pub stops_here : {p : ProductionPart} {x : Terminal ℕ} {e : ExpectedSyntax} (ts : List Token) (at : ℕ) → rest ts at ≡ x ∷ rest ts (at + 1) → ¬ MatchesPart p x → expected_part p ≡ Some e → DescentStopsWith (p ∷ []) ts at (Expects at e)
 stops_here {p = p} {e = e} ts at here differs is more = subst (λ w. Descends (p ∷ more) at w (Expects at e)) (sym here) (other differs is)
 
-pub fails_token : {k : TokenKind} {ts : List Token} {at : ℕ} {x : Expected} → expected_token k ≡ Some x → IsTokenOtherThan (WordOrSymbol k) ts at → FailsToRead (token k ∷ []) ts at (Syntax at x)
+pub fails_token : {k : TokenKind} {ts : List Token} {at : ℕ} {x : ExpectedSyntax} → expected_token k ≡ Some x → IsTokenOtherThan (WordOrSymbol k) ts at → FailsToRead (token k ∷ []) ts at (Syntax at x)
 fails_token is o = fails_here o.fault o.within o.here (stops_here _ _ o.here o.differs is) (λ u b. o.differs (cc (b.1)))
 
 pub fails_name : {ts : List Token} {at : ℕ} → IsNotIdentifier ts at → FailsToRead (name ∷ []) ts at (Syntax at expected.Identifier)
@@ -116,7 +116,7 @@ inside q = cc
 pub fails_in_token : {k : TokenKind} {ps : List ProductionPart} {ts : List Token} {at : ℕ} {e : ParseRefusal} → IsTokenOtherThan (WordOrSymbol k) ts at × (Some e ≡ option_map (Syntax at) (expected_token k)) → FailsToRead (token k ∷ ps) ts at e
 fails_in_token {k = k} {ps = ps} {ts = ts} {at = at} {e = e} q = go (expected_token k) refl q.1
   where
-    go : (x : Option Expected) → expected_token k ≡ x → Some e ≡ option_map (Syntax at) x → FailsToRead (token k ∷ ps) ts at e
+    go : (x : Option ExpectedSyntax) → expected_token k ≡ x → Some e ≡ option_map (Syntax at) x → FailsToRead (token k ∷ ps) ts at e
     go None is same = absurd (some_none same)
     go (Some x) is same = subst (λ e. FailsToRead (token k ∷ ps) ts at e) (sym (inside same)) (fails_by (λ o r more. r (ps ++ more)) (λ after r. in_token r) (fails_token is q.0))
 

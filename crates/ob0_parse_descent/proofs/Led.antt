@@ -8,7 +8,7 @@ use Rattle.ob0_scan.specs.declared.lexeme.Token.{Token}
 use Rattle.ob0_tree.specs.Lexeme.{Terminal, WordOrSymbol}
 use Rattle.ob0_tree.specs.Tree.{Item, then_argument, then_statement, else_branch, then_fields, then_section, begins, declares_constants, declares_types, declares_variables, further_argument, further_statement, else_part, further_fields, further_section, body, constants, type_definitions, variables, constant, type_definition, variable, expression, statement, sequence, fields, section, Sort, item, items, Tree, spell, nesting}
 use Rattle.ob0_parse_descent.specs.Follow.{kind_rank, item_rank, item_level, level, NextHasRank}
-use Rattle.ob0_parse_descent.specs.Reading.{rest, token, nonterminal, BeginsWithParts, DescentsEndWithSameStop, IsReadTree, FailsToRead, ItemFails}
+use Rattle.ob0_parse_descent.specs.Reading.{rest, token, nonterminal, BeginsWithParts, DescentsEndWithSameStop, IsReadTree, FailsToRead, ItemBeginsButCantBeRead}
 use Rattle.ob0_parse_descent.specs.Descent.{parts, chosen_item_production}
 use Rattle.ob0_parse_descent.proofs.Descent.{by, read_led}
 use Rattle.ob0_parse_descent.specs.declared.refusal.ParseRefusal.{ParseRefusal}
@@ -50,7 +50,7 @@ led_parts {s = s} {i = i} room l w (u, z, e, n, stop, b) =
     let v = led_back l u z w (sym e) in
     (v.0, z, sym v.2, subst (λ y. y ≤ room) (ap nesting v.1 ∙ l.deep v.0) n, stops_less z (level s) (item_level i) l.lower stop, tt)
 
-pub led_fails : {s : Sort} {i : Item} {k : TokenKind} {make : Tree ℕ s → Tree ℕ (item i)} {room : ℕ} {ts : List Token} {at : ℕ} {e : ParseRefusal} → Leads k make → rest ts at ≡ WordOrSymbol k ∷ rest ts (at + 1) → FailsToRead (nonterminal s room ∷ []) ts (at + 1) e → ItemFails i room ts at e
+pub led_fails : {s : Sort} {i : Item} {k : TokenKind} {make : Tree ℕ s → Tree ℕ (item i)} {room : ℕ} {ts : List Token} {at : ℕ} {e : ParseRefusal} → Leads k make → rest ts at ≡ WordOrSymbol k ∷ rest ts (at + 1) → FailsToRead (nonterminal s room ∷ []) ts (at + 1) e → ItemBeginsButCantBeRead i room ts at e
 led_fails {s = s} {i = i} {k = k} {room = room} l here q = record {
   is_here = subst (λ y. NextHasRank (item_rank i) y) (sym here) l.ranked;
   fails = fails_following {qs = nonterminal s room ∷ []} (led_read l here) here (led_parts room l) q;

@@ -4,7 +4,7 @@ use Rattle.ob0_scan.specs.declared.lexeme.Token.{Token}
 use Rattle.ob0_tree.specs.Tree.{Item, Sort, item, items, Tree}
 use Rattle.ob0_tree.specs.View.{items_of}
 use Rattle.ob0_parse_descent.specs.Follow.{item_rank, NextHasRank}
-use Rattle.ob0_parse_descent.specs.Reading.{rest, ProductionPart, nonterminal, IsReadTree, FailsToRead, ItemFails, IsReadList}
+use Rattle.ob0_parse_descent.specs.Reading.{rest, ProductionPart, nonterminal, IsReadTree, FailsToRead, ItemBeginsButCantBeRead, IsReadList}
 use Rattle.ob0_parse_descent.specs.declared.refusal.ParseRefusal.{ParseRefusal}
 use Rattle.ob0_parse_descent.proofs.Refusals.{fails_pass}
 use Rattle.ob0_parse_descent.proofs.Items.{Taking, taking_none, taking_more, taking_done, taking_fails}
@@ -35,7 +35,7 @@ pub listing_done : {A : Type 0} {s : Sort} {i : Item} {view : A → Tree ℕ s} 
 listing_done {further = further} p absent = record { first = p.first; others = p.others; is = p.is; middle = p.middle; head = p.head; tail = taking_done (items_of further p.others) p.tail absent }
 
 -- If a further element is refused, the whole list is refused.
-pub listing_fails : {A : Type 0} {s : Sort} {i : Item} {view : A → Tree ℕ s} {further : A → Tree ℕ (item i)} {xs : List A} {ps : List ProductionPart} {room : ℕ} {ts : List Token} {at next : ℕ} {e : ParseRefusal} → Listing view further xs room ts at next → ItemFails i room ts next e → FailsToRead (nonterminal s room ∷ nonterminal (items i) room ∷ ps) ts at e
+pub listing_fails : {A : Type 0} {s : Sort} {i : Item} {view : A → Tree ℕ s} {further : A → Tree ℕ (item i)} {xs : List A} {ps : List ProductionPart} {room : ℕ} {ts : List Token} {at next : ℕ} {e : ParseRefusal} → Listing view further xs room ts at next → ItemBeginsButCantBeRead i room ts next e → FailsToRead (nonterminal s room ∷ nonterminal (items i) room ∷ ps) ts at e
 listing_fails {view = view} {further = further} p q = fails_pass (view p.first) p.head (taking_fails (items_of further p.others) p.tail q)
 
 -- If the part after all elements is refused, the list with that part is refused.

@@ -7,10 +7,10 @@ use Rattle.ob0_tree.specs.Tree.{selector, multiplier, addend, comparison, Tree, 
 use Rattle.std.proofs.lemmas.List.{nil_from_length}
 use Rattle.ob0_tree.specs.declared.tree.SimpleExpression.{SimpleExpression, out-SimpleExpression}
 use Rattle.ob0_tree.specs.declared.tree.Term.{out-Term}
-use Rattle.ob0_tree.specs.View.{items_of, simple_of, addend_of, term_of, multiplier_of, factor_of}
+use Rattle.ob0_tree.specs.View.{items_of, simple_expression_of, addend_of, term_of, multiplier_of, factor_of}
 use Rattle.ob0_tree.proofs.Viewed.{simple_parts, term_parts}
 use Rattle.ob0_parse_descent.specs.Follow.{rank, binding_rank, EndsConstruct, NextHasRank}
-use Rattle.ob0_parse_descent.specs.Reading.{terminal_or_end, rest, IsReadTree, IsSingleTokenFactor, HasNoSign, IsSignAt}
+use Rattle.ob0_parse_descent.specs.Reading.{terminal_or_end, rest, IsReadTree, IsSingleTokenFactor, BeginsWithoutSign, IsSignAt}
 use Rattle.ob0_parse_descent.proofs.NamedStatements.{true_not_false}
 use Rattle.ob0_parse_descent.proofs.Items.{taking_none, taking_done}
 use Rattle.ob0_parse_descent.proofs.Expressions.{taken_compares, taken_no_item, taken_sum, taken_product, taken_integer, taken_designator}
@@ -49,7 +49,7 @@ pub lone_simple : {ts : List Token} {at : ℕ} (f : Tree ℕ factor) (level room
 lone_simple {ts = ts} {at = at} f level room l lone =
     let term = lone_term f level room (omega (arith, l)) lone in
     let own = unsigned_term (product f end) (rest ts (at + 1)) in
-    let unsigned : HasNoSign (rest ts at) = record { plus = λ z e. own.plus z (sym term.spelled ∙ e); minus = λ z e. own.minus z (sym term.spelled ∙ e) } in
+    let unsigned : BeginsWithoutSign (rest ts at) = record { plus = λ z e. own.plus z (sym term.spelled ∙ e); minus = λ z e. own.minus z (sym term.spelled ∙ e) } in
     let sign : IsSignAt ts at None at = record { spelled = refl; forward = omega arith; within = omega (arith, term.within, term.forward); unsigned = unsigned; next_index = omega arith } in
     taken_sum None (product f end) end sign term (taking_done end (taking_none addend room ts (at + 1) term.within) (no_start (rest ts (at + 1)) 3 level l lone.stops))
 
@@ -64,7 +64,7 @@ not_some (Some x) e = absurd (true_not_false e)
 
 -- A simple expression without sign, further terms and further factors is the tree of its only
 -- factor.
-pub one_factor : (s : SimpleExpression) → is_some (out-SimpleExpression s).sign ≡ false → length (out-Term (out-SimpleExpression s).first).more.items ≡ 0 → length (out-SimpleExpression s).more.items ≡ 0 → simple_of s ≡ sum None (product (factor_of (out-Term (out-SimpleExpression s).first).first) end) end
+pub one_factor : (s : SimpleExpression) → is_some (out-SimpleExpression s).sign ≡ false → length (out-Term (out-SimpleExpression s).first).more.items ≡ 0 → length (out-SimpleExpression s).more.items ≡ 0 → simple_expression_of s ≡ sum None (product (factor_of (out-Term (out-SimpleExpression s).first).first) end) end
 one_factor s unsigned factors terms =
     let f = out-Term (out-SimpleExpression s).first in
     let first : term_of (out-SimpleExpression s).first ≡ product (factor_of f.first) end = term_parts (out-SimpleExpression s).first ∙ ap (λ xs. product (factor_of f.first) (items_of multiplier_of xs)) (nil_from_length f.more.items factors) in

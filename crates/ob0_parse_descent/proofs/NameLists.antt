@@ -6,9 +6,9 @@ use Rattle.ob0_scan.specs.declared.lexeme.Token.{Token}
 use Rattle.ob0_tree.specs.Lexeme.{Terminal, Name, WordOrSymbol}
 use Rattle.ob0_tree.specs.Tree.{item, items, further_name, names, Tree, end, more, listed, then_name, spell, nesting}
 use Rattle.ob0_parse_descent.specs.Follow.{EndsConstruct, NextHasRank}
-use Rattle.ob0_parse_descent.specs.Reading.{rest, name, nonterminal, BeginsWithParts, HaveSameHead, IsReadTree, FailsToRead, ItemFails, IsNotIdentifier}
+use Rattle.ob0_parse_descent.specs.Reading.{rest, name, nonterminal, BeginsWithParts, HaveSameFirstToken, IsReadTree, FailsToRead, ItemBeginsButCantBeRead, IsNotIdentifier}
 use Rattle.ob0_parse_descent.proofs.Descent.{both, by, read_name, read_made, read_led}
-use Rattle.ob0_parse_descent.specs.declared.refusal.Expected.TheVariants as expected
+use Rattle.ob0_parse_descent.specs.declared.refusal.ExpectedSyntax.TheVariants as expected
 use Rattle.ob0_parse_descent.specs.declared.refusal.ParseRefusal.{ParseRefusal}
 use Rattle.ob0_parse_descent.specs.declared.refusal.ParseRefusal.TheVariants.{Syntax}
 use Rattle.ob0_parse_descent.proofs.Unique.{tail_of, name_of}
@@ -32,13 +32,13 @@ taken_then_name {ts = ts} {at = at} {n = n} x here p = subst (λ y. IsReadTree (
 then_name_parts : (w : List (Terminal ℕ)) → BeginsWithParts (nonterminal (item further_name) 0 ∷ []) (WordOrSymbol (kind.Symbol symbol.Comma) ∷ w) → BeginsWithParts (name ∷ []) w
 then_name_parts w (then_name n, z, e, l, s, b) = (n, z, tail_of e, tt)
 
-pub then_name_fails : {ts : List Token} {at : ℕ} {e : ParseRefusal} → rest ts at ≡ WordOrSymbol (kind.Symbol symbol.Comma) ∷ rest ts (at + 1) → FailsToRead (name ∷ []) ts (at + 1) e → ItemFails further_name 0 ts at e
+pub then_name_fails : {ts : List Token} {at : ℕ} {e : ParseRefusal} → rest ts at ≡ WordOrSymbol (kind.Symbol symbol.Comma) ∷ rest ts (at + 1) → FailsToRead (name ∷ []) ts (at + 1) e → ItemBeginsButCantBeRead further_name 0 ts at e
 then_name_fails here q = record {
   is_here = subst (λ y. NextHasRank 5 y) (sym here) refl;
   fails = fails_following {qs = name ∷ []} (read_led (name ∷ []) refl here) here then_name_parts q;
 }
 
-listed_only : {ts : List Token} {m n : ℕ} (i : ℕ) (others : Tree ℕ (items further_name)) → IsReadTree others 0 ts m n → (u : Tree ℕ names) (z w : List (Terminal ℕ)) → HaveSameHead (rest ts n) w → EndsConstruct 5 z → spell u ++ z ≡ Name i ∷ (spell others ++ w) → (u ≡ listed i others) × (z ≡ w)
+listed_only : {ts : List Token} {m n : ℕ} (i : ℕ) (others : Tree ℕ (items further_name)) → IsReadTree others 0 ts m n → (u : Tree ℕ names) (z w : List (Terminal ℕ)) → HaveSameFirstToken (rest ts n) w → EndsConstruct 5 z → spell u ++ z ≡ Name i ∷ (spell others ++ w) → (u ≡ listed i others) × (z ≡ w)
 listed_only i others p (listed k us) z w h s e =
     let r = p.only us z w h s (tail_of e) in
     let same : k ≡ i = name_of e in
@@ -57,5 +57,5 @@ names_parts w (listed k us, z, e, l, s, b) = (k, spell us ++ z, e, (us, z, refl,
 pub names_fails_first : {ts : List Token} {at : ℕ} {e : ParseRefusal} → IsNotIdentifier ts at × (e ≡ Syntax at expected.Identifier) → FailsToRead (nonterminal names 0 ∷ []) ts at e
 names_fails_first q = fails_weaken {qs = name ∷ nonterminal (items further_name) 0 ∷ []} (read_made refl) (λ w h b. names_parts w b) (fails_in_name q)
 
-pub names_fails_more : {ts : List Token} {at m n : ℕ} {e : ParseRefusal} (others : Tree ℕ (items further_name)) → rest ts at ≡ Name at ∷ rest ts m → m ≡ at + 1 → Taking others 0 ts m n → ItemFails further_name 0 ts n e → FailsToRead (nonterminal names 0 ∷ []) ts at e
+pub names_fails_more : {ts : List Token} {at m n : ℕ} {e : ParseRefusal} (others : Tree ℕ (items further_name)) → rest ts at ≡ Name at ∷ rest ts m → m ≡ at + 1 → Taking others 0 ts m n → ItemBeginsButCantBeRead further_name 0 ts n e → FailsToRead (nonterminal names 0 ∷ []) ts at e
 names_fails_more others here l p q = fails_weaken {qs = name ∷ nonterminal (items further_name) 0 ∷ []} (read_made refl) (λ w h b. names_parts w b) (fails_pass_name here l (taking_fails others p q))

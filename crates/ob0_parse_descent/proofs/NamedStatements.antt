@@ -7,9 +7,9 @@ use Rattle.ob0_scan.specs.declared.lexeme.Token.{Token}
 use Rattle.ob0_tree.specs.Lexeme.{Terminal, Name, WordOrSymbol}
 use Rattle.ob0_tree.specs.Tree.{selector, arguments, expression, factor, statement, designator, empty, assigns, calls, branches, while_loop, repeat_loop, no_arguments, some_arguments, Sort, item, items, maybe, Tree, none, one, end, more, spell}
 use Rattle.ob0_parse_descent.specs.Follow.{rank, level, EndsConstruct, NextHasRank}
-use Rattle.ob0_parse_descent.specs.Reading.{rest, ProductionPart, token, name, nonterminal, BeginsWithParts, HaveSameHead, CantBegin, DescentsEndWithSameStop, IsReadTree, DescentStopsWith, FailsToRead, ItemFails, IsTokenOtherThan}
+use Rattle.ob0_parse_descent.specs.Reading.{rest, ProductionPart, token, name, nonterminal, BeginsWithParts, HaveSameFirstToken, CantBeginWithParts, DescentsEndWithSameStop, IsReadTree, DescentStopsWith, FailsToRead, ItemBeginsButCantBeRead, IsTokenOtherThan}
 use Rattle.ob0_parse_descent.specs.Descent.{parts, symbol_part, is_assignment_next, is_item_next, chosen_production, Stop, Descends, done, taken, made}
-use Rattle.ob0_parse_descent.specs.declared.refusal.Expected.TheVariants as expected
+use Rattle.ob0_parse_descent.specs.declared.refusal.ExpectedSyntax.TheVariants as expected
 use Rattle.ob0_parse_descent.proofs.Descent.{both, by, read_token, read_made, read_back, unmade, past_name, next_item, no_next}
 use Rattle.ob0_parse_descent.specs.declared.refusal.ParseRefusal.{ParseRefusal}
 use Rattle.ob0_parse_descent.specs.declared.refusal.ParseRefusal.TheVariants.{Syntax}
@@ -31,7 +31,7 @@ record After {s : Sort} (t : Tree ℕ s) (w : List (Terminal ℕ)) (ps : List Pr
   stops : EndsConstruct (level s) left
   begins : other ≡ t → left ≡ w → BeginsWithParts ps w
 
-known : {s : Sort} {room : ℕ} {ps qs : List ProductionPart} {ts : List Token} {at next : ℕ} {after : List (Terminal ℕ)} (t : Tree ℕ s) → IsReadTree t room ts at next → ((w : List (Terminal ℕ)) → HaveSameHead (rest ts next) w → BeginsWithParts ps (spell t ++ w) → After t w qs) → CantBegin qs (rest ts next) after → CantBegin ps (rest ts at) after
+known : {s : Sort} {room : ℕ} {ps qs : List ProductionPart} {ts : List Token} {at next : ℕ} {after : List (Terminal ℕ)} (t : Tree ℕ s) → IsReadTree t room ts at next → ((w : List (Terminal ℕ)) → HaveSameFirstToken (rest ts next) w → BeginsWithParts ps (spell t ++ w) → After t w qs) → CantBeginWithParts qs (rest ts next) after → CantBeginWithParts ps (rest ts at) after
 known {ps = ps} {qs = qs} {ts = ts} {next = next} {after = after} t p f r = record {
   passed = spell t ++ r.passed;
   fault = r.fault;
@@ -44,7 +44,7 @@ known {ps = ps} {qs = qs} {ts = ts} {next = next} {after = after} t p f r = reco
       r.cant_begin unseen (k.begins same.0 same.1);
 }
 
-fails_known : {s : Sort} {room : ℕ} {ps : List ProductionPart} {ts : List Token} {at next : ℕ} {e : ParseRefusal} (qs : List ProductionPart) → ((o : Stop) → DescentStopsWith qs ts next o → DescentStopsWith ps ts at o) → (t : Tree ℕ s) → IsReadTree t room ts at next → ((w : List (Terminal ℕ)) → HaveSameHead (rest ts next) w → BeginsWithParts ps (spell t ++ w) → After t w qs) → FailsToRead qs ts next e → FailsToRead ps ts at e
+fails_known : {s : Sort} {room : ℕ} {ps : List ProductionPart} {ts : List Token} {at next : ℕ} {e : ParseRefusal} (qs : List ProductionPart) → ((o : Stop) → DescentStopsWith qs ts next o → DescentStopsWith ps ts at o) → (t : Tree ℕ s) → IsReadTree t room ts at next → ((w : List (Terminal ℕ)) → HaveSameFirstToken (rest ts next) w → BeginsWithParts ps (spell t ++ w) → After t w qs) → FailsToRead qs ts next e → FailsToRead ps ts at e
 fails_known qs g t p f q = fails_by g (λ after r. known t p f r) q
 
 -- Proves that the descent reads the parts of an assignment or a call after the name.
@@ -115,12 +115,12 @@ assigned x k ss rs v z w e = sym (e ∙ ap (λ y. Name k ∷ y) (append_assoc (s
 abbrev pub value_parts : ℕ → List ProductionPart
 value_parts room = token (kind.Symbol symbol.Becomes) ∷ nonterminal expression room ∷ []
 
-not_becomes : {xs y : List (Terminal ℕ)} (w : List (Terminal ℕ)) (a : Tree ℕ (maybe arguments)) (z : List (Terminal ℕ)) → xs ≡ WordOrSymbol (kind.Symbol symbol.Becomes) ∷ y → HaveSameHead xs w → EndsConstruct 8 z → spell a ++ z ≡ w → ⊥
+not_becomes : {xs y : List (Terminal ℕ)} (w : List (Terminal ℕ)) (a : Tree ℕ (maybe arguments)) (z : List (Terminal ℕ)) → xs ≡ WordOrSymbol (kind.Symbol symbol.Becomes) ∷ y → HaveSameFirstToken xs w → EndsConstruct 8 z → spell a ++ z ≡ w → ⊥
 not_becomes w none z here h s e = not_at z h.head h.other 8 (e ∙ h.alike) (omega (arith, ap rank (head_of (sym here ∙ h.is)))) s
 not_becomes w (one no_arguments) z here h s e = omega (arith, ap rank (head_of (sym here ∙ h.is) ∙ head_of (sym h.alike ∙ sym e)))
 not_becomes w (one (some_arguments c cs)) z here h s e = omega (arith, ap rank (head_of (sym here ∙ h.is) ∙ head_of (sym h.alike ∙ sym e)))
 
-following_value : {xs y : List (Terminal ℕ)} (room x : ℕ) (ss : Tree ℕ (items selector)) → xs ≡ WordOrSymbol (kind.Symbol symbol.Becomes) ∷ y → (w : List (Terminal ℕ)) → HaveSameHead xs w → BeginsWithParts (nonterminal statement room ∷ []) (spell (designator x ss) ++ w) → After (designator x ss) w (value_parts room)
+following_value : {xs y : List (Terminal ℕ)} (room x : ℕ) (ss : Tree ℕ (items selector)) → xs ≡ WordOrSymbol (kind.Symbol symbol.Becomes) ∷ y → (w : List (Terminal ℕ)) → HaveSameFirstToken xs w → BeginsWithParts (nonterminal statement room ∷ []) (spell (designator x ss) ++ w) → After (designator x ss) w (value_parts room)
 following_value room x ss here w h (empty, z, e, n, s, b) = absurd (not_at z _ _ 8 (sym e) (omega arith) s)
 following_value room x ss here w h (branches c t es l, z, e, n, s, b) = absurd (name_mark (head_of e))
 following_value room x ss here w h (while_loop c t, z, e, n, s, b) = absurd (name_mark (head_of e))
@@ -170,7 +170,7 @@ becomes_missing {room = room} {ts = ts} {m = m} x f fs p o = fails_known (token 
 
 -- Proves that a call is refused if its arguments are refused.
 
-following_call : (room x : ℕ) (ss : Tree ℕ (items selector)) (ts : List Token) (m : ℕ) → IsTokenOtherThan (WordOrSymbol (kind.Symbol symbol.Becomes)) ts m → (w : List (Terminal ℕ)) → HaveSameHead (rest ts m) w → BeginsWithParts (nonterminal statement room ∷ []) (spell (designator x ss) ++ w) → After (designator x ss) w (nonterminal (maybe arguments) room ∷ [])
+following_call : (room x : ℕ) (ss : Tree ℕ (items selector)) (ts : List Token) (m : ℕ) → IsTokenOtherThan (WordOrSymbol (kind.Symbol symbol.Becomes)) ts m → (w : List (Terminal ℕ)) → HaveSameFirstToken (rest ts m) w → BeginsWithParts (nonterminal statement room ∷ []) (spell (designator x ss) ++ w) → After (designator x ss) w (nonterminal (maybe arguments) room ∷ [])
 following_call room x ss ts m o w h (empty, z, e, n, s, b) = absurd (not_at z _ _ 8 (sym e) (omega arith) s)
 following_call room x ss ts m o w h (branches c t es l, z, e, n, s, b) = absurd (name_mark (head_of e))
 following_call room x ss ts m o w h (while_loop c t, z, e, n, s, b) = absurd (name_mark (head_of e))
@@ -190,13 +190,13 @@ following_call room x ss ts m o w h (calls k a, z, e, n, s, b) = record {
   begins = λ same is. (a, z, sym is, n, stops_less z 6 8 (omega arith) s, tt);
 }
 
-pub call_fails : {room : ℕ} {ts : List Token} {at m : ℕ} {e : ParseRefusal} (x : ℕ) (ss : List Selector) → length ss ≡ 0 → IsReadTree (designator x (items_of selector_of ss)) room ts at m × ¬ NextHasRank 1 (rest ts m) → IsTokenOtherThan (WordOrSymbol (kind.Symbol symbol.Becomes)) ts m → ItemFails arguments room ts m e → FailsToRead (nonterminal statement room ∷ []) ts at e
+pub call_fails : {room : ℕ} {ts : List Token} {at m : ℕ} {e : ParseRefusal} (x : ℕ) (ss : List Selector) → length ss ≡ 0 → IsReadTree (designator x (items_of selector_of ss)) room ts at m × ¬ NextHasRank 1 (rest ts m) → IsTokenOtherThan (WordOrSymbol (kind.Symbol symbol.Becomes)) ts m → ItemBeginsButCantBeRead arguments room ts m e → FailsToRead (nonterminal statement room ∷ []) ts at e
 call_fails {room = room} {ts = ts} {m = m} x [] l p o q = fails_known (nonterminal (maybe arguments) room ∷ []) (λ s r following. (call_read x p.0 o p.1).stops_as_following s following (r following)) (designator x end) p.0 (λ w h b. following_call room x end ts m o w h b) (fails_maybe q)
 call_fails x (s ∷ ss) l p o q = absurd (omega arith)
 
 -- Proves that an assignment or a call is refused if its name or its selectors are refused.
 
-target_parts : (room i : ℕ) (xs w y : List (Terminal ℕ)) → xs ≡ Name i ∷ y → HaveSameHead xs w → BeginsWithParts (nonterminal statement room ∷ []) w → BeginsWithParts (name ∷ nonterminal (items selector) room ∷ []) w
+target_parts : (room i : ℕ) (xs w y : List (Terminal ℕ)) → xs ≡ Name i ∷ y → HaveSameFirstToken xs w → BeginsWithParts (nonterminal statement room ∷ []) w → BeginsWithParts (name ∷ nonterminal (items selector) room ∷ []) w
 target_parts room i xs w y here h (empty, z, e, n, s, b) = absurd (not_at z _ _ 8 (sym e ∙ h.alike) (omega (arith, ap rank (head_of (sym here ∙ h.is)))) s)
 target_parts room i xs w y here h (branches c t es l, z, e, n, s, b) = absurd (omega (arith, ap rank (alike h here e)))
 target_parts room i xs w y here h (while_loop c t, z, e, n, s, b) = absurd (omega (arith, ap rank (alike h here e)))
@@ -229,7 +229,7 @@ named_fails {room = room} {ts = ts} {at = at} here q =
 
 -- Proves that assignments and calls are read correctly.
 
-calls_only : {room : ℕ} {ts : List Token} {at m n : ℕ} (i : ℕ) (a : Tree ℕ (maybe arguments)) → IsReadTree (designator i end) room ts at m → IsTokenOtherThan (WordOrSymbol (kind.Symbol symbol.Becomes)) ts m → IsReadTree a room ts m n → (u : Tree ℕ statement) (z w : List (Terminal ℕ)) → HaveSameHead (rest ts n) w → EndsConstruct 8 z → spell u ++ z ≡ Name i ∷ (spell a ++ w) → (u ≡ calls i a) × (z ≡ w)
+calls_only : {room : ℕ} {ts : List Token} {at m n : ℕ} (i : ℕ) (a : Tree ℕ (maybe arguments)) → IsReadTree (designator i end) room ts at m → IsTokenOtherThan (WordOrSymbol (kind.Symbol symbol.Becomes)) ts m → IsReadTree a room ts m n → (u : Tree ℕ statement) (z w : List (Terminal ℕ)) → HaveSameFirstToken (rest ts n) w → EndsConstruct 8 z → spell u ++ z ≡ Name i ∷ (spell a ++ w) → (u ≡ calls i a) × (z ≡ w)
 calls_only i a p o q empty z w h s e = absurd (not_at z _ _ 8 e (omega arith) s)
 calls_only i a p o q (branches c t es l) z w h s e = absurd (name_not_mark (sym e))
 calls_only i a p o q (while_loop c t) z w h s e = absurd (name_not_mark (sym e))
@@ -254,7 +254,7 @@ pub becomes_missing_listed : {room : ℕ} {ts : List Token} {at m : ℕ} (x : �
 becomes_missing_listed x [] l p o = absurd (l refl)
 becomes_missing_listed x (s ∷ ss) l p o = becomes_missing x (selector_of s) (items_of selector_of ss) p o
 
-assigns_only : {room : ℕ} {ts : List Token} {m n : ℕ} (i : ℕ) (ss : Tree ℕ (items selector)) (v : Tree ℕ expression) → IsReadTree v room ts m n → (u : Tree ℕ statement) (z w : List (Terminal ℕ)) → HaveSameHead (rest ts n) w → EndsConstruct 8 z → spell u ++ z ≡ Name i ∷ ((spell ss ++ (WordOrSymbol (kind.Symbol symbol.Becomes) ∷ spell v)) ++ w) → (u ≡ assigns i ss v) × (z ≡ w)
+assigns_only : {room : ℕ} {ts : List Token} {m n : ℕ} (i : ℕ) (ss : Tree ℕ (items selector)) (v : Tree ℕ expression) → IsReadTree v room ts m n → (u : Tree ℕ statement) (z w : List (Terminal ℕ)) → HaveSameFirstToken (rest ts n) w → EndsConstruct 8 z → spell u ++ z ≡ Name i ∷ ((spell ss ++ (WordOrSymbol (kind.Symbol symbol.Becomes) ∷ spell v)) ++ w) → (u ≡ assigns i ss v) × (z ≡ w)
 assigns_only i ss v q empty z w h s e = absurd (not_at z _ _ 8 e (omega arith) s)
 assigns_only i ss v q (branches c t es l) z w h s e = absurd (name_not_mark (sym e))
 assigns_only i ss v q (while_loop c t) z w h s e = absurd (name_not_mark (sym e))

@@ -3,8 +3,8 @@ use Rattle.std.proofs.Common.{◌≡◌, ℕ, Option, Some, None, List, [], ◌�
 use Rattle.ob0_scan.specs.declared.lexeme.TokenKind.{TokenKind}
 use Rattle.ob0_scan.specs.declared.lexeme.TokenKind.TheVariants as kind
 use Rattle.ob0_tree.specs.Lexeme.{Terminal, Name, Number, WordOrSymbol}
-use Rattle.ob0_tree.specs.Places.{index_terminal}
-use Rattle.ob0_parse_descent.specs.Reading.{terminal_or_end, token, name, CantBegin}
+use Rattle.ob0_tree.specs.Places.{indexed_terminal}
+use Rattle.ob0_parse_descent.specs.Reading.{terminal_or_end, token, name, CantBeginWithParts}
 use Rattle.ob0_parse_descent.specs.Follow.{rank, kind_rank}
 use Rattle.ob0_parse_descent.proofs.Refusals.{at_once}
 
@@ -26,13 +26,13 @@ number_is (Some kind.Identifier) i n e = cc
 number_is (Some (kind.Integer v)) i n e = (v, refl)
 number_is (Some _) i n e = cc
 
-pub no_token : (f : Option TokenKind) (i : ℕ) (k : TokenKind) {xs after : List (Terminal ℕ)} → xs ≡ terminal_or_end i f ∷ after → (f ≡ Some k → ⊥) → CantBegin (token k ∷ []) xs after
+pub no_token : (f : Option TokenKind) (i : ℕ) (k : TokenKind) {xs after : List (Terminal ℕ)} → xs ≡ terminal_or_end i f ∷ after → (f ≡ Some k → ⊥) → CantBeginWithParts (token k ∷ []) xs after
 no_token f i k e h = at_once e (λ u b. h (mark_is f i k (cc (b.1))))
 
-pub no_name : (f : Option TokenKind) (i : ℕ) {xs after : List (Terminal ℕ)} → xs ≡ terminal_or_end i f ∷ after → (f ≡ Some kind.Identifier → ⊥) → CantBegin (name ∷ []) xs after
+pub no_name : (f : Option TokenKind) (i : ℕ) {xs after : List (Terminal ℕ)} → xs ≡ terminal_or_end i f ∷ after → (f ≡ Some kind.Identifier → ⊥) → CantBeginWithParts (name ∷ []) xs after
 no_name f i e h = at_once e (λ u b. h (name_is f i b.0 (cc (b.2))))
 
-pub rank_of : (i : ℕ) (k : TokenKind) → rank (index_terminal i k) ≡ kind_rank k
+pub rank_of : (i : ℕ) (k : TokenKind) → rank (indexed_terminal i k) ≡ kind_rank k
 rank_of i kind.Identifier = refl
 rank_of i (kind.Integer _) = refl
 rank_of i _ = refl

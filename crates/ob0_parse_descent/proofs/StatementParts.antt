@@ -5,9 +5,9 @@ use Rattle.ob0_scan.specs.declared.lexeme.TokenKind.TheVariants as kind
 use Rattle.ob0_scan.specs.declared.lexeme.ReservedWord.TheVariants as reserved
 use Rattle.ob0_scan.specs.declared.lexeme.Token.{Token}
 use Rattle.ob0_tree.specs.Lexeme.{Terminal, Name, WordOrSymbol}
-use Rattle.ob0_tree.specs.Tree.{further_statement, elsif_part, else_part, expression, statement, sequence, empty, assigns, calls, branches, while_loop, repeat_loop, runs, elsif_branch, item, items, maybe, Tree, spell, single_token}
+use Rattle.ob0_tree.specs.Tree.{further_statement, elsif_part, else_part, expression, statement, sequence, empty, assigns, calls, branches, while_loop, repeat_loop, runs, elsif_branch, item, items, maybe, Tree, spell, single_token_list}
 use Rattle.ob0_parse_descent.specs.Follow.{rank, EndsConstruct, NextHasRank}
-use Rattle.ob0_parse_descent.specs.Reading.{rest, ProductionPart, token, nonterminal, BeginsWithParts, HaveSameHead, IsReadTree, FailsToRead, ItemFails, IsTokenOtherThan, IsNotIdentifier}
+use Rattle.ob0_parse_descent.specs.Reading.{rest, ProductionPart, token, nonterminal, BeginsWithParts, HaveSameFirstToken, IsReadTree, FailsToRead, ItemBeginsButCantBeRead, IsTokenOtherThan, IsNotIdentifier}
 use Rattle.ob0_parse_descent.specs.Descent as descent
 use Rattle.ob0_parse_descent.specs.Descent.{parts, chosen_production}
 use Rattle.ob0_parse_descent.proofs.Descent.{both, by, read_mark, read_made, read_led, read_opened}
@@ -19,12 +19,12 @@ use Rattle.ob0_parse_descent.proofs.Expressions.{joined, head_at, too_deep_at_on
 use Rattle.ob0_parse_descent.proofs.Apart.{name_not_mark}
 
 -- If two lists begin with the same token, their first tokens are equal.
-pub alike : {xs w : List (Terminal ℕ)} {x y : Terminal ℕ} {a b : List (Terminal ℕ)} → HaveSameHead xs w → xs ≡ x ∷ a → w ≡ y ∷ b → x ≡ y
+pub alike : {xs w : List (Terminal ℕ)} {x y : Terminal ℕ} {a b : List (Terminal ℕ)} → HaveSameFirstToken xs w → xs ≡ x ∷ a → w ≡ y ∷ b → x ≡ y
 alike h p q = head_of (sym p ∙ h.is) ∙ head_of (sym h.alike ∙ q)
 
 -- Lemmas on sequences: `statement {";" statement}`.
 
-runs_only : {room : ℕ} {ts : List Token} {at m n : ℕ} (a : Tree ℕ statement) (c : Tree ℕ (items further_statement)) → IsReadTree a room ts at m → IsReadTree c room ts m n → (u : Tree ℕ sequence) (z w : List (Terminal ℕ)) → HaveSameHead (rest ts n) w → EndsConstruct 9 z → spell u ++ z ≡ (spell a ++ spell c) ++ w → (u ≡ runs a c) × (z ≡ w)
+runs_only : {room : ℕ} {ts : List Token} {at m n : ℕ} (a : Tree ℕ statement) (c : Tree ℕ (items further_statement)) → IsReadTree a room ts at m → IsReadTree c room ts m n → (u : Tree ℕ sequence) (z w : List (Terminal ℕ)) → HaveSameFirstToken (rest ts n) w → EndsConstruct 9 z → spell u ++ z ≡ (spell a ++ spell c) ++ w → (u ≡ runs a c) × (z ≡ w)
 runs_only a c p q (runs b d) z w h s e =
     let r = p.only b (spell d ++ z) (spell c ++ w) (head_at c q w h) (stops_items d z 8 (omega arith) s) (regroup (spell b) (spell d) z (spell a) (spell c) w e) in
     let rs = q.only d z w h s r.1 in
@@ -41,7 +41,7 @@ sequence_fails {room = room} q = fails_weaken {qs = nonterminal statement room �
 
 -- Lemmas on the empty statement.
 
-empty_only : {ts : List Token} {at : ℕ} → IsNotIdentifier ts at → IsTokenOtherThan (WordOrSymbol (kind.ReservedWord reserved.If)) ts at → IsTokenOtherThan (WordOrSymbol (kind.ReservedWord reserved.While)) ts at → IsTokenOtherThan (WordOrSymbol (kind.ReservedWord reserved.Repeat)) ts at → (u : Tree ℕ statement) (z w : List (Terminal ℕ)) → HaveSameHead (rest ts at) w → EndsConstruct 8 z → spell u ++ z ≡ w → (u ≡ empty) × (z ≡ w)
+empty_only : {ts : List Token} {at : ℕ} → IsNotIdentifier ts at → IsTokenOtherThan (WordOrSymbol (kind.ReservedWord reserved.If)) ts at → IsTokenOtherThan (WordOrSymbol (kind.ReservedWord reserved.While)) ts at → IsTokenOtherThan (WordOrSymbol (kind.ReservedWord reserved.Repeat)) ts at → (u : Tree ℕ statement) (z w : List (Terminal ℕ)) → HaveSameFirstToken (rest ts at) w → EndsConstruct 8 z → spell u ++ z ≡ w → (u ≡ empty) × (z ≡ w)
 empty_only unnamed i l r empty z w h s e = (refl, e)
 empty_only unnamed i l r (assigns n ss a) z w h s e = absurd (unnamed.ranked (ap rank (alike h unnamed.here (sym e))))
 empty_only unnamed i l r (calls n a) z w h s e = absurd (unnamed.ranked (ap rank (alike h unnamed.here (sym e))))
@@ -76,7 +76,7 @@ branches_following inner = nonterminal expression inner ∷ token (kind.Reserved
 
 pub taken_branches : {room inner : ℕ} {ts : List Token} {at m n k j o p : ℕ} (c : Tree ℕ expression) (t : Tree ℕ sequence) (es : Tree ℕ (items elsif_part)) (l : Tree ℕ (maybe else_part)) → room ≡ inner + 1 → rest ts at ≡ WordOrSymbol (kind.ReservedWord reserved.If) ∷ rest ts (at + 1) → IsReadTree c inner ts (at + 1) m → (rest ts m ≡ WordOrSymbol (kind.ReservedWord reserved.Then) ∷ rest ts n) × (m < length ts) × (n ≡ m + 1) → IsReadTree t inner ts n k → IsReadTree es inner ts k j → IsReadTree l inner ts j o → (rest ts o ≡ WordOrSymbol (kind.ReservedWord reserved.End) ∷ rest ts p) × (o < length ts) × (p ≡ o + 1) → IsReadTree (branches c t es l) room ts at p
 taken_branches {inner = inner} c t es l level here qc following qt qes ql close = record {
-  spelled = here ∙ ap (λ y. WordOrSymbol (kind.ReservedWord reserved.If) ∷ y) (joined _ (spell c) _ qc.spelled (following.0 ∙ ap (λ y. WordOrSymbol (kind.ReservedWord reserved.Then) ∷ y) (joined _ (spell t) _ qt.spelled (joined _ (spell es) _ qes.spelled (joined _ (spell l) (single_token (kind.ReservedWord reserved.End)) ql.spelled close.0)))));
+  spelled = here ∙ ap (λ y. WordOrSymbol (kind.ReservedWord reserved.If) ∷ y) (joined _ (spell c) _ qc.spelled (following.0 ∙ ap (λ y. WordOrSymbol (kind.ReservedWord reserved.Then) ∷ y) (joined _ (spell t) _ qt.spelled (joined _ (spell es) _ qes.spelled (joined _ (spell l) (single_token_list (kind.ReservedWord reserved.End)) ql.spelled close.0)))));
   shallow = omega (arith, qc.shallow, qt.shallow, qes.shallow, ql.shallow);
   only = λ u z w h s e. let r = branches_only c t es l (unique c) (unique t) (unique es) (unique l) u w z s (sym e) in (sym r.0, sym r.1);
   reads = by (read_opened inner branches_following refl level here) (both qc.reads (both (read_mark following) (both qt.reads (both qes.reads (both ql.reads (read_mark close))))));
@@ -111,7 +111,7 @@ branches_parts room inner d w (branches c t es l, z, e, n, s, b) = (
         append_assoc (spell es) _ z,
         omega arith,
         stops_else l z,
-        (l, WordOrSymbol (kind.ReservedWord reserved.End) ∷ z, append_assoc (spell l) (single_token (kind.ReservedWord reserved.End)) z, omega arith, omega arith, (z, refl, tt)),
+        (l, WordOrSymbol (kind.ReservedWord reserved.End) ∷ z, append_assoc (spell l) (single_token_list (kind.ReservedWord reserved.End)) z, omega arith, omega arith, (z, refl, tt)),
       ),
     ),
   ),
@@ -122,7 +122,7 @@ branches_fail {room = room} {inner = inner} d here q = fails_following {qs = bra
 
 -- Lemmas on ELSIF parts: `ELSIF expression THEN sequence`.
 
-elsif_only : {room : ℕ} {ts : List Token} {n k : ℕ} (c : Tree ℕ expression) (t : Tree ℕ sequence) → IsReadTree t room ts n k → (u : Tree ℕ (item elsif_part)) (z w : List (Terminal ℕ)) → HaveSameHead (rest ts k) w → EndsConstruct 9 z → spell u ++ z ≡ WordOrSymbol (kind.ReservedWord reserved.Elsif) ∷ ((spell c ++ (WordOrSymbol (kind.ReservedWord reserved.Then) ∷ spell t)) ++ w) → (u ≡ elsif_branch c t) × (z ≡ w)
+elsif_only : {room : ℕ} {ts : List Token} {n k : ℕ} (c : Tree ℕ expression) (t : Tree ℕ sequence) → IsReadTree t room ts n k → (u : Tree ℕ (item elsif_part)) (z w : List (Terminal ℕ)) → HaveSameFirstToken (rest ts k) w → EndsConstruct 9 z → spell u ++ z ≡ WordOrSymbol (kind.ReservedWord reserved.Elsif) ∷ ((spell c ++ (WordOrSymbol (kind.ReservedWord reserved.Then) ∷ spell t)) ++ w) → (u ≡ elsif_branch c t) × (z ≡ w)
 elsif_only c t q (elsif_branch d v) z w h s e =
     let r = same d c (WordOrSymbol (kind.ReservedWord reserved.Then) ∷ (spell v ++ z)) (WordOrSymbol (kind.ReservedWord reserved.Then) ∷ (spell t ++ w)) (omega arith) (omega arith) (regroup (spell d) _ z (spell c) _ w (tail_of e)) in
     let rs = q.only v z w h s (tail_of r.1) in
@@ -144,7 +144,7 @@ taken_elsif {room = room} c t here qc following qt = record {
 elsif_parts : (room : ℕ) (w : List (Terminal ℕ)) → BeginsWithParts (nonterminal (item elsif_part) room ∷ []) (WordOrSymbol (kind.ReservedWord reserved.Elsif) ∷ w) → BeginsWithParts (elsif_following room) w
 elsif_parts room w (elsif_branch c t, z, e, n, s, b) = (c, _, tail_of e ∙ append_assoc (spell c) _ z, omega arith, omega arith, (_, refl, (t, z, refl, omega arith, s, tt)))
 
-pub elsif_fails : {room : ℕ} {ts : List Token} {at : ℕ} {e : ParseRefusal} → rest ts at ≡ WordOrSymbol (kind.ReservedWord reserved.Elsif) ∷ rest ts (at + 1) → FailsToRead (elsif_following room) ts (at + 1) e → ItemFails elsif_part room ts at e
+pub elsif_fails : {room : ℕ} {ts : List Token} {at : ℕ} {e : ParseRefusal} → rest ts at ≡ WordOrSymbol (kind.ReservedWord reserved.Elsif) ∷ rest ts (at + 1) → FailsToRead (elsif_following room) ts (at + 1) e → ItemBeginsButCantBeRead elsif_part room ts at e
 elsif_fails {room = room} here q = record {
   is_here = subst (λ y. NextHasRank 10 y) (sym here) refl;
   fails = fails_following {qs = elsif_following room} (read_led (elsif_following room) refl here) here (elsif_parts room) q;
@@ -157,7 +157,7 @@ while_following inner = nonterminal expression inner ∷ token (kind.ReservedWor
 
 pub taken_while : {room inner : ℕ} {ts : List Token} {at m n k p : ℕ} (c : Tree ℕ expression) (t : Tree ℕ sequence) → room ≡ inner + 1 → rest ts at ≡ WordOrSymbol (kind.ReservedWord reserved.While) ∷ rest ts (at + 1) → IsReadTree c inner ts (at + 1) m → (rest ts m ≡ WordOrSymbol (kind.ReservedWord reserved.Do) ∷ rest ts n) × (m < length ts) × (n ≡ m + 1) → IsReadTree t inner ts n k → (rest ts k ≡ WordOrSymbol (kind.ReservedWord reserved.End) ∷ rest ts p) × (k < length ts) × (p ≡ k + 1) → IsReadTree (while_loop c t) room ts at p
 taken_while {inner = inner} c t level here qc during qt close = record {
-  spelled = here ∙ ap (λ y. WordOrSymbol (kind.ReservedWord reserved.While) ∷ y) (joined _ (spell c) _ qc.spelled (during.0 ∙ ap (λ y. WordOrSymbol (kind.ReservedWord reserved.Do) ∷ y) (joined _ (spell t) (single_token (kind.ReservedWord reserved.End)) qt.spelled close.0)));
+  spelled = here ∙ ap (λ y. WordOrSymbol (kind.ReservedWord reserved.While) ∷ y) (joined _ (spell c) _ qc.spelled (during.0 ∙ ap (λ y. WordOrSymbol (kind.ReservedWord reserved.Do) ∷ y) (joined _ (spell t) (single_token_list (kind.ReservedWord reserved.End)) qt.spelled close.0)));
   shallow = omega (arith, qc.shallow, qt.shallow);
   only = λ u z w h s e. let r = while_loop_only c t (unique c) (unique t) u w z s (sym e) in (sym r.0, sym r.1);
   reads = by (read_opened inner while_following refl level here) (both qc.reads (both (read_mark during) (both qt.reads (read_mark close))));
@@ -177,7 +177,7 @@ while_parts room inner d w (while_loop c t, z, e, n, s, b) = (
   tail_of e ∙ append_assoc (spell c) _ z,
   omega arith,
   omega arith,
-  (_, refl, (t, WordOrSymbol (kind.ReservedWord reserved.End) ∷ z, append_assoc (spell t) (single_token (kind.ReservedWord reserved.End)) z, omega arith, omega arith, (z, refl, tt))),
+  (_, refl, (t, WordOrSymbol (kind.ReservedWord reserved.End) ∷ z, append_assoc (spell t) (single_token_list (kind.ReservedWord reserved.End)) z, omega arith, omega arith, (z, refl, tt))),
 )
 
 pub while_fails : {room inner : ℕ} {ts : List Token} {at : ℕ} {e : ParseRefusal} → room ≡ inner + 1 → rest ts at ≡ WordOrSymbol (kind.ReservedWord reserved.While) ∷ rest ts (at + 1) → FailsToRead (while_following inner) ts (at + 1) e → FailsToRead (nonterminal statement room ∷ []) ts at e
@@ -185,7 +185,7 @@ while_fails {room = room} {inner = inner} d here q = fails_following {qs = while
 
 -- Lemmas on REPEAT statements: `REPEAT sequence UNTIL expression`.
 
-repeat_only : {room : ℕ} {ts : List Token} {n k : ℕ} (t : Tree ℕ sequence) (c : Tree ℕ expression) → IsReadTree c room ts n k → (u : Tree ℕ statement) (z w : List (Terminal ℕ)) → HaveSameHead (rest ts k) w → EndsConstruct 8 z → spell u ++ z ≡ WordOrSymbol (kind.ReservedWord reserved.Repeat) ∷ ((spell t ++ (WordOrSymbol (kind.ReservedWord reserved.Until) ∷ spell c)) ++ w) → (u ≡ repeat_loop t c) × (z ≡ w)
+repeat_only : {room : ℕ} {ts : List Token} {n k : ℕ} (t : Tree ℕ sequence) (c : Tree ℕ expression) → IsReadTree c room ts n k → (u : Tree ℕ statement) (z w : List (Terminal ℕ)) → HaveSameFirstToken (rest ts k) w → EndsConstruct 8 z → spell u ++ z ≡ WordOrSymbol (kind.ReservedWord reserved.Repeat) ∷ ((spell t ++ (WordOrSymbol (kind.ReservedWord reserved.Until) ∷ spell c)) ++ w) → (u ≡ repeat_loop t c) × (z ≡ w)
 repeat_only t c q empty z w h s e = absurd (not_at z _ _ 8 e (omega arith) s)
 repeat_only t c q (assigns k ss a) z w h s e = absurd (name_not_mark e)
 repeat_only t c q (calls k a) z w h s e = absurd (name_not_mark e)

@@ -5,11 +5,11 @@ use Rattle.ob0_scan.specs.declared.lexeme.ReservedWord.TheVariants as reserved
 use Rattle.ob0_scan.specs.declared.lexeme.Symbol.TheVariants as symbol
 use Rattle.ob0_scan.specs.declared.lexeme.Token.{Token}
 use Rattle.ob0_tree.specs.Lexeme.{Terminal, Name, WordOrSymbol}
-use Rattle.ob0_tree.specs.Tree.{further_fields, expression, names, written_type, fields, named_type, array_type, record_type, no_fields, some_fields, listed, items, Tree, spell, nesting, single_token}
+use Rattle.ob0_tree.specs.Tree.{further_fields, expression, names, written_type, fields, named_type, array_type, record_type, no_fields, some_fields, listed, items, Tree, spell, nesting, single_token_list}
 use Rattle.ob0_parse_descent.specs.Follow.{rank, EndsConstruct}
-use Rattle.ob0_parse_descent.specs.Reading.{rest, ProductionPart, token, nonterminal, BeginsWithParts, HaveSameHead, IsReadTree, FailsToRead, IsTokenOtherThan, IsNotIdentifier, IsReadList}
+use Rattle.ob0_parse_descent.specs.Reading.{rest, ProductionPart, token, nonterminal, BeginsWithParts, HaveSameFirstToken, IsReadTree, FailsToRead, IsTokenOtherThan, IsNotIdentifier, IsReadList}
 use Rattle.ob0_parse_descent.specs.Descent.{parts, missing, chosen_production, absent, deep}
-use Rattle.ob0_parse_descent.specs.declared.refusal.Expected.TheVariants as expected
+use Rattle.ob0_parse_descent.specs.declared.refusal.ExpectedSyntax.TheVariants as expected
 use Rattle.ob0_parse_descent.proofs.Descent.{both, by, read_name, read_mark, read_made, read_opened}
 use Rattle.ob0_parse_descent.specs.declared.refusal.ParseRefusal.{ParseRefusal}
 use Rattle.ob0_parse_descent.specs.declared.refusal.ParseRefusal.TheVariants.{Syntax, TooDeep}
@@ -17,8 +17,8 @@ use Rattle.ob0_parse_descent.proofs.Unique.{same, not_at, stops_less, stops_clos
 use Rattle.ob0_parse_descent.proofs.Refusals.{fails_weaken, fails_following}
 use Rattle.ob0_parse_descent.proofs.Expressions.{joined, too_deep_at_once}
 use Rattle.ob0_parse_descent.proofs.Leads.{fails_here, only_zero}
-use Rattle.ob0_tree.specs.declared.tree.Fields.{Fields}
-use Rattle.ob0_tree.specs.View.{fields_of, further_fields_of_group, record_of_list, items_of}
+use Rattle.ob0_tree.specs.declared.tree.OptionalFieldGroup.{OptionalFieldGroup}
+use Rattle.ob0_tree.specs.View.{optional_field_group_of, further_field_group_of, record_type_of_list, items_of}
 use Rattle.ob0_parse_descent.proofs.Apart.{name_not_mark, array_not_record}
 
 pub taken_named : {room : ℕ} {ts : List Token} {at : ℕ} → (rest ts at ≡ Name at ∷ rest ts (at + 1)) × (at < length ts) → IsReadTree (named_type at) room ts at (at + 1)
@@ -77,12 +77,12 @@ array_too_deep {ts = ts} {at = at} {e = e} l o here = subst (λ r. FailsToRead (
 abbrev pub record_following : ℕ → List ProductionPart
 record_following inner = nonterminal fields inner ∷ nonterminal (items further_fields) inner ∷ token (kind.ReservedWord reserved.End) ∷ []
 
-pub taken_record : {room inner : ℕ} {ts : List Token} {at m n : ℕ} (xs : List Fields) → room ≡ inner + 1 → rest ts at ≡ WordOrSymbol (kind.ReservedWord reserved.Record) ∷ rest ts (at + 1) → IsReadList fields_of further_fields_of_group xs inner ts (at + 1) m → (rest ts m ≡ WordOrSymbol (kind.ReservedWord reserved.End) ∷ rest ts n) × (m < length ts) × (n ≡ m + 1) → IsReadTree (record_of_list xs) room ts at n
+pub taken_record : {room inner : ℕ} {ts : List Token} {at m n : ℕ} (xs : List OptionalFieldGroup) → room ≡ inner + 1 → rest ts at ≡ WordOrSymbol (kind.ReservedWord reserved.Record) ∷ rest ts (at + 1) → IsReadList optional_field_group_of further_field_group_of xs inner ts (at + 1) m → (rest ts m ≡ WordOrSymbol (kind.ReservedWord reserved.End) ∷ rest ts n) × (m < length ts) × (n ≡ m + 1) → IsReadTree (record_type_of_list xs) room ts at n
 taken_record {room = room} {inner = inner} {ts = ts} {at = at} {n = n} xs level here p close =
-    let f = fields_of p.first in
-    let fs = items_of further_fields_of_group p.others in
-    subst (λ l. IsReadTree (record_of_list l) room ts at n) (sym p.is) record {
-      spelled = here ∙ ap (λ y. WordOrSymbol (kind.ReservedWord reserved.Record) ∷ y) (joined _ (spell f) _ p.head.spelled (joined _ (spell fs) (single_token (kind.ReservedWord reserved.End)) p.tail.spelled close.0));
+    let f = optional_field_group_of p.first in
+    let fs = items_of further_field_group_of p.others in
+    subst (λ l. IsReadTree (record_type_of_list l) room ts at n) (sym p.is) record {
+      spelled = here ∙ ap (λ y. WordOrSymbol (kind.ReservedWord reserved.Record) ∷ y) (joined _ (spell f) _ p.head.spelled (joined _ (spell fs) (single_token_list (kind.ReservedWord reserved.End)) p.tail.spelled close.0));
       shallow = omega (arith, p.head.shallow, p.tail.shallow);
       only = λ u z w h s e. only_zero (record_type f fs) u z w refl s e;
       reads = by (read_opened inner record_following refl level here) (both p.head.reads (both p.tail.reads (read_mark close)));
@@ -99,7 +99,7 @@ record_parts room inner d w (record_type f fs, z, e, n, s, b) = (
   tail_of e ∙ append_assoc (spell f) _ z,
   omega arith,
   stops_closed fs (kind.ReservedWord reserved.End) z 7 (omega arith) (omega arith),
-  (fs, WordOrSymbol (kind.ReservedWord reserved.End) ∷ z, append_assoc (spell fs) (single_token (kind.ReservedWord reserved.End)) z, omega arith, omega arith, (z, refl, tt)),
+  (fs, WordOrSymbol (kind.ReservedWord reserved.End) ∷ z, append_assoc (spell fs) (single_token_list (kind.ReservedWord reserved.End)) z, omega arith, omega arith, (z, refl, tt)),
 )
 
 pub record_fails : {room inner : ℕ} {ts : List Token} {at : ℕ} {e : ParseRefusal} → room ≡ inner + 1 → rest ts at ≡ WordOrSymbol (kind.ReservedWord reserved.Record) ∷ rest ts (at + 1) → FailsToRead (record_following inner) ts (at + 1) e → FailsToRead (nonterminal written_type room ∷ []) ts at e
@@ -115,7 +115,7 @@ record_too_deep {ts = ts} {at = at} {e = e} l o here = subst (λ r. FailsToRead 
 
 -- Lemmas on groups of fields: `[names ":" type]`.
 
-no_fields_only : {ts : List Token} {at : ℕ} → IsNotIdentifier ts at → (u : Tree ℕ fields) (z w : List (Terminal ℕ)) → HaveSameHead (rest ts at) w → EndsConstruct 7 z → spell u ++ z ≡ w → (u ≡ no_fields) × (z ≡ w)
+no_fields_only : {ts : List Token} {at : ℕ} → IsNotIdentifier ts at → (u : Tree ℕ fields) (z w : List (Terminal ℕ)) → HaveSameFirstToken (rest ts at) w → EndsConstruct 7 z → spell u ++ z ≡ w → (u ≡ no_fields) × (z ≡ w)
 no_fields_only unnamed no_fields z w h s e = (refl, e)
 no_fields_only unnamed (some_fields (listed k ns) t) z w h s e = absurd (unnamed.ranked (ap rank (head_of (sym unnamed.here ∙ h.is) ∙ head_of (sym h.alike ∙ sym e))))
 
@@ -154,7 +154,7 @@ taken_fields {room = room} {ts = ts} {m = m} ns t p following q = record {
 pub unnested : (ns : Tree ℕ names) → nesting ns ≤ 0
 unnested (listed k us) = omega arith
 
-fields_parts : (room i : ℕ) (xs w y : List (Terminal ℕ)) → xs ≡ Name i ∷ y → HaveSameHead xs w → BeginsWithParts (nonterminal fields room ∷ []) w → BeginsWithParts (typed_following room) w
+fields_parts : (room i : ℕ) (xs w y : List (Terminal ℕ)) → xs ≡ Name i ∷ y → HaveSameFirstToken xs w → BeginsWithParts (nonterminal fields room ∷ []) w → BeginsWithParts (typed_following room) w
 fields_parts room i xs w y here h (no_fields, z, e, n, s, b) = absurd (not_at z _ _ 7 (sym e ∙ h.alike) (omega (arith, ap rank (head_of (sym here ∙ h.is)))) s)
 fields_parts room i xs w y here h (some_fields ns t, z, e, n, s, b) =
     (ns, _, e ∙ append_assoc (spell ns) _ z, unnested ns, omega arith, (_, refl, (t, z, refl, n, stops_less z 0 7 (omega arith) s, tt)))

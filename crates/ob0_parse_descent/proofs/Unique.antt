@@ -5,7 +5,7 @@ use Rattle.ob0_scan.specs.declared.lexeme.TokenKind.{TokenKind}
 use Rattle.ob0_scan.specs.declared.lexeme.TokenKind.TheVariants as kind
 use Rattle.ob0_scan.specs.declared.lexeme.ReservedWord.TheVariants as reserved
 use Rattle.ob0_scan.specs.declared.lexeme.Symbol.TheVariants as symbol
-use Rattle.ob0_tree.specs.Lexeme.{Terminal, Name, WordOrSymbol, relation_token, sign_tokens, add_operator_token, multiply_operator_token}
+use Rattle.ob0_tree.specs.Lexeme.{Terminal, Name, WordOrSymbol, relation_token_kind, sign_tokens, add_operator_token_kind, multiply_operator_token_kind}
 use Rattle.ob0_tree.specs.declared.tree.Relation.{Relation}
 use Rattle.ob0_tree.specs.declared.tree.Relation.TheVariants as relation
 use Rattle.ob0_tree.specs.declared.tree.Sign.{Sign}
@@ -14,11 +14,11 @@ use Rattle.ob0_tree.specs.declared.tree.AddOperator.{AddOperator}
 use Rattle.ob0_tree.specs.declared.tree.AddOperator.TheVariants as add_operator
 use Rattle.ob0_tree.specs.declared.tree.MultiplyOperator.{MultiplyOperator}
 use Rattle.ob0_tree.specs.declared.tree.MultiplyOperator.TheVariants as multiply_operator
-use Rattle.ob0_tree.specs.Tree.{Item, selector, multiplier, addend, comparison, arguments, further_argument, further_statement, elsif_part, else_part, further_name, further_fields, formals, further_section, constant, constants, type_definition, type_definitions, variable, variables, procedure, body, Sort, item, items, maybe, expression, simple, term, factor, statement, sequence, names, written_type, fields, section, declarations, block, module_text, Tree, none, one, end, more, compares, relates, sum, adds, product, multiplies, designator, integer, parenthesised, negation, field, index, empty, assigns, calls, branches, while_loop, repeat_loop, no_arguments, some_arguments, then_argument, runs, then_statement, elsif_branch, else_branch, listed, then_name, named_type, array_type, record_type, no_fields, some_fields, then_fields, no_formals, some_formals, value_section, variable_section, then_section, declares_constant, declares_constants, declares_type, declares_types, declares_variable, declares_variables, declares_procedure, declares, begins, forms_block, is_module, spell, single_token}
+use Rattle.ob0_tree.specs.Tree.{Item, selector, multiplier, addend, comparison, arguments, further_argument, further_statement, elsif_part, else_part, further_name, further_fields, formals, further_section, constant, constants, type_definition, type_definitions, variable, variables, procedure, body, Sort, item, items, maybe, expression, simple, term, factor, statement, sequence, names, written_type, fields, section, declarations, block, module_text, Tree, none, one, end, more, compares, relates, sum, adds, product, multiplies, designator, integer, parenthesised, negation, field, index, empty, assigns, calls, branches, while_loop, repeat_loop, no_arguments, some_arguments, then_argument, runs, then_statement, elsif_branch, else_branch, listed, then_name, named_type, array_type, record_type, no_fields, some_fields, then_fields, no_formals, some_formals, value_section, variable_section, then_section, declares_constant, declares_constants, declares_type, declares_types, declares_variable, declares_variables, declares_procedure, declares, begins, forms_block, is_module, spell, single_token_list}
 use Rattle.ob0_parse_descent.specs.Follow.{rank, kind_rank, item_rank, item_level, level, EndsConstruct, NextHasRank}
 use Rattle.ob0_parse_descent.proofs.Apart.{name_not_mark, name_not_number, number_not_mark, paren_not_tilde, dot_not_bracket, dot_not_paren, bracket_not_paren, becomes_not_paren, array_not_record, number_of}
 
-pub relation_rank : (r : Relation) → kind_rank (relation_token r) ≡ 4
+pub relation_rank : (r : Relation) → kind_rank (relation_token_kind r) ≡ 4
 relation_rank relation.Equal = refl
 relation_rank relation.NotEqual = refl
 relation_rank relation.Less = refl
@@ -26,12 +26,12 @@ relation_rank relation.LessEqual = refl
 relation_rank relation.Greater = refl
 relation_rank relation.GreaterEqual = refl
 
-pub add_rank : (o : AddOperator) → kind_rank (add_operator_token o) ≡ 3
+pub add_rank : (o : AddOperator) → kind_rank (add_operator_token_kind o) ≡ 3
 add_rank add_operator.Add = refl
 add_rank add_operator.Subtract = refl
 add_rank add_operator.Or = refl
 
-pub multiply_rank : (o : MultiplyOperator) → kind_rank (multiply_operator_token o) ≡ 2
+pub multiply_rank : (o : MultiplyOperator) → kind_rank (multiply_operator_token_kind o) ≡ 2
 multiply_rank multiply_operator.Multiply = refl
 multiply_rank multiply_operator.Divide = refl
 multiply_rank multiply_operator.Modulo = refl
@@ -45,13 +45,13 @@ pub record Headed {N : Type 0} (i : Item) (tokens : List (Terminal N)) : Type 0 
   pub ranked : rank head ≡ item_rank i
 
 headed : {N : Type 0} {i : Item} (t : Tree N (item i)) (x : List (Terminal N)) → Headed i (spell t ++ x)
-headed (relates r a) x = record { head = WordOrSymbol (relation_token r); tail = spell a ++ x; is = refl; ranked = relation_rank r }
-headed (adds o t) x = record { head = WordOrSymbol (add_operator_token o); tail = spell t ++ x; is = refl; ranked = add_rank o }
-headed (multiplies o f) x = record { head = WordOrSymbol (multiply_operator_token o); tail = spell f ++ x; is = refl; ranked = multiply_rank o }
+headed (relates r a) x = record { head = WordOrSymbol (relation_token_kind r); tail = spell a ++ x; is = refl; ranked = relation_rank r }
+headed (adds o t) x = record { head = WordOrSymbol (add_operator_token_kind o); tail = spell t ++ x; is = refl; ranked = add_rank o }
+headed (multiplies o f) x = record { head = WordOrSymbol (multiply_operator_token_kind o); tail = spell f ++ x; is = refl; ranked = multiply_rank o }
 headed (field n) x = record { head = WordOrSymbol (kind.Symbol symbol.Dot); tail = Name n ∷ x; is = refl; ranked = refl }
-headed (index e) x = record { head = WordOrSymbol (kind.Symbol symbol.LeftBracket); tail = (spell e ++ single_token (kind.Symbol symbol.RightBracket)) ++ x; is = refl; ranked = refl }
+headed (index e) x = record { head = WordOrSymbol (kind.Symbol symbol.LeftBracket); tail = (spell e ++ single_token_list (kind.Symbol symbol.RightBracket)) ++ x; is = refl; ranked = refl }
 headed no_arguments x = record { head = WordOrSymbol (kind.Symbol symbol.LeftParen); tail = WordOrSymbol (kind.Symbol symbol.RightParen) ∷ x; is = refl; ranked = refl }
-headed (some_arguments e es) x = record { head = WordOrSymbol (kind.Symbol symbol.LeftParen); tail = (spell e ++ (spell es ++ single_token (kind.Symbol symbol.RightParen))) ++ x; is = refl; ranked = refl }
+headed (some_arguments e es) x = record { head = WordOrSymbol (kind.Symbol symbol.LeftParen); tail = (spell e ++ (spell es ++ single_token_list (kind.Symbol symbol.RightParen))) ++ x; is = refl; ranked = refl }
 headed (then_argument e) x = record { head = WordOrSymbol (kind.Symbol symbol.Comma); tail = spell e ++ x; is = refl; ranked = refl }
 headed (then_statement s) x = record { head = WordOrSymbol (kind.Symbol symbol.Semicolon); tail = spell s ++ x; is = refl; ranked = refl }
 headed (elsif_branch c s) x = record { head = WordOrSymbol (kind.ReservedWord reserved.Elsif); tail = (spell c ++ (WordOrSymbol (kind.ReservedWord reserved.Then) ∷ spell s)) ++ x; is = refl; ranked = refl }
@@ -59,15 +59,15 @@ headed (else_branch s) x = record { head = WordOrSymbol (kind.ReservedWord reser
 headed (then_name n) x = record { head = WordOrSymbol (kind.Symbol symbol.Comma); tail = Name n ∷ x; is = refl; ranked = refl }
 headed (then_fields f) x = record { head = WordOrSymbol (kind.Symbol symbol.Semicolon); tail = spell f ++ x; is = refl; ranked = refl }
 headed no_formals x = record { head = WordOrSymbol (kind.Symbol symbol.LeftParen); tail = WordOrSymbol (kind.Symbol symbol.RightParen) ∷ x; is = refl; ranked = refl }
-headed (some_formals f fs) x = record { head = WordOrSymbol (kind.Symbol symbol.LeftParen); tail = (spell f ++ (spell fs ++ single_token (kind.Symbol symbol.RightParen))) ++ x; is = refl; ranked = refl }
+headed (some_formals f fs) x = record { head = WordOrSymbol (kind.Symbol symbol.LeftParen); tail = (spell f ++ (spell fs ++ single_token_list (kind.Symbol symbol.RightParen))) ++ x; is = refl; ranked = refl }
 headed (then_section f) x = record { head = WordOrSymbol (kind.Symbol symbol.Semicolon); tail = spell f ++ x; is = refl; ranked = refl }
-headed (declares_constant n e) x = record { head = Name n; tail = WordOrSymbol (kind.Symbol symbol.Equal) ∷ ((spell e ++ single_token (kind.Symbol symbol.Semicolon)) ++ x); is = refl; ranked = refl }
+headed (declares_constant n e) x = record { head = Name n; tail = WordOrSymbol (kind.Symbol symbol.Equal) ∷ ((spell e ++ single_token_list (kind.Symbol symbol.Semicolon)) ++ x); is = refl; ranked = refl }
 headed (declares_constants cs) x = record { head = WordOrSymbol (kind.ReservedWord reserved.Const); tail = spell cs ++ x; is = refl; ranked = refl }
-headed (declares_type n t) x = record { head = Name n; tail = WordOrSymbol (kind.Symbol symbol.Equal) ∷ ((spell t ++ single_token (kind.Symbol symbol.Semicolon)) ++ x); is = refl; ranked = refl }
+headed (declares_type n t) x = record { head = Name n; tail = WordOrSymbol (kind.Symbol symbol.Equal) ∷ ((spell t ++ single_token_list (kind.Symbol symbol.Semicolon)) ++ x); is = refl; ranked = refl }
 headed (declares_types ts) x = record { head = WordOrSymbol (kind.ReservedWord reserved.Type); tail = spell ts ++ x; is = refl; ranked = refl }
-headed (declares_variable (listed n others) t) x = record { head = Name n; tail = (spell others ++ (WordOrSymbol (kind.Symbol symbol.Colon) ∷ (spell t ++ single_token (kind.Symbol symbol.Semicolon)))) ++ x; is = refl; ranked = refl }
+headed (declares_variable (listed n others) t) x = record { head = Name n; tail = (spell others ++ (WordOrSymbol (kind.Symbol symbol.Colon) ∷ (spell t ++ single_token_list (kind.Symbol symbol.Semicolon)))) ++ x; is = refl; ranked = refl }
 headed (declares_variables vs) x = record { head = WordOrSymbol (kind.ReservedWord reserved.Var); tail = spell vs ++ x; is = refl; ranked = refl }
-headed (declares_procedure n fs b c) x = record { head = WordOrSymbol (kind.ReservedWord reserved.Procedure); tail = Name n ∷ ((spell fs ++ (WordOrSymbol (kind.Symbol symbol.Semicolon) ∷ (spell b ++ (WordOrSymbol (kind.ReservedWord reserved.End) ∷ Name c ∷ single_token (kind.Symbol symbol.Semicolon))))) ++ x); is = refl; ranked = refl }
+headed (declares_procedure n fs b c) x = record { head = WordOrSymbol (kind.ReservedWord reserved.Procedure); tail = Name n ∷ ((spell fs ++ (WordOrSymbol (kind.Symbol symbol.Semicolon) ∷ (spell b ++ (WordOrSymbol (kind.ReservedWord reserved.End) ∷ Name c ∷ single_token_list (kind.Symbol symbol.Semicolon))))) ++ x); is = refl; ranked = refl }
 headed (begins s) x = record { head = WordOrSymbol (kind.ReservedWord reserved.Begin); tail = spell s ++ x; is = refl; ranked = refl }
 
 -- If the tokens don't continue a list of items, no such item begins with them.
@@ -107,21 +107,21 @@ below comparison = omega arith
 below _ = omega arith
 
 -- Holds if the tokens don't begin with a sign, as for every factor.
-pub record HasNoSign {N : Type 0} (tokens : List (Terminal N)) : Type 0 where
+pub record BeginsWithoutSign {N : Type 0} (tokens : List (Terminal N)) : Type 0 where
   pub plus : (z : List (Terminal N)) → tokens ≡ WordOrSymbol (kind.Symbol symbol.Plus) ∷ z → ⊥
   pub minus : (z : List (Terminal N)) → tokens ≡ WordOrSymbol (kind.Symbol symbol.Minus) ∷ z → ⊥
 
-unsigned : {N : Type 0} (f : Tree N factor) (x : List (Terminal N)) → HasNoSign (spell f ++ x)
+unsigned : {N : Type 0} (f : Tree N factor) (x : List (Terminal N)) → BeginsWithoutSign (spell f ++ x)
 unsigned (designator n ss) x = record { plus = λ z e. cc; minus = λ z e. cc }
 unsigned (integer n) x = record { plus = λ z e. cc; minus = λ z e. cc }
 unsigned (parenthesised t) x = record { plus = λ z e. cc; minus = λ z e. cc }
 unsigned (negation f) x = record { plus = λ z e. cc; minus = λ z e. cc }
 
-pub unsigned_term : {N : Type 0} (t : Tree N term) (x : List (Terminal N)) → HasNoSign (spell t ++ x)
-unsigned_term (product f fs) x = subst HasNoSign (sym (append_assoc (spell f) (spell fs) x)) (unsigned f (spell fs ++ x))
+pub unsigned_term : {N : Type 0} (t : Tree N term) (x : List (Terminal N)) → BeginsWithoutSign (spell t ++ x)
+unsigned_term (product f fs) x = subst BeginsWithoutSign (sym (append_assoc (spell f) (spell fs) x)) (unsigned f (spell fs ++ x))
 
 -- Two optional signs before unsigned tokens are the same if the whole lists are.
-pub same_signs : {N : Type 0} (r s : Option Sign) (x y : List (Terminal N)) → HasNoSign x → HasNoSign y → sign_tokens r ++ x ≡ sign_tokens s ++ y → (r ≡ s) × (x ≡ y)
+pub same_signs : {N : Type 0} (r s : Option Sign) (x y : List (Terminal N)) → BeginsWithoutSign x → BeginsWithoutSign y → sign_tokens r ++ x ≡ sign_tokens s ++ y → (r ≡ s) × (x ≡ y)
 same_signs None None x y p q e = (refl, e)
 same_signs None (Some sign.Plus) x y p q e = absurd (p.plus y e)
 same_signs None (Some sign.Minus) x y p q e = absurd (p.minus y e)
@@ -132,7 +132,7 @@ same_signs (Some sign.Minus) (Some sign.Minus) x y p q e = (refl, cc)
 same_signs (Some sign.Plus) (Some sign.Minus) x y p q e = cc
 same_signs (Some sign.Minus) (Some sign.Plus) x y p q e = cc
 
-pub same_relation : (r s : Relation) → relation_token r ≡ relation_token s → r ≡ s
+pub same_relation : (r s : Relation) → relation_token_kind r ≡ relation_token_kind s → r ≡ s
 same_relation relation.Equal relation.Equal e = refl
 same_relation relation.NotEqual relation.NotEqual e = refl
 same_relation relation.Less relation.Less e = refl
@@ -141,13 +141,13 @@ same_relation relation.Greater relation.Greater e = refl
 same_relation relation.GreaterEqual relation.GreaterEqual e = refl
 same_relation _ _ e = cc
 
-pub same_add : (r s : AddOperator) → add_operator_token r ≡ add_operator_token s → r ≡ s
+pub same_add : (r s : AddOperator) → add_operator_token_kind r ≡ add_operator_token_kind s → r ≡ s
 same_add add_operator.Add add_operator.Add e = refl
 same_add add_operator.Subtract add_operator.Subtract e = refl
 same_add add_operator.Or add_operator.Or e = refl
 same_add _ _ e = cc
 
-pub same_multiply : (r s : MultiplyOperator) → multiply_operator_token r ≡ multiply_operator_token s → r ≡ s
+pub same_multiply : (r s : MultiplyOperator) → multiply_operator_token_kind r ≡ multiply_operator_token_kind s → r ≡ s
 same_multiply multiply_operator.Multiply multiply_operator.Multiply e = refl
 same_multiply multiply_operator.Divide multiply_operator.Divide e = refl
 same_multiply multiply_operator.Modulo multiply_operator.Modulo e = refl
@@ -175,14 +175,14 @@ not_at x c z n e l p =
     let s : EndsConstruct n (c ∷ z) = subst (λ y. EndsConstruct n y) e p in
     omega arith
 
-pub stops_closed : {N : Type 0} {i : Item} (ts : Tree N (items i)) (k : TokenKind) (x : List (Terminal N)) (n : ℕ) → n < item_rank i → item_rank i < kind_rank k → EndsConstruct n ((spell ts ++ single_token k) ++ x)
-stops_closed ts k x n l m = subst (λ z. EndsConstruct n z) (sym (append_assoc (spell ts) (single_token k) x)) (stops_items ts (WordOrSymbol k ∷ x) n l m)
+pub stops_closed : {N : Type 0} {i : Item} (ts : Tree N (items i)) (k : TokenKind) (x : List (Terminal N)) (n : ℕ) → n < item_rank i → item_rank i < kind_rank k → EndsConstruct n ((spell ts ++ single_token_list k) ++ x)
+stops_closed ts k x n l m = subst (λ z. EndsConstruct n z) (sym (append_assoc (spell ts) (single_token_list k) x)) (stops_items ts (WordOrSymbol k ∷ x) n l m)
 
-pub stops_else : {N : Type 0} (rest : Tree N (maybe else_part)) (x : List (Terminal N)) → EndsConstruct 10 ((spell rest ++ single_token (kind.ReservedWord reserved.End)) ++ x)
-stops_else rest x = subst (λ z. EndsConstruct 10 z) (sym (append_assoc (spell rest) (single_token (kind.ReservedWord reserved.End)) x)) (stops_maybe rest (WordOrSymbol (kind.ReservedWord reserved.End) ∷ x) 10 (omega arith) (omega arith))
+pub stops_else : {N : Type 0} (rest : Tree N (maybe else_part)) (x : List (Terminal N)) → EndsConstruct 10 ((spell rest ++ single_token_list (kind.ReservedWord reserved.End)) ++ x)
+stops_else rest x = subst (λ z. EndsConstruct 10 z) (sym (append_assoc (spell rest) (single_token_list (kind.ReservedWord reserved.End)) x)) (stops_maybe rest (WordOrSymbol (kind.ReservedWord reserved.End) ∷ x) 10 (omega arith) (omega arith))
 
-pub stops_branches : {N : Type 0} (es : Tree N (items elsif_part)) (rest : Tree N (maybe else_part)) (x : List (Terminal N)) → EndsConstruct 9 ((spell es ++ (spell rest ++ single_token (kind.ReservedWord reserved.End))) ++ x)
-stops_branches es rest x = subst (λ z. EndsConstruct 9 z) (sym (append_assoc (spell es) (spell rest ++ single_token (kind.ReservedWord reserved.End)) x)) (stops_items es ((spell rest ++ single_token (kind.ReservedWord reserved.End)) ++ x) 9 (omega arith) (stops_else rest x))
+pub stops_branches : {N : Type 0} (es : Tree N (items elsif_part)) (rest : Tree N (maybe else_part)) (x : List (Terminal N)) → EndsConstruct 9 ((spell es ++ (spell rest ++ single_token_list (kind.ReservedWord reserved.End))) ++ x)
+stops_branches es rest x = subst (λ z. EndsConstruct 9 z) (sym (append_assoc (spell es) (spell rest ++ single_token_list (kind.ReservedWord reserved.End)) x)) (stops_items es ((spell rest ++ single_token_list (kind.ReservedWord reserved.End)) ++ x) 9 (omega arith) (stops_else rest x))
 
 pub stops_variables : {N : Type 0} (vs : Tree N (maybe variables)) (ps : Tree N (items procedure)) (x : List (Terminal N)) → EndsConstruct 15 x → EndsConstruct 13 ((spell vs ++ spell ps) ++ x)
 stops_variables vs ps x p = subst (λ z. EndsConstruct 13 z) (sym (append_assoc (spell vs) (spell ps) x)) (stops_maybe vs (spell ps ++ x) 13 (omega arith) (stops_items ps x 14 (omega arith) p))
@@ -280,8 +280,8 @@ sum_only : {N : Type 0} (a0 : Option Sign) (a1 : Tree N term) (a2 : Tree N (item
 sum_only g a c h_a h_c (sum h b d) x y p q e =
     let whole = regroup (sign_tokens g) (spell a ++ spell c) x (sign_tokens h) (spell b ++ spell d) y e in
     let signs = same_signs g h ((spell a ++ spell c) ++ x) ((spell b ++ spell d) ++ y)
-    (subst HasNoSign (sym (append_assoc (spell a) (spell c) x)) (unsigned_term a (spell c ++ x)))
-    (subst HasNoSign (sym (append_assoc (spell b) (spell d) y)) (unsigned_term b (spell d ++ y))) whole in
+    (subst BeginsWithoutSign (sym (append_assoc (spell a) (spell c) x)) (unsigned_term a (spell c ++ x)))
+    (subst BeginsWithoutSign (sym (append_assoc (spell b) (spell d) y)) (unsigned_term b (spell d ++ y))) whole in
     let r = h_a.only b (spell c ++ x) (spell d ++ y) (stops_items c x 2 (omega arith) p) (stops_items d y 2 (omega arith) q) (regroup (spell a) (spell c) x (spell b) (spell d) y signs.1) in
     let rs = h_c.only d x y p q r.1 in
     (cc (signs.0, r.0, rs.0), rs.1)
@@ -322,7 +322,7 @@ integer_only n (negation f) x y p q e = absurd (number_not_mark e)
 parenthesised_only : {N : Type 0} (a0 : Tree N expression) → Unique a0 → (u : Tree N factor) (x y : List (Terminal N)) → EndsConstruct (level factor) x → EndsConstruct (level factor) y → spell (parenthesised a0) ++ x ≡ spell u ++ y → ((parenthesised a0) ≡ u) × (x ≡ y)
 parenthesised_only a h_a (parenthesised b) x y p q e =
     let close = WordOrSymbol (kind.Symbol symbol.RightParen) in
-    let r = h_a.only b (close ∷ x) (close ∷ y) (omega arith) (omega arith) (regroup (spell a) (single_token (kind.Symbol symbol.RightParen)) x (spell b) (single_token (kind.Symbol symbol.RightParen)) y (tail_of e)) in
+    let r = h_a.only b (close ∷ x) (close ∷ y) (omega arith) (omega arith) (regroup (spell a) (single_token_list (kind.Symbol symbol.RightParen)) x (spell b) (single_token_list (kind.Symbol symbol.RightParen)) y (tail_of e)) in
     (ap parenthesised r.0, tail_of r.1)
 parenthesised_only a h_a (designator n ss) x y p q e = absurd (name_not_mark (sym e))
 parenthesised_only a h_a (integer n) x y p q e = absurd (number_not_mark (sym e))
@@ -344,7 +344,7 @@ field_only n (index t) x y p q e = absurd (dot_not_bracket e)
 
 index_only : {N : Type 0} (a0 : Tree N expression) → Unique a0 → (u : Tree N (item selector)) (x y : List (Terminal N)) → EndsConstruct (level (item selector)) x → EndsConstruct (level (item selector)) y → spell (index a0) ++ x ≡ spell u ++ y → ((index a0) ≡ u) × (x ≡ y)
 index_only a h_a (index b) x y p q e =
-    let r = h_a.only b (WordOrSymbol (kind.Symbol symbol.RightBracket) ∷ x) (WordOrSymbol (kind.Symbol symbol.RightBracket) ∷ y) (omega arith) (omega arith) (regroup (spell a) (single_token (kind.Symbol symbol.RightBracket)) x (spell b) (single_token (kind.Symbol symbol.RightBracket)) y (tail_of e)) in
+    let r = h_a.only b (WordOrSymbol (kind.Symbol symbol.RightBracket) ∷ x) (WordOrSymbol (kind.Symbol symbol.RightBracket) ∷ y) (omega arith) (omega arith) (regroup (spell a) (single_token_list (kind.Symbol symbol.RightBracket)) x (spell b) (single_token_list (kind.Symbol symbol.RightBracket)) y (tail_of e)) in
     (ap index r.0, tail_of r.1)
 index_only a h_a (field n) x y p q e = absurd (dot_not_bracket (sym e))
 
@@ -382,10 +382,10 @@ calls_only n a h_a (repeat_loop s c) x y p q e = absurd (name_not_mark e)
 pub branches_only : {N : Type 0} (a0 : Tree N expression) (a1 : Tree N sequence) (a2 : Tree N (items elsif_part)) (a3 : Tree N (maybe else_part)) → Unique a0 → Unique a1 → Unique a2 → Unique a3 → (u : Tree N statement) (x y : List (Terminal N)) → EndsConstruct (level statement) y → spell (branches a0 a1 a2 a3) ++ x ≡ spell u ++ y → ((branches a0 a1 a2 a3) ≡ u) × (x ≡ y)
 branches_only c s es rest h_c h_s h_es h_rest empty x y q e = absurd (not_at y _ _ 8 (sym e) (omega arith) q)
 branches_only c s es rest h_c h_s h_es h_rest (branches d t fs others) x y q e =
-    let r = h_c.only d (WordOrSymbol (kind.ReservedWord reserved.Then) ∷ ((spell s ++ (spell es ++ (spell rest ++ single_token (kind.ReservedWord reserved.End)))) ++ x)) (WordOrSymbol (kind.ReservedWord reserved.Then) ∷ ((spell t ++ (spell fs ++ (spell others ++ single_token (kind.ReservedWord reserved.End)))) ++ y)) (omega arith) (omega arith) (regroup (spell c) _ x (spell d) _ y (tail_of e)) in
-    let r1 = h_s.only t ((spell es ++ (spell rest ++ single_token (kind.ReservedWord reserved.End))) ++ x) ((spell fs ++ (spell others ++ single_token (kind.ReservedWord reserved.End))) ++ y) (stops_branches es rest x) (stops_branches fs others y) (regroup (spell s) _ x (spell t) _ y (tail_of r.1)) in
-    let r2 = h_es.only fs ((spell rest ++ single_token (kind.ReservedWord reserved.End)) ++ x) ((spell others ++ single_token (kind.ReservedWord reserved.End)) ++ y) (stops_else rest x) (stops_else others y) (regroup (spell es) _ x (spell fs) _ y r1.1) in
-    let r3 = h_rest.only others (WordOrSymbol (kind.ReservedWord reserved.End) ∷ x) (WordOrSymbol (kind.ReservedWord reserved.End) ∷ y) (omega arith) (omega arith) (regroup (spell rest) (single_token (kind.ReservedWord reserved.End)) x (spell others) (single_token (kind.ReservedWord reserved.End)) y r2.1) in
+    let r = h_c.only d (WordOrSymbol (kind.ReservedWord reserved.Then) ∷ ((spell s ++ (spell es ++ (spell rest ++ single_token_list (kind.ReservedWord reserved.End)))) ++ x)) (WordOrSymbol (kind.ReservedWord reserved.Then) ∷ ((spell t ++ (spell fs ++ (spell others ++ single_token_list (kind.ReservedWord reserved.End)))) ++ y)) (omega arith) (omega arith) (regroup (spell c) _ x (spell d) _ y (tail_of e)) in
+    let r1 = h_s.only t ((spell es ++ (spell rest ++ single_token_list (kind.ReservedWord reserved.End))) ++ x) ((spell fs ++ (spell others ++ single_token_list (kind.ReservedWord reserved.End))) ++ y) (stops_branches es rest x) (stops_branches fs others y) (regroup (spell s) _ x (spell t) _ y (tail_of r.1)) in
+    let r2 = h_es.only fs ((spell rest ++ single_token_list (kind.ReservedWord reserved.End)) ++ x) ((spell others ++ single_token_list (kind.ReservedWord reserved.End)) ++ y) (stops_else rest x) (stops_else others y) (regroup (spell es) _ x (spell fs) _ y r1.1) in
+    let r3 = h_rest.only others (WordOrSymbol (kind.ReservedWord reserved.End) ∷ x) (WordOrSymbol (kind.ReservedWord reserved.End) ∷ y) (omega arith) (omega arith) (regroup (spell rest) (single_token_list (kind.ReservedWord reserved.End)) x (spell others) (single_token_list (kind.ReservedWord reserved.End)) y r2.1) in
     (cc (r.0, r1.0, r2.0, r3.0), tail_of r3.1)
 branches_only c s es rest h_c h_s h_es h_rest (while_loop d t) x y q e = absurd (not_while (mark_of e))
 branches_only c s es rest h_c h_s h_es h_rest (repeat_loop t d) x y q e = absurd (not_repeat (mark_of e))
@@ -395,8 +395,8 @@ branches_only c s es rest h_c h_s h_es h_rest (calls n a) x y q e = absurd (name
 pub while_loop_only : {N : Type 0} (a0 : Tree N expression) (a1 : Tree N sequence) → Unique a0 → Unique a1 → (u : Tree N statement) (x y : List (Terminal N)) → EndsConstruct (level statement) y → spell (while_loop a0 a1) ++ x ≡ spell u ++ y → ((while_loop a0 a1) ≡ u) × (x ≡ y)
 while_loop_only c s h_c h_s empty x y q e = absurd (not_at y _ _ 8 (sym e) (omega arith) q)
 while_loop_only c s h_c h_s (while_loop d t) x y q e =
-    let r = h_c.only d (WordOrSymbol (kind.ReservedWord reserved.Do) ∷ ((spell s ++ single_token (kind.ReservedWord reserved.End)) ++ x)) (WordOrSymbol (kind.ReservedWord reserved.Do) ∷ ((spell t ++ single_token (kind.ReservedWord reserved.End)) ++ y)) (omega arith) (omega arith) (regroup (spell c) _ x (spell d) _ y (tail_of e)) in
-    let r1 = h_s.only t (WordOrSymbol (kind.ReservedWord reserved.End) ∷ x) (WordOrSymbol (kind.ReservedWord reserved.End) ∷ y) (omega arith) (omega arith) (regroup (spell s) (single_token (kind.ReservedWord reserved.End)) x (spell t) (single_token (kind.ReservedWord reserved.End)) y (tail_of r.1)) in
+    let r = h_c.only d (WordOrSymbol (kind.ReservedWord reserved.Do) ∷ ((spell s ++ single_token_list (kind.ReservedWord reserved.End)) ++ x)) (WordOrSymbol (kind.ReservedWord reserved.Do) ∷ ((spell t ++ single_token_list (kind.ReservedWord reserved.End)) ++ y)) (omega arith) (omega arith) (regroup (spell c) _ x (spell d) _ y (tail_of e)) in
+    let r1 = h_s.only t (WordOrSymbol (kind.ReservedWord reserved.End) ∷ x) (WordOrSymbol (kind.ReservedWord reserved.End) ∷ y) (omega arith) (omega arith) (regroup (spell s) (single_token_list (kind.ReservedWord reserved.End)) x (spell t) (single_token_list (kind.ReservedWord reserved.End)) y (tail_of r.1)) in
     (cc (r.0, r1.0), tail_of r1.1)
 while_loop_only c s h_c h_s (branches d t fs others) x y q e = absurd (not_while (sym (mark_of e)))
 while_loop_only c s h_c h_s (repeat_loop t d) x y q e = absurd (while_not_repeat (mark_of e))
@@ -421,8 +421,8 @@ no_arguments_only (some_arguments a cs) x y p q e = absurd (no_expression a _ _ 
 some_arguments_only : {N : Type 0} (a0 : Tree N expression) (a1 : Tree N (items further_argument)) → Unique a0 → Unique a1 → (u : Tree N (item arguments)) (x y : List (Terminal N)) → EndsConstruct (level (item arguments)) x → EndsConstruct (level (item arguments)) y → spell (some_arguments a0 a1) ++ x ≡ spell u ++ y → ((some_arguments a0 a1) ≡ u) × (x ≡ y)
 some_arguments_only a cs h_a h_cs no_arguments x y p q e = absurd (no_expression a _ _ (sym (append_assoc (spell a) _ x) ∙ tail_of e))
 some_arguments_only a cs h_a h_cs (some_arguments b bs) x y p q e =
-    let r = h_a.only b ((spell cs ++ single_token (kind.Symbol symbol.RightParen)) ++ x) ((spell bs ++ single_token (kind.Symbol symbol.RightParen)) ++ y) (stops_closed cs (kind.Symbol symbol.RightParen) x 4 (omega arith) (omega arith)) (stops_closed bs (kind.Symbol symbol.RightParen) y 4 (omega arith) (omega arith)) (regroup (spell a) _ x (spell b) _ y (tail_of e)) in
-    let rs = h_cs.only bs (WordOrSymbol (kind.Symbol symbol.RightParen) ∷ x) (WordOrSymbol (kind.Symbol symbol.RightParen) ∷ y) (omega arith) (omega arith) (regroup (spell cs) (single_token (kind.Symbol symbol.RightParen)) x (spell bs) (single_token (kind.Symbol symbol.RightParen)) y r.1) in
+    let r = h_a.only b ((spell cs ++ single_token_list (kind.Symbol symbol.RightParen)) ++ x) ((spell bs ++ single_token_list (kind.Symbol symbol.RightParen)) ++ y) (stops_closed cs (kind.Symbol symbol.RightParen) x 4 (omega arith) (omega arith)) (stops_closed bs (kind.Symbol symbol.RightParen) y 4 (omega arith) (omega arith)) (regroup (spell a) _ x (spell b) _ y (tail_of e)) in
+    let rs = h_cs.only bs (WordOrSymbol (kind.Symbol symbol.RightParen) ∷ x) (WordOrSymbol (kind.Symbol symbol.RightParen) ∷ y) (omega arith) (omega arith) (regroup (spell cs) (single_token_list (kind.Symbol symbol.RightParen)) x (spell bs) (single_token_list (kind.Symbol symbol.RightParen)) y r.1) in
     (cc (r.0, rs.0), tail_of rs.1)
 
 then_argument_only : {N : Type 0} (a0 : Tree N expression) → Unique a0 → (u : Tree N (item further_argument)) (x y : List (Terminal N)) → EndsConstruct (level (item further_argument)) x → EndsConstruct (level (item further_argument)) y → spell (then_argument a0) ++ x ≡ spell u ++ y → ((then_argument a0) ≡ u) × (x ≡ y)
@@ -474,8 +474,8 @@ array_type_only a t h_a h_t (record_type f fs) x y p q e = absurd (array_not_rec
 
 record_type_only : {N : Type 0} (a0 : Tree N fields) (a1 : Tree N (items further_fields)) → Unique a0 → Unique a1 → (u : Tree N written_type) (x y : List (Terminal N)) → EndsConstruct (level written_type) x → EndsConstruct (level written_type) y → spell (record_type a0 a1) ++ x ≡ spell u ++ y → ((record_type a0 a1) ≡ u) × (x ≡ y)
 record_type_only a cs h_a h_cs (record_type b bs) x y p q e =
-    let r = h_a.only b ((spell cs ++ single_token (kind.ReservedWord reserved.End)) ++ x) ((spell bs ++ single_token (kind.ReservedWord reserved.End)) ++ y) (stops_closed cs (kind.ReservedWord reserved.End) x 7 (omega arith) (omega arith)) (stops_closed bs (kind.ReservedWord reserved.End) y 7 (omega arith) (omega arith)) (regroup (spell a) _ x (spell b) _ y (tail_of e)) in
-    let rs = h_cs.only bs (WordOrSymbol (kind.ReservedWord reserved.End) ∷ x) (WordOrSymbol (kind.ReservedWord reserved.End) ∷ y) (omega arith) (omega arith) (regroup (spell cs) (single_token (kind.ReservedWord reserved.End)) x (spell bs) (single_token (kind.ReservedWord reserved.End)) y r.1) in
+    let r = h_a.only b ((spell cs ++ single_token_list (kind.ReservedWord reserved.End)) ++ x) ((spell bs ++ single_token_list (kind.ReservedWord reserved.End)) ++ y) (stops_closed cs (kind.ReservedWord reserved.End) x 7 (omega arith) (omega arith)) (stops_closed bs (kind.ReservedWord reserved.End) y 7 (omega arith) (omega arith)) (regroup (spell a) _ x (spell b) _ y (tail_of e)) in
+    let rs = h_cs.only bs (WordOrSymbol (kind.ReservedWord reserved.End) ∷ x) (WordOrSymbol (kind.ReservedWord reserved.End) ∷ y) (omega arith) (omega arith) (regroup (spell cs) (single_token_list (kind.ReservedWord reserved.End)) x (spell bs) (single_token_list (kind.ReservedWord reserved.End)) y r.1) in
     (cc (r.0, rs.0), tail_of rs.1)
 record_type_only a cs h_a h_cs (named_type n) x y p q e = absurd (name_not_mark (sym e))
 record_type_only a cs h_a h_cs (array_type b t) x y p q e = absurd (array_not_record (sym e))
@@ -501,8 +501,8 @@ no_formals_only (some_formals a cs) x y p q e = absurd (no_section a _ _ (sym (a
 some_formals_only : {N : Type 0} (a0 : Tree N section) (a1 : Tree N (items further_section)) → Unique a0 → Unique a1 → (u : Tree N (item formals)) (x y : List (Terminal N)) → EndsConstruct (level (item formals)) x → EndsConstruct (level (item formals)) y → spell (some_formals a0 a1) ++ x ≡ spell u ++ y → ((some_formals a0 a1) ≡ u) × (x ≡ y)
 some_formals_only a cs h_a h_cs no_formals x y p q e = absurd (no_section a _ _ (sym (append_assoc (spell a) _ x) ∙ tail_of e))
 some_formals_only a cs h_a h_cs (some_formals b bs) x y p q e =
-    let r = h_a.only b ((spell cs ++ single_token (kind.Symbol symbol.RightParen)) ++ x) ((spell bs ++ single_token (kind.Symbol symbol.RightParen)) ++ y) (stops_closed cs (kind.Symbol symbol.RightParen) x 0 (omega arith) (omega arith)) (stops_closed bs (kind.Symbol symbol.RightParen) y 0 (omega arith) (omega arith)) (regroup (spell a) _ x (spell b) _ y (tail_of e)) in
-    let rs = h_cs.only bs (WordOrSymbol (kind.Symbol symbol.RightParen) ∷ x) (WordOrSymbol (kind.Symbol symbol.RightParen) ∷ y) (omega arith) (omega arith) (regroup (spell cs) (single_token (kind.Symbol symbol.RightParen)) x (spell bs) (single_token (kind.Symbol symbol.RightParen)) y r.1) in
+    let r = h_a.only b ((spell cs ++ single_token_list (kind.Symbol symbol.RightParen)) ++ x) ((spell bs ++ single_token_list (kind.Symbol symbol.RightParen)) ++ y) (stops_closed cs (kind.Symbol symbol.RightParen) x 0 (omega arith) (omega arith)) (stops_closed bs (kind.Symbol symbol.RightParen) y 0 (omega arith) (omega arith)) (regroup (spell a) _ x (spell b) _ y (tail_of e)) in
+    let rs = h_cs.only bs (WordOrSymbol (kind.Symbol symbol.RightParen) ∷ x) (WordOrSymbol (kind.Symbol symbol.RightParen) ∷ y) (omega arith) (omega arith) (regroup (spell cs) (single_token_list (kind.Symbol symbol.RightParen)) x (spell bs) (single_token_list (kind.Symbol symbol.RightParen)) y r.1) in
     (cc (r.0, rs.0), tail_of rs.1)
 
 value_section_only : {N : Type 0} (a0 : Tree N names) (a1 : Tree N written_type) → Unique a0 → Unique a1 → (u : Tree N section) (x y : List (Terminal N)) → EndsConstruct (level section) x → EndsConstruct (level section) y → spell (value_section a0 a1) ++ x ≡ spell u ++ y → ((value_section a0 a1) ≡ u) × (x ≡ y)
@@ -524,7 +524,7 @@ then_section_only a h_a (then_section b) x y p q e = let r = h_a.only b x y p q 
 
 declares_constant_only : {N : Type 0} (a0 : N) (a1 : Tree N expression) → Unique a1 → (u : Tree N (item constant)) (x y : List (Terminal N)) → EndsConstruct (level (item constant)) x → EndsConstruct (level (item constant)) y → spell (declares_constant a0 a1) ++ x ≡ spell u ++ y → ((declares_constant a0 a1) ≡ u) × (x ≡ y)
 declares_constant_only n a h_a (declares_constant m b) x y p q e =
-    let r = h_a.only b (WordOrSymbol (kind.Symbol symbol.Semicolon) ∷ x) (WordOrSymbol (kind.Symbol symbol.Semicolon) ∷ y) (omega arith) (omega arith) (regroup (spell a) (single_token (kind.Symbol symbol.Semicolon)) x (spell b) (single_token (kind.Symbol symbol.Semicolon)) y (tail_of (tail_of e))) in
+    let r = h_a.only b (WordOrSymbol (kind.Symbol symbol.Semicolon) ∷ x) (WordOrSymbol (kind.Symbol symbol.Semicolon) ∷ y) (omega arith) (omega arith) (regroup (spell a) (single_token_list (kind.Symbol symbol.Semicolon)) x (spell b) (single_token_list (kind.Symbol symbol.Semicolon)) y (tail_of (tail_of e))) in
     let names : n ≡ m = name_of e in
     (cc (names, r.0), tail_of r.1)
 
@@ -533,7 +533,7 @@ declares_constants_only a h_a (declares_constants b) x y p q e = let r = h_a.onl
 
 declares_type_only : {N : Type 0} (a0 : N) (a1 : Tree N written_type) → Unique a1 → (u : Tree N (item type_definition)) (x y : List (Terminal N)) → EndsConstruct (level (item type_definition)) x → EndsConstruct (level (item type_definition)) y → spell (declares_type a0 a1) ++ x ≡ spell u ++ y → ((declares_type a0 a1) ≡ u) × (x ≡ y)
 declares_type_only n a h_a (declares_type m b) x y p q e =
-    let r = h_a.only b (WordOrSymbol (kind.Symbol symbol.Semicolon) ∷ x) (WordOrSymbol (kind.Symbol symbol.Semicolon) ∷ y) (omega arith) (omega arith) (regroup (spell a) (single_token (kind.Symbol symbol.Semicolon)) x (spell b) (single_token (kind.Symbol symbol.Semicolon)) y (tail_of (tail_of e))) in
+    let r = h_a.only b (WordOrSymbol (kind.Symbol symbol.Semicolon) ∷ x) (WordOrSymbol (kind.Symbol symbol.Semicolon) ∷ y) (omega arith) (omega arith) (regroup (spell a) (single_token_list (kind.Symbol symbol.Semicolon)) x (spell b) (single_token_list (kind.Symbol symbol.Semicolon)) y (tail_of (tail_of e))) in
     let names : n ≡ m = name_of e in
     (cc (names, r.0), tail_of r.1)
 
@@ -542,8 +542,8 @@ declares_types_only a h_a (declares_types b) x y p q e = let r = h_a.only b x y 
 
 declares_variable_only : {N : Type 0} (a0 : Tree N names) (a1 : Tree N written_type) → Unique a0 → Unique a1 → (u : Tree N (item variable)) (x y : List (Terminal N)) → EndsConstruct (level (item variable)) x → EndsConstruct (level (item variable)) y → spell (declares_variable a0 a1) ++ x ≡ spell u ++ y → ((declares_variable a0 a1) ≡ u) × (x ≡ y)
 declares_variable_only a t h_a h_t (declares_variable b u) x y p q e =
-    let r = h_a.only b (WordOrSymbol (kind.Symbol symbol.Colon) ∷ ((spell t ++ single_token (kind.Symbol symbol.Semicolon)) ++ x)) (WordOrSymbol (kind.Symbol symbol.Colon) ∷ ((spell u ++ single_token (kind.Symbol symbol.Semicolon)) ++ y)) (omega arith) (omega arith) (regroup (spell a) _ x (spell b) _ y e) in
-    let rs = h_t.only u (WordOrSymbol (kind.Symbol symbol.Semicolon) ∷ x) (WordOrSymbol (kind.Symbol symbol.Semicolon) ∷ y) (omega arith) (omega arith) (regroup (spell t) (single_token (kind.Symbol symbol.Semicolon)) x (spell u) (single_token (kind.Symbol symbol.Semicolon)) y (tail_of r.1)) in
+    let r = h_a.only b (WordOrSymbol (kind.Symbol symbol.Colon) ∷ ((spell t ++ single_token_list (kind.Symbol symbol.Semicolon)) ++ x)) (WordOrSymbol (kind.Symbol symbol.Colon) ∷ ((spell u ++ single_token_list (kind.Symbol symbol.Semicolon)) ++ y)) (omega arith) (omega arith) (regroup (spell a) _ x (spell b) _ y e) in
+    let rs = h_t.only u (WordOrSymbol (kind.Symbol symbol.Semicolon) ∷ x) (WordOrSymbol (kind.Symbol symbol.Semicolon) ∷ y) (omega arith) (omega arith) (regroup (spell t) (single_token_list (kind.Symbol symbol.Semicolon)) x (spell u) (single_token_list (kind.Symbol symbol.Semicolon)) y (tail_of r.1)) in
     (cc (r.0, rs.0), tail_of rs.1)
 
 declares_variables_only : {N : Type 0} (a0 : Tree N (items variable)) → Unique a0 → (u : Tree N (item variables)) (x y : List (Terminal N)) → EndsConstruct (level (item variables)) x → EndsConstruct (level (item variables)) y → spell (declares_variables a0) ++ x ≡ spell u ++ y → ((declares_variables a0) ≡ u) × (x ≡ y)
@@ -552,8 +552,8 @@ declares_variables_only a h_a (declares_variables b) x y p q e = let r = h_a.onl
 declares_procedure_only : {N : Type 0} (a0 : N) (a1 : Tree N (maybe formals)) (a2 : Tree N block) (a3 : N) → Unique a1 → Unique a2 → (u : Tree N (item procedure)) (x y : List (Terminal N)) → EndsConstruct (level (item procedure)) x → EndsConstruct (level (item procedure)) y → spell (declares_procedure a0 a1 a2 a3) ++ x ≡ spell u ++ y → ((declares_procedure a0 a1 a2 a3) ≡ u) × (x ≡ y)
 declares_procedure_only n fs b c h_fs h_b (declares_procedure m gs d k) x y p q e =
     let names : n ≡ m = name_of (tail_of e) in
-    let r = h_fs.only gs (WordOrSymbol (kind.Symbol symbol.Semicolon) ∷ ((spell b ++ (WordOrSymbol (kind.ReservedWord reserved.End) ∷ Name c ∷ single_token (kind.Symbol symbol.Semicolon))) ++ x)) (WordOrSymbol (kind.Symbol symbol.Semicolon) ∷ ((spell d ++ (WordOrSymbol (kind.ReservedWord reserved.End) ∷ Name k ∷ single_token (kind.Symbol symbol.Semicolon))) ++ y)) (omega arith) (omega arith) (regroup (spell fs) _ x (spell gs) _ y (tail_of (tail_of e))) in
-    let r1 = h_b.only d (WordOrSymbol (kind.ReservedWord reserved.End) ∷ Name c ∷ WordOrSymbol (kind.Symbol symbol.Semicolon) ∷ x) (WordOrSymbol (kind.ReservedWord reserved.End) ∷ Name k ∷ WordOrSymbol (kind.Symbol symbol.Semicolon) ∷ y) (omega arith) (omega arith) (regroup (spell b) (WordOrSymbol (kind.ReservedWord reserved.End) ∷ Name c ∷ single_token (kind.Symbol symbol.Semicolon)) x (spell d) (WordOrSymbol (kind.ReservedWord reserved.End) ∷ Name k ∷ single_token (kind.Symbol symbol.Semicolon)) y (tail_of r.1)) in
+    let r = h_fs.only gs (WordOrSymbol (kind.Symbol symbol.Semicolon) ∷ ((spell b ++ (WordOrSymbol (kind.ReservedWord reserved.End) ∷ Name c ∷ single_token_list (kind.Symbol symbol.Semicolon))) ++ x)) (WordOrSymbol (kind.Symbol symbol.Semicolon) ∷ ((spell d ++ (WordOrSymbol (kind.ReservedWord reserved.End) ∷ Name k ∷ single_token_list (kind.Symbol symbol.Semicolon))) ++ y)) (omega arith) (omega arith) (regroup (spell fs) _ x (spell gs) _ y (tail_of (tail_of e))) in
+    let r1 = h_b.only d (WordOrSymbol (kind.ReservedWord reserved.End) ∷ Name c ∷ WordOrSymbol (kind.Symbol symbol.Semicolon) ∷ x) (WordOrSymbol (kind.ReservedWord reserved.End) ∷ Name k ∷ WordOrSymbol (kind.Symbol symbol.Semicolon) ∷ y) (omega arith) (omega arith) (regroup (spell b) (WordOrSymbol (kind.ReservedWord reserved.End) ∷ Name c ∷ single_token_list (kind.Symbol symbol.Semicolon)) x (spell d) (WordOrSymbol (kind.ReservedWord reserved.End) ∷ Name k ∷ single_token_list (kind.Symbol symbol.Semicolon)) y (tail_of r.1)) in
     let closing : c ≡ k = name_of (tail_of r1.1) in
     (cc (names, r.0, r1.0, closing), tail_of (tail_of (tail_of r1.1)))
 
@@ -577,7 +577,7 @@ has_body_only a c h_a h_c (forms_block b d) x y p q e =
 is_module_only : {N : Type 0} (a0 : N) (a1 : Tree N block) (a2 : N) → Unique a1 → (u : Tree N module_text) (x y : List (Terminal N)) → EndsConstruct (level module_text) x → EndsConstruct (level module_text) y → spell (is_module a0 a1 a2) ++ x ≡ spell u ++ y → ((is_module a0 a1 a2) ≡ u) × (x ≡ y)
 is_module_only n b c h_b (is_module m d k) x y p q e =
     let names : n ≡ m = name_of (tail_of e) in
-    let r1 = h_b.only d (WordOrSymbol (kind.ReservedWord reserved.End) ∷ Name c ∷ WordOrSymbol (kind.Symbol symbol.Dot) ∷ x) (WordOrSymbol (kind.ReservedWord reserved.End) ∷ Name k ∷ WordOrSymbol (kind.Symbol symbol.Dot) ∷ y) (omega arith) (omega arith) (regroup (spell b) (WordOrSymbol (kind.ReservedWord reserved.End) ∷ Name c ∷ single_token (kind.Symbol symbol.Dot)) x (spell d) (WordOrSymbol (kind.ReservedWord reserved.End) ∷ Name k ∷ single_token (kind.Symbol symbol.Dot)) y (tail_of (tail_of (tail_of e)))) in
+    let r1 = h_b.only d (WordOrSymbol (kind.ReservedWord reserved.End) ∷ Name c ∷ WordOrSymbol (kind.Symbol symbol.Dot) ∷ x) (WordOrSymbol (kind.ReservedWord reserved.End) ∷ Name k ∷ WordOrSymbol (kind.Symbol symbol.Dot) ∷ y) (omega arith) (omega arith) (regroup (spell b) (WordOrSymbol (kind.ReservedWord reserved.End) ∷ Name c ∷ single_token_list (kind.Symbol symbol.Dot)) x (spell d) (WordOrSymbol (kind.ReservedWord reserved.End) ∷ Name k ∷ single_token_list (kind.Symbol symbol.Dot)) y (tail_of (tail_of (tail_of e)))) in
     let closing : c ≡ k = name_of (tail_of r1.1) in
     (cc (names, r1.0, closing), tail_of (tail_of (tail_of r1.1)))
 

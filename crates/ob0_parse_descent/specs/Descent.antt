@@ -13,9 +13,9 @@ use Rattle.ob0_scan.specs.declared.lexeme.Symbol.TheVariants as symbol
 use Rattle.ob0_tree.specs.Lexeme.{Terminal, Name, Number, WordOrSymbol, EndOfText}
 use Rattle.ob0_tree.specs.Module.{max_nesting}
 use Rattle.ob0_tree.specs.Tree.{Item, selector, multiplier, addend, comparison, arguments, further_argument, further_statement, elsif_part, else_part, further_name, further_fields, formals, further_section, constant, constants, type_definition, type_definitions, variable, variables, procedure, body, Sort, item, items, maybe, expression, simple, term, factor, statement, sequence, names, written_type, fields, section, declarations, block, module_text}
-use Rattle.ob0_parse_descent.specs.Follow.{rank, item_rank, opens_expression}
-use Rattle.ob0_parse_descent.specs.declared.refusal.Expected.{Expected}
-use Rattle.ob0_parse_descent.specs.declared.refusal.Expected.TheVariants as expected
+use Rattle.ob0_parse_descent.specs.Follow.{rank, item_rank, may_begin_expression}
+use Rattle.ob0_parse_descent.specs.declared.refusal.ExpectedSyntax.{ExpectedSyntax}
+use Rattle.ob0_parse_descent.specs.declared.refusal.ExpectedSyntax.TheVariants as expected
 
 -- A part of a production: a reserved word or symbol, an identifier, an integer, a construct with at
 -- most `room` levels of nesting, or the end of the text.
@@ -33,12 +33,12 @@ pub data ProductionPart : Type 0 where
 -- or construct is expected, or that the construct is nested too deep.
 pub data ProductionChoice : Type 0 where
   parts : List ProductionPart → ProductionChoice
-  missing : Expected → ProductionChoice
+  missing : ExpectedSyntax → ProductionChoice
   too_deep : ProductionChoice
 
 -- Returns the part of a production that is the reserved word `w`.
-abbrev pub reserved_part : ReservedWord → ProductionPart
-reserved_part w = token (kind.ReservedWord w)
+abbrev pub reserved_word_part : ReservedWord → ProductionPart
+reserved_word_part w = token (kind.ReservedWord w)
 
 -- Returns the part of a production that is the symbol `s`.
 abbrev pub symbol_part : Symbol → ProductionPart
@@ -60,14 +60,14 @@ is_item_next i (x ∷ tokens) = rank x == item_rank i
 abbrev pub is_expression_next : List (Terminal ℕ) → Bool
 is_expression_next (Name n ∷ tokens) = true
 is_expression_next (Number n ∷ tokens) = true
-is_expression_next (WordOrSymbol k ∷ tokens) = opens_expression (Some k)
+is_expression_next (WordOrSymbol k ∷ tokens) = may_begin_expression (Some k)
 is_expression_next tokens = false
 
 -- Returns whether the next token begins a section of formal parameters.
-abbrev pub is_section_next : List (Terminal ℕ) → Bool
-is_section_next (Name n ∷ tokens) = true
-is_section_next (WordOrSymbol (kind.ReservedWord reserved.Var) ∷ tokens) = true
-is_section_next tokens = false
+abbrev pub is_parameter_section_next : List (Terminal ℕ) → Bool
+is_parameter_section_next (Name n ∷ tokens) = true
+is_parameter_section_next (WordOrSymbol (kind.ReservedWord reserved.Var) ∷ tokens) = true
+is_parameter_section_next tokens = false
 
 -- Returns whether a statement is an assignment, given the tokens after its identifier. It is an
 -- assignment if the next token is `:=` or begins a selector.
@@ -113,16 +113,16 @@ chosen_item_production further_statement room tokens = parts (symbol_part symbol
 -- elsif_part = ELSIF expression THEN sequence
 chosen_item_production elsif_part room tokens =
     parts
-    (reserved_part reserved.Elsif ∷ nonterminal expression room ∷ reserved_part reserved.Then ∷ nonterminal sequence room ∷ [])
+    (reserved_word_part reserved.Elsif ∷ nonterminal expression room ∷ reserved_word_part reserved.Then ∷ nonterminal sequence room ∷ [])
 -- else_part = ELSE sequence
-chosen_item_production else_part room tokens = parts (reserved_part reserved.Else ∷ nonterminal sequence room ∷ [])
+chosen_item_production else_part room tokens = parts (reserved_word_part reserved.Else ∷ nonterminal sequence room ∷ [])
 -- further_name = "," ident
 chosen_item_production further_name room tokens = parts (symbol_part symbol.Comma ∷ name ∷ [])
 -- further_fields = ";" fields
 chosen_item_production further_fields room tokens = parts (symbol_part symbol.Semicolon ∷ nonterminal fields room ∷ [])
 -- formals = "(" [section {further_section}] ")"
 chosen_item_production formals room tokens =
-    if is_section_next (drop 1 tokens)
+    if is_parameter_section_next (drop 1 tokens)
     then parts (symbol_part symbol.LeftParen
     ∷ nonterminal section room
     ∷ nonterminal (items further_section) room
@@ -135,34 +135,34 @@ chosen_item_production further_section room tokens = parts (symbol_part symbol.S
 chosen_item_production constant room tokens =
     parts (name ∷ symbol_part symbol.Equal ∷ nonterminal expression room ∷ symbol_part symbol.Semicolon ∷ [])
 -- constants = CONST {constant}
-chosen_item_production constants room tokens = parts (reserved_part reserved.Const ∷ nonterminal (items constant) room ∷ [])
+chosen_item_production constants room tokens = parts (reserved_word_part reserved.Const ∷ nonterminal (items constant) room ∷ [])
 -- type_definition = ident "=" type ";"
 chosen_item_production type_definition room tokens =
     parts (name ∷ symbol_part symbol.Equal ∷ nonterminal written_type room ∷ symbol_part symbol.Semicolon ∷ [])
 -- type_definitions = TYPE {type_definition}
-chosen_item_production type_definitions room tokens = parts (reserved_part reserved.Type ∷ nonterminal (items type_definition) room ∷ [])
+chosen_item_production type_definitions room tokens = parts (reserved_word_part reserved.Type ∷ nonterminal (items type_definition) room ∷ [])
 -- variable = identList ":" type ";"
 chosen_item_production variable room tokens =
     parts (nonterminal names 0 ∷ symbol_part symbol.Colon ∷ nonterminal written_type room ∷ symbol_part symbol.Semicolon ∷ [])
 -- variables = VAR {variable}
-chosen_item_production variables room tokens = parts (reserved_part reserved.Var ∷ nonterminal (items variable) room ∷ [])
+chosen_item_production variables room tokens = parts (reserved_word_part reserved.Var ∷ nonterminal (items variable) room ∷ [])
 -- procedure = PROCEDURE ident [formals] ";" block END ident ";"
 chosen_item_production procedure room tokens =
-    nested_choice room (λ inner. reserved_part reserved.Procedure
+    nested_choice room (λ inner. reserved_word_part reserved.Procedure
     ∷ name
     ∷ nonterminal (maybe formals) inner
     ∷ symbol_part symbol.Semicolon
     ∷ nonterminal block inner
-    ∷ reserved_part reserved.End
+    ∷ reserved_word_part reserved.End
     ∷ name
     ∷ symbol_part symbol.Semicolon
     ∷ [])
 -- body = BEGIN sequence
-chosen_item_production body room tokens = parts (reserved_part reserved.Begin ∷ nonterminal sequence room ∷ [])
+chosen_item_production body room tokens = parts (reserved_word_part reserved.Begin ∷ nonterminal sequence room ∷ [])
 
 -- Returns the production that the next tokens determine for a construct, with `room` levels of
--- nesting left. A list of names needs no level (`nonterminal names 0`), because its parts don't count for
--- nesting.
+-- nesting left. A list of names needs no level (`nonterminal names 0`), because its parts don't
+-- count for nesting.
 abbrev pub chosen_production : Sort → (room : ℕ) → List (Terminal ℕ) → ProductionChoice
 chosen_production (item i) room tokens = chosen_item_production i room tokens
 chosen_production (items i) room tokens =
@@ -197,27 +197,27 @@ chosen_production statement room (Name n ∷ tokens) =
     else parts (name ∷ nonterminal (maybe arguments) room ∷ [])
 -- if = IF expression THEN sequence {elsif_part} [else_part] END
 chosen_production statement room (WordOrSymbol (kind.ReservedWord reserved.If) ∷ tokens) =
-    nested_choice room (λ inner. reserved_part reserved.If
+    nested_choice room (λ inner. reserved_word_part reserved.If
     ∷ nonterminal expression inner
-    ∷ reserved_part reserved.Then
+    ∷ reserved_word_part reserved.Then
     ∷ nonterminal sequence inner
     ∷ nonterminal (items elsif_part) inner
     ∷ nonterminal (maybe else_part) inner
-    ∷ reserved_part reserved.End
+    ∷ reserved_word_part reserved.End
     ∷ [])
 -- while = WHILE expression DO sequence END
 chosen_production statement room (WordOrSymbol (kind.ReservedWord reserved.While) ∷ tokens) =
-    nested_choice room (λ inner. reserved_part reserved.While
+    nested_choice room (λ inner. reserved_word_part reserved.While
     ∷ nonterminal expression inner
-    ∷ reserved_part reserved.Do
+    ∷ reserved_word_part reserved.Do
     ∷ nonterminal sequence inner
-    ∷ reserved_part reserved.End
+    ∷ reserved_word_part reserved.End
     ∷ [])
 -- repeat = REPEAT sequence UNTIL expression
 chosen_production statement room (WordOrSymbol (kind.ReservedWord reserved.Repeat) ∷ tokens) =
-    nested_choice room (λ inner. reserved_part reserved.Repeat
+    nested_choice room (λ inner. reserved_word_part reserved.Repeat
     ∷ nonterminal sequence inner
-    ∷ reserved_part reserved.Until
+    ∷ reserved_word_part reserved.Until
     ∷ nonterminal expression inner
     ∷ [])
 chosen_production statement room tokens = parts []
@@ -228,16 +228,16 @@ chosen_production names room tokens = parts (name ∷ nonterminal (items further
 -- type = ident | ARRAY expression OF type | RECORD fields {further_fields} END
 chosen_production written_type room (Name n ∷ tokens) = parts (name ∷ [])
 chosen_production written_type room (WordOrSymbol (kind.ReservedWord reserved.Array) ∷ tokens) =
-    nested_choice room (λ inner. reserved_part reserved.Array
+    nested_choice room (λ inner. reserved_word_part reserved.Array
     ∷ nonterminal expression inner
-    ∷ reserved_part reserved.Of
+    ∷ reserved_word_part reserved.Of
     ∷ nonterminal written_type inner
     ∷ [])
 chosen_production written_type room (WordOrSymbol (kind.ReservedWord reserved.Record) ∷ tokens) =
-    nested_choice room (λ inner. reserved_part reserved.Record
+    nested_choice room (λ inner. reserved_word_part reserved.Record
     ∷ nonterminal fields inner
     ∷ nonterminal (items further_fields) inner
-    ∷ reserved_part reserved.End
+    ∷ reserved_word_part reserved.End
     ∷ [])
 chosen_production written_type room tokens = missing expected.Type
 -- fields = [identList ":" type]
@@ -246,7 +246,7 @@ chosen_production fields room (Name n ∷ tokens) =
 chosen_production fields room tokens = parts []
 -- section = [VAR] identList ":" type
 chosen_production section room (WordOrSymbol (kind.ReservedWord reserved.Var) ∷ tokens) =
-    parts (reserved_part reserved.Var ∷ nonterminal names 0 ∷ symbol_part symbol.Colon ∷ nonterminal written_type room ∷ [])
+    parts (reserved_word_part reserved.Var ∷ nonterminal names 0 ∷ symbol_part symbol.Colon ∷ nonterminal written_type room ∷ [])
 chosen_production section room tokens = parts (nonterminal names 0 ∷ symbol_part symbol.Colon ∷ nonterminal written_type room ∷ [])
 -- declarations = [constants] [type_definitions] [variables] {procedure}
 chosen_production declarations room tokens =
@@ -259,11 +259,11 @@ chosen_production declarations room tokens =
 chosen_production block room tokens = parts (nonterminal declarations room ∷ nonterminal (maybe body) room ∷ [])
 -- module = MODULE ident ";" block END ident "."
 chosen_production module_text room tokens =
-    parts (reserved_part reserved.Module
+    parts (reserved_word_part reserved.Module
     ∷ name
     ∷ symbol_part symbol.Semicolon
     ∷ nonterminal block room
-    ∷ reserved_part reserved.End
+    ∷ reserved_word_part reserved.End
     ∷ name
     ∷ symbol_part symbol.Dot
     ∷ [])
@@ -281,8 +281,8 @@ MatchesPart text_end x = x ≡ EndOfText
 
 -- Returns the reserved word or symbol of the given kind as an expected token. Returns None for the
 -- kind of an identifier or an integer.
-abbrev pub expected_token : TokenKind → Option Expected
-expected_token (kind.ReservedWord reserved_part) = Some (expected.Word reserved_part)
+abbrev pub expected_token : TokenKind → Option ExpectedSyntax
+expected_token (kind.ReservedWord reserved_word_part) = Some (expected.Word reserved_word_part)
 expected_token (kind.Symbol symbol) = Some (expected.Symbol symbol)
 expected_token kind.Identifier = None
 expected_token (kind.Integer value) = None
@@ -291,7 +291,7 @@ expected_token (kind.Integer value) = None
 -- The result is None for an integer, because an integer is a part only if the next token is an
 -- integer. The result is also None for a construct, because the descent reads the parts of its
 -- production instead.
-abbrev pub expected_part : ProductionPart → Option Expected
+abbrev pub expected_part : ProductionPart → Option ExpectedSyntax
 expected_part (token k) = expected_token k
 expected_part name = Some expected.Identifier
 expected_part number = None
@@ -299,12 +299,12 @@ expected_part (nonterminal s room) = None
 expected_part text_end = Some expected.EndOfText
 
 -- The way in which the descent ends. `Done`: everything was read. `Expects`: another token or
--- construct is expected at the token with this index. `Deep`: the token with this index opens a
--- construct that is nested too deep.
+-- construct is expected at the token with this index. `TooDeepAt`: the token with this index opens
+-- a construct that is nested too deep.
 pub data Stop : Type 0 where
   Done : Stop
-  Expects : ℕ → Expected → Stop
-  Deep : ℕ → Stop
+  Expects : ℕ → ExpectedSyntax → Stop
+  TooDeepAt : ℕ → Stop
 
 -- States that the descent over a list of parts, reading from a list of tokens, ends with a given
 -- stop. The number (ℕ) is the index in the text of the first token in the list.
@@ -317,7 +317,7 @@ pub data Descends : List ProductionPart → ℕ → List (Terminal ℕ) → Stop
       → MatchesPart p x → Descends ps (i + 1) tokens o → Descends (p ∷ ps) i (x ∷ tokens) o
   -- The next token doesn't match the next part: the descent stops, because that part is expected.
   other : {p : ProductionPart} {ps : List ProductionPart} {i : ℕ} {x : Terminal ℕ} {tokens : List (Terminal ℕ)}
-      {e : Expected}
+      {e : ExpectedSyntax}
       → ¬ MatchesPart p x → expected_part p ≡ Some e → Descends (p ∷ ps) i (x ∷ tokens) (Expects i e)
   -- The next part is a construct: the descent continues with the parts of its production (`qs`)
   -- instead.
@@ -328,12 +328,12 @@ pub data Descends : List ProductionPart → ℕ → List (Terminal ℕ) → Stop
       → Descends (nonterminal s room ∷ ps) i tokens o
   -- The next part is a construct that can't begin with the next token: the descent stops.
   absent : {s : Sort} {room : ℕ} {ps : List ProductionPart} {i : ℕ} {tokens : List (Terminal ℕ)}
-      {e : Expected}
+      {e : ExpectedSyntax}
       → chosen_production s room tokens ≡ missing e → Descends (nonterminal s room ∷ ps) i tokens (Expects i e)
   -- The next part is a construct that opens a level of nesting, but no level is left: the descent
   -- stops.
   deep : {s : Sort} {room : ℕ} {ps : List ProductionPart} {i : ℕ} {tokens : List (Terminal ℕ)}
-      → chosen_production s room tokens ≡ too_deep → Descends (nonterminal s room ∷ ps) i tokens (Deep i)
+      → chosen_production s room tokens ≡ too_deep → Descends (nonterminal s room ∷ ps) i tokens (TooDeepAt i)
 
 -- States that the descent over the same parts and tokens always ends with the same stop.
 abbrev pub StopIsUnique : Type 0

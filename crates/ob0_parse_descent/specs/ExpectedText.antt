@@ -2,11 +2,11 @@
 -- Rule: docs/LANGUAGE.md, Syntax faults 2.
 use Rattle.std.specs.Prelude.{ℕ, List, codes}
 use Rattle.ob0_scan.specs.Classes.{reserved_text, symbol_text}
-use Rattle.ob0_parse_descent.specs.declared.refusal.Expected.{Expected}
-use Rattle.ob0_parse_descent.specs.declared.refusal.Expected.TheVariants as expected
+use Rattle.ob0_parse_descent.specs.declared.refusal.ExpectedSyntax.{ExpectedSyntax}
+use Rattle.ob0_parse_descent.specs.declared.refusal.ExpectedSyntax.TheVariants as expected
 
 -- Returns the text for an expected token or construct. A reserved word or symbol is spelled out.
-abbrev pub expected_text : Expected → List ℕ
+abbrev pub expected_text : ExpectedSyntax → List ℕ
 expected_text expected.Type = codes "type"
 expected_text expected.Expression = codes "expression"
 expected_text expected.Identifier = codes "identifier"

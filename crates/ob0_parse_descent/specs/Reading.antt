@@ -15,12 +15,12 @@ use Rattle.ob0_tree.specs.declared.tree.Names.{Names}
 use Rattle.ob0_tree.specs.declared.tree.WrittenType.{WrittenType}
 use Rattle.ob0_scan.specs.declared.lexeme.ReservedWord.TheVariants as reserved
 use Rattle.ob0_tree.specs.Tree.{Item, Sort, item, items, selector, factor, names, written_type, Tree, designator, some_fields, spell, nesting}
-use Rattle.ob0_tree.specs.Places.{index_terminal, index_terminals}
+use Rattle.ob0_tree.specs.Places.{indexed_terminal, indexed_terminals}
 use Rattle.ob0_tree.specs.View.{items_of, selector_of, names_of, type_of}
 pub use Rattle.ob0_parse_descent.specs.Descent.{ProductionPart, token, name, number, nonterminal, text_end}
-use Rattle.ob0_parse_descent.specs.Descent.{Stop, Expects, Deep, Descends, expected_token, is_section_next}
+use Rattle.ob0_parse_descent.specs.Descent.{Stop, Expects, TooDeepAt, Descends, expected_token, is_parameter_section_next}
 use Rattle.ob0_parse_descent.specs.Follow.{rank, kind_rank, item_rank, level, EndsConstruct, NextHasRank}
-use Rattle.ob0_parse_descent.specs.declared.refusal.Expected.TheVariants as expected
+use Rattle.ob0_parse_descent.specs.declared.refusal.ExpectedSyntax.TheVariants as expected
 use Rattle.ob0_parse_descent.specs.declared.refusal.ParseRefusal.{ParseRefusal}
 use Rattle.ob0_parse_descent.specs.declared.refusal.ParseRefusal.TheVariants.{Syntax, TooDeep, Memory}
 
@@ -28,12 +28,12 @@ use Rattle.ob0_parse_descent.specs.declared.refusal.ParseRefusal.TheVariants.{Sy
 -- are token indexes. If there is no kind (None), returns the end of the text.
 abbrev pub terminal_or_end : ℕ → Option TokenKind → Terminal ℕ
 terminal_or_end i None = EndOfText
-terminal_or_end i (Some k) = index_terminal i k
+terminal_or_end i (Some k) = indexed_terminal i k
 
 -- Returns the tokens with the index `i` and higher, as they are spelled by a tree whose leaves are
 -- token indexes. The end of the text follows the last token and counts as a token.
 unfoldable pub rest : List Token → ℕ → List (Terminal ℕ)
-rest ts i = drop i (index_terminals ts)
+rest ts i = drop i (indexed_terminals ts)
 
 -- States that the tokens `w` begin with the parts in the list, in order. At each part that is a
 -- construct, some tree of the construct spells the next tokens. That tree has at most `room` levels
@@ -53,25 +53,25 @@ BeginsWithParts (nonterminal s room ∷ ps) w =
 BeginsWithParts (text_end ∷ ps) w = (z : List (Terminal ℕ)) × (w ≡ EndOfText ∷ z) × BeginsWithParts ps z
 
 -- States that the list `tokens` consists of the tokens `passed`, the token `fault` and the tokens
--- `after`. Also states that no list of tokens that begins with `passed` and `fault` begins with the
+-- `after`. Also states that `passed` and `fault`, followed by any tokens, don't begin with the
 -- parts `parts`.
-pub record CantBegin (parts : List ProductionPart) (tokens after : List (Terminal ℕ)) : Type 0 where
+pub record CantBeginWithParts (parts : List ProductionPart) (tokens after : List (Terminal ℕ)) : Type 0 where
   pub passed : List (Terminal ℕ)
   pub fault : Terminal ℕ
   pub here : tokens ≡ passed ++ (fault ∷ after)
   pub cant_begin : (unseen : List (Terminal ℕ)) → BeginsWithParts parts (passed ++ (fault ∷ unseen)) → ⊥
 
 -- States that neither list is empty and that both lists begin with the same token.
-pub record HaveSameHead (xs w : List (Terminal ℕ)) : Type 0 where
+pub record HaveSameFirstToken (xs w : List (Terminal ℕ)) : Type 0 where
   pub head : Terminal ℕ
   pub following : List (Terminal ℕ)
   pub other : List (Terminal ℕ)
   pub is : xs ≡ head ∷ following
   pub alike : w ≡ head ∷ other
 
--- States that two descents end with the same stop: the descent over the parts `ps`, starting at the
--- token `at`, and the descent over the parts `following`, starting at the token `next`. The stops
--- are also the same if further parts `more` follow in both lists.
+-- States that if the descent over the parts `following`, starting at the token `next`, ends with
+-- some stop, then the descent over the parts `ps`, starting at the token `at`, ends with the same
+-- stop. This also holds if further parts `more` follow in both lists.
 pub record DescentsEndWithSameStop (ps following : List ProductionPart) (ts : List Token) (at next : ℕ) : Type 0 where
   pub stops_as_following : (o : Stop) (more : List ProductionPart)
       → Descends (following ++ more) next (rest ts next) o
@@ -81,12 +81,12 @@ pub record DescentsEndWithSameStop (ps following : List ProductionPart) (ts : Li
 -- `t` has at most `room` levels of nesting. The field `only` states that `t` is the only such tree.
 -- Take any list of tokens that begins with the tokens of `t` and the token at `next`. If a tree `u`
 -- of the same sort spells the beginning of this list, and the token after `u` can't continue `u`
--- (`EndsConstruct`), `u` is `t`.
+-- (`EndsConstruct`), then `u` is `t`.
 pub record IsReadTree {s : Sort} (t : Tree ℕ s) (room : ℕ) (ts : List Token) (at next : ℕ) : Type 0 where
   pub spelled : rest ts at ≡ spell t ++ rest ts next
   pub shallow : nesting t ≤ room
   pub only : (u : Tree ℕ s) (z w : List (Terminal ℕ))
-      → HaveSameHead (rest ts next) w
+      → HaveSameFirstToken (rest ts next) w
       → EndsConstruct (level s) z
       → spell u ++ z ≡ spell t ++ w
       → (u ≡ t) × (z ≡ w)
@@ -95,12 +95,12 @@ pub record IsReadTree {s : Sort} (t : Tree ℕ s) (room : ℕ) (ts : List Token)
   pub forward : at ≤ next
 
 -- States that the refusal of the parts `parts` reports the right token. If the refusal is a syntax
--- error or too deep nesting at the token `i`, no list of tokens that begins with the tokens
--- `at..=i` begins with the parts. The end of the text counts as a token. For a failed allocation it
--- states nothing.
+-- error or too deep nesting at the token `i`, the tokens `at..=i`, followed by any tokens, don't
+-- begin with the parts. The end of the text counts as a token. For a failed allocation it states
+-- nothing.
 abbrev pub IsRightRefusalOfParts : List ProductionPart → List Token → ℕ → ParseRefusal → Type 0
-IsRightRefusalOfParts parts ts at (Syntax i expected) = (i ≤ length ts) × CantBegin parts (rest ts at) (rest ts (i + 1))
-IsRightRefusalOfParts parts ts at (TooDeep i) = (i ≤ length ts) × CantBegin parts (rest ts at) (rest ts (i + 1))
+IsRightRefusalOfParts parts ts at (Syntax i expected) = (i ≤ length ts) × CantBeginWithParts parts (rest ts at) (rest ts (i + 1))
+IsRightRefusalOfParts parts ts at (TooDeep i) = (i ≤ length ts) × CantBeginWithParts parts (rest ts at) (rest ts (i + 1))
 IsRightRefusalOfParts parts ts at Memory = Unit {0}
 
 -- States that the descent over the parts `parts`, starting at the token `at`, ends with the stop
@@ -112,7 +112,7 @@ DescentStopsWith parts ts at o = (more : List ProductionPart) → Descends (part
 -- and for the reason that the refusal gives. For a failed allocation it states nothing.
 abbrev pub DescentStopsAsRefusalSays : List ProductionPart → List Token → ℕ → ParseRefusal → Type 0
 DescentStopsAsRefusalSays parts ts at (Syntax i expected) = DescentStopsWith parts ts at (Expects i expected)
-DescentStopsAsRefusalSays parts ts at (TooDeep i) = DescentStopsWith parts ts at (Deep i)
+DescentStopsAsRefusalSays parts ts at (TooDeep i) = DescentStopsWith parts ts at (TooDeepAt i)
 DescentStopsAsRefusalSays parts ts at Memory = Unit {0}
 
 -- States that the refusal `e` is right: the parts `parts` can't be read starting at the token `at`,
@@ -195,7 +195,7 @@ pub record IsSingleTokenFactor (level : ℕ) (f : Tree ℕ factor) (ts : List To
 
 -- States that the token at the index `at` begins the item `i`, but that the item can't be read, for
 -- the reason that the refusal `e` gives.
-pub record ItemFails
+pub record ItemBeginsButCantBeRead
     (i : Item) (room : ℕ) (ts : List Token) (at : ℕ) (e : ParseRefusal) : Type 0 where
   pub is_here : NextHasRank (item_rank i) (rest ts at)
   pub fails : FailsToRead (nonterminal (item i) room ∷ []) ts at e
@@ -213,10 +213,10 @@ abbrev pub ReadsItem : {A : Type 0} {i : Item}
     → Type 0
 ReadsItem {i = i} view room ts at (Ok None) = ¬ NextHasRank (item_rank i) (rest ts at)
 ReadsItem view room ts at (Ok (Some x)) = IsReadTree (view x.0) room ts at x.1 × (at < x.1)
-ReadsItem {i = i} view room ts at (Err e) = ItemFails i room ts at e
+ReadsItem {i = i} view room ts at (Err e) = ItemBeginsButCantBeRead i room ts at e
 
 -- States that the list of tokens doesn't begin with a sign, `+` or `-`.
-pub record HasNoSign (w : List (Terminal ℕ)) : Type 0 where
+pub record BeginsWithoutSign (w : List (Terminal ℕ)) : Type 0 where
   pub plus : (z : List (Terminal ℕ)) → w ≡ WordOrSymbol (kind.Symbol symbol.Plus) ∷ z → ⊥
   pub minus : (z : List (Terminal ℕ)) → w ≡ WordOrSymbol (kind.Symbol symbol.Minus) ∷ z → ⊥
 
@@ -226,7 +226,7 @@ pub record IsSignAt (ts : List Token) (at : ℕ) (sign : Option Sign) (next : �
   pub spelled : rest ts at ≡ sign_tokens sign ++ rest ts next
   pub forward : at ≤ next
   pub within : next ≤ length ts
-  pub unsigned : IfNone sign (HasNoSign (rest ts at))
+  pub unsigned : IfNone sign (BeginsWithoutSign (rest ts at))
   pub next_index : next ≡ at + length (sign_tokens {N = ℕ} sign)
 
 -- States that the result of parsing a designator (a name with its selectors) at the token `at` is
@@ -242,9 +242,9 @@ ReadsDesignator room ts at (Err e) = FailsToRead (name ∷ nonterminal (items se
 -- States that the operator found for a token of the kind `k` is right. `mark` returns the kind of
 -- token that spells an operator, and `r` is the rank of these tokens. If an operator was found,
 -- tokens of the kind `k` spell it. If no operator was found (None), the rank of `k` isn't `r`.
-abbrev pub IsOperatorOf : {A : Type 0} → (A → TokenKind) → ℕ → TokenKind → Option A → Type 0
-IsOperatorOf mark r k (Some a) = k ≡ mark a
-IsOperatorOf mark r k None = kind_rank k ≢ r
+abbrev pub IsOperatorOfKind : {A : Type 0} → (A → TokenKind) → ℕ → TokenKind → Option A → Type 0
+IsOperatorOfKind mark r k (Some a) = k ≡ mark a
+IsOperatorOfKind mark r k None = kind_rank k ≢ r
 
 -- States that the tokens `at..next` are the list `xs`: its first element, then the further
 -- elements, each with the separator before it. `view` returns the tree of the first element, and
@@ -289,7 +289,7 @@ ReadsTypedNames room ts at (Err e) =
 
 -- States that the Bool is true exactly if a section of formal parameters may begin at the index
 -- `at`.
-abbrev pub TellsIfSectionMayBegin : List Token → ℕ → Bool → Type 0
-TellsIfSectionMayBegin ts at true =
-    IsTokenOtherThan (WordOrSymbol (kind.Symbol symbol.RightParen)) ts at × (is_section_next (rest ts at) ≡ true)
-TellsIfSectionMayBegin ts at false = IsNotIdentifier ts at × IsTokenOtherThan (WordOrSymbol (kind.ReservedWord reserved.Var)) ts at
+abbrev pub TellsIfParameterSectionMayBegin : List Token → ℕ → Bool → Type 0
+TellsIfParameterSectionMayBegin ts at true =
+    IsTokenOtherThan (WordOrSymbol (kind.Symbol symbol.RightParen)) ts at × (is_parameter_section_next (rest ts at) ≡ true)
+TellsIfParameterSectionMayBegin ts at false = IsNotIdentifier ts at × IsTokenOtherThan (WordOrSymbol (kind.ReservedWord reserved.Var)) ts at

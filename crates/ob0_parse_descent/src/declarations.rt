@@ -1,10 +1,10 @@
-//! Parses declarations and blocks.
+//! Parses declarations and blocks. The parameters `at` and `room` are described in `parser.rt`.
 
 ghost use Rattle.std.specs.Prelude.{◌≤◌, length};
-ghost use Rattle.ob0_tree.specs.View.{section_of, further_section_of, formals_of, constant_of, constants_of, constants_of_vec, type_declaration_of, types_of, types_of_vec, variable_of, variables_of, variables_of_vec, body_of, block_of, procedure_of, procedures_of_vec};
-ghost use Rattle.ob0_parse_descent.specs.Reading.{Reads, ReadsList, ReadsItem, ReadsTypedNames, TellsIfSectionMayBegin};
+ghost use Rattle.ob0_tree.specs.View.{parameter_section_of, further_parameter_section_of, formals_of, constant_of, constants_of, constants_of_vec, type_declaration_of, types_of, types_of_vec, variable_of, variables_of, variables_of_vec, body_of, block_of, procedure_of, procedures_of_vec};
+ghost use Rattle.ob0_parse_descent.specs.Reading.{Reads, ReadsList, ReadsItem, ReadsTypedNames, TellsIfParameterSectionMayBegin};
 
-use crate::growth::push_doubling;
+use crate::growth::push_with_doubling;
 use crate::parser::{ConstructResult, ItemResult, Parser, levels_left_inside};
 use ob0_scan::{ReservedWord, Symbol};
 use ob0_tree::{
@@ -25,9 +25,9 @@ impl<'t> Parser<'t> {
     }
 
     /// Parses a section of formal parameters, `[VAR] names ":" type`.
-    fn parse_section(&self, at: usize, room: u32) -> ConstructResult<ParameterSection>
+    fn parse_parameter_section(&self, at: usize, room: u32) -> ConstructResult<ParameterSection>
         requires { at ≤ length self.now.tokens.now }
-        ensures { Reads section_of room self.now.tokens.now at result }
+        ensures { Reads parameter_section_of room self.now.tokens.now at result }
     {
         if self.has_word_at(at, ReservedWord::Var) {
             let ((names, written), end) = self.parse_typed_names(at + 1, room)?;
@@ -54,9 +54,9 @@ impl<'t> Parser<'t> {
     }
 
     /// Returns whether a section of formal parameters may begin at the token `at`.
-    fn section_may_begin(&self, at: usize) -> bool
+    fn parameter_section_may_begin(&self, at: usize) -> bool
         requires { at ≤ length self.now.tokens.now }
-        ensures { TellsIfSectionMayBegin self.now.tokens.now at result }
+        ensures { TellsIfParameterSectionMayBegin self.now.tokens.now at result }
     {
         if self.has_identifier_at(at) {
             return true;
@@ -64,36 +64,40 @@ impl<'t> Parser<'t> {
         self.has_word_at(at, ReservedWord::Var)
     }
 
-    /// Parses a further section of formal parameters, `";" section`. Returns None if the token `at`
-    /// isn't `;`.
-    fn parse_further_section(&self, at: usize, room: u32) -> ItemResult<ParameterSection>
+    /// Parses a further section of formal parameters, `";" section`. Returns None if the token at
+    /// `at` isn't `;`.
+    fn parse_further_parameter_section(&self, at: usize, room: u32) -> ItemResult<ParameterSection>
         requires { at ≤ length self.now.tokens.now }
-        ensures { ReadsItem further_section_of room self.now.tokens.now at result }
+        ensures { ReadsItem further_parameter_section_of room self.now.tokens.now at result }
     {
         if !self.has_symbol_at(at, Symbol::Semicolon) {
             return Ok(None);
         }
-        let (section, next) = self.parse_section(at + 1, room)?;
+        let (section, next) = self.parse_parameter_section(at + 1, room)?;
         Ok(Some((section, next)))
     }
 
     /// Parses the sections of formal parameters, `section {";" section}`.
-    fn parse_section_list(&self, at: usize, room: u32) -> ConstructResult<Vec<ParameterSection>>
+    fn parse_parameter_section_list(
+        &self,
+        at: usize,
+        room: u32,
+    ) -> ConstructResult<Vec<ParameterSection>>
         requires { at ≤ length self.now.tokens.now }
-        ensures { ReadsList section_of further_section_of room self.now.tokens.now at result }
+        ensures { ReadsList parameter_section_of further_parameter_section_of room self.now.tokens.now at result }
     {
         let mut sections = Vec::new(self.alloc);
-        let (first, mut next) = self.parse_section(at, room)?;
-        push_doubling(&mut sections, first)?;
-        while let Some((section, end)) = self.parse_further_section(next, room)? {
-            push_doubling(&mut sections, section)?;
+        let (first, mut next) = self.parse_parameter_section(at, room)?;
+        push_with_doubling(&mut sections, first)?;
+        while let Some((section, end)) = self.parse_further_parameter_section(next, room)? {
+            push_with_doubling(&mut sections, section)?;
             next = end;
         }
         Ok((sections, next))
     }
 
     /// Parses optional formal parameters, `["(" [section {";" section}] ")"]`. The sections are
-    /// None if the token `at` isn't `(`.
+    /// None if the token at `at` isn't `(`.
     fn parse_formals(&self, at: usize, room: u32) -> ConstructResult<Option<Vec<ParameterSection>>>
         requires { at ≤ length self.now.tokens.now }
         ensures { Reads formals_of room self.now.tokens.now at result }
@@ -101,17 +105,17 @@ impl<'t> Parser<'t> {
         if !self.has_symbol_at(at, Symbol::LeftParen) {
             return Ok((None, at));
         }
-        if !self.section_may_begin(at + 1) {
+        if !self.parameter_section_may_begin(at + 1) {
             let end = self.expect_symbol(at + 1, Symbol::RightParen)?;
             return Ok((Some(Vec::new(self.alloc)), end));
         }
-        let (sections, next) = self.parse_section_list(at + 1, room)?;
+        let (sections, next) = self.parse_parameter_section_list(at + 1, room)?;
         let end = self.expect_symbol(next, Symbol::RightParen)?;
         Ok((Some(sections), end))
     }
 
     /// Parses an optional CONST section, `[CONST {ident "=" expression ";"}]`. The list is None if
-    /// the token `at` isn't CONST.
+    /// the token at `at` isn't CONST.
     pub fn parse_constants(&self, at: usize, room: u32) -> ConstructResult<Option<Vec<Constant>>>
         requires { at ≤ length self.now.tokens.now }
         ensures { Reads constants_of room self.now.tokens.now at result }
@@ -131,14 +135,14 @@ impl<'t> Parser<'t> {
         let mut constants = Vec::new(self.alloc);
         let mut next = at;
         while let Some((constant, end)) = self.parse_constant(next, room)? {
-            push_doubling(&mut constants, constant)?;
+            push_with_doubling(&mut constants, constant)?;
             next = end;
         }
         Ok((constants, next))
     }
 
     /// Parses the declaration of a constant, `ident "=" expression ";"`. Returns None if the token
-    /// `at` isn't an identifier.
+    /// at `at` isn't an identifier.
     fn parse_constant(&self, at: usize, room: u32) -> ItemResult<Constant>
         requires { at ≤ length self.now.tokens.now }
         ensures { ReadsItem constant_of room self.now.tokens.now at result }
@@ -153,7 +157,7 @@ impl<'t> Parser<'t> {
     }
 
     /// Parses an optional TYPE section, `[TYPE {ident "=" type ";"}]`. The list is None if the
-    /// token `at` isn't TYPE.
+    /// token at `at` isn't TYPE.
     pub fn parse_types(&self, at: usize, room: u32) -> ConstructResult<Option<Vec<TypeDeclaration>>>
         requires { at ≤ length self.now.tokens.now }
         ensures { Reads types_of room self.now.tokens.now at result }
@@ -173,14 +177,14 @@ impl<'t> Parser<'t> {
         let mut types = Vec::new(self.alloc);
         let mut next = at;
         while let Some((declaration, end)) = self.parse_type_declaration(next, room)? {
-            push_doubling(&mut types, declaration)?;
+            push_with_doubling(&mut types, declaration)?;
             next = end;
         }
         Ok((types, next))
     }
 
-    /// Parses the declaration of a type, `ident "=" type ";"`. Returns None if the token `at` isn't
-    /// an identifier.
+    /// Parses the declaration of a type, `ident "=" type ";"`. Returns None if the token at `at`
+    /// isn't an identifier.
     fn parse_type_declaration(&self, at: usize, room: u32) -> ItemResult<TypeDeclaration>
         requires { at ≤ length self.now.tokens.now }
         ensures { ReadsItem type_declaration_of room self.now.tokens.now at result }
@@ -195,7 +199,7 @@ impl<'t> Parser<'t> {
     }
 
     /// Parses an optional VAR section, `[VAR {names ":" type ";"}]`. The list is None if the token
-    /// `at` isn't VAR.
+    /// at `at` isn't VAR.
     pub fn parse_variables(
         &self,
         at: usize,
@@ -219,13 +223,13 @@ impl<'t> Parser<'t> {
         let mut variables = Vec::new(self.alloc);
         let mut next = at;
         while let Some((declared, end)) = self.parse_variable(next, room)? {
-            push_doubling(&mut variables, declared)?;
+            push_with_doubling(&mut variables, declared)?;
             next = end;
         }
         Ok((variables, next))
     }
 
-    /// Parses a declaration of variables, `names ":" type ";"`. Returns None if the token `at`
+    /// Parses a declaration of variables, `names ":" type ";"`. Returns None if the token at `at`
     /// isn't an identifier.
     fn parse_variable(&self, at: usize, room: u32) -> ItemResult<VariableDeclaration>
         requires { at ≤ length self.now.tokens.now }
@@ -240,7 +244,7 @@ impl<'t> Parser<'t> {
     }
 
     /// Parses the optional body of a block, `[BEGIN sequence]`. The statements are None if the
-    /// token `at` isn't BEGIN.
+    /// token at `at` isn't BEGIN.
     pub fn parse_body(&self, at: usize, room: u32) -> ConstructResult<Option<Vec<Statement>>>
         requires { at ≤ length self.now.tokens.now }
         ensures { Reads body_of room self.now.tokens.now at result }
@@ -284,14 +288,14 @@ impl<'t> Parser<'t> {
         let mut procedures = Vec::new(self.alloc);
         let mut next = at;
         while let Some((procedure, end)) = self.parse_procedure(next, room)? {
-            push_doubling(&mut procedures, procedure)?;
+            push_with_doubling(&mut procedures, procedure)?;
             next = end;
         }
         Ok((procedures, next))
     }
 
     /// Parses a procedure, `PROCEDURE ident [formals] ";" block END ident ";"`. Returns None if the
-    /// token `at` isn't PROCEDURE.
+    /// token at `at` isn't PROCEDURE.
     #[cycle(blocks)]
     pub fn parse_procedure(&self, at: usize, room: u32) -> ItemResult<Procedure>
         requires { at ≤ length self.now.tokens.now }

@@ -1,4 +1,4 @@
-//! Adds items to lists that grow by doubling their capacity, beginning with room for one item.
+//! Adds items to lists whose capacity doubles when they are full, beginning with room for one item.
 
 ghost use Rattle.std.specs.Prelude.{◌≡◌, ◌≤◌, ◌++◌, ◌∷◌, [], ◌<◌, OnErr, OnOk, vec_capacity, vec_len};
 
@@ -7,7 +7,7 @@ use std::alloc::AllocError;
 /// Adds an item at the end of a list. The list's capacity grows from 1 to 2, 4, 8 and so on. It
 /// begins with 1, because most lists of a syntax tree hold only one item. An allocation can fail
 /// only if the list is full, and then the list is unchanged.
-pub fn push_doubling<T: Drop>(list: &mut Vec<T>, item: T) -> Result<(), AllocError>
+pub fn push_with_doubling<T: Drop>(list: &mut Vec<T>, item: T) -> Result<(), AllocError>
     ensures added { OnOk result (list.new.items ≡ list.old.items ++ item ∷ []) }
     ensures same { OnErr result (list.new.items ≡ list.old.items) }
     ensures full { OnErr result (vec_capacity list.old ≤ vec_len list.old) }

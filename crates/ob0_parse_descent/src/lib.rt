@@ -11,6 +11,6 @@ mod refusal;
 mod statements;
 mod types;
 
-pub use growth::push_doubling;
+pub use growth::push_with_doubling;
 pub use parser::{ConstructResult, ItemResult, Parser, syntax_error};
-pub use refusal::{Expected, ParseRefusal};
+pub use refusal::{ExpectedSyntax, ParseRefusal};

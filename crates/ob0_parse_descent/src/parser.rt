@@ -5,16 +5,16 @@
 ghost use Rattle.std.specs.Prelude.{true, ◌≡◌, ◌+◌, ◌<◌, ◌≤◌, ◌∷◌, length, IfSome, IfNone, IfOk, IfErr};
 ghost use Rattle.ob0_scan.specs.declared.lexeme.TokenKind.TheVariants as kind;
 ghost use Rattle.ob0_scan.specs.declared.lexeme.Symbol.TheVariants as symbol;
-ghost use Rattle.ob0_tree.specs.Lexeme.{add_operator_token, multiply_operator_token, relation_token};
+ghost use Rattle.ob0_tree.specs.Lexeme.{add_operator_token_kind, multiply_operator_token_kind, relation_token_kind};
 ghost use Rattle.ob0_tree.specs.Tree.{then_name, compares, none};
-ghost use Rattle.ob0_tree.specs.View.{names_of, expression_of, comparison_of, simple_of, addend_of, term_of, multiplier_of, factor_of, selector_of};
+ghost use Rattle.ob0_tree.specs.View.{names_of, expression_of, comparison_of, simple_expression_of, addend_of, term_of, multiplier_of, factor_of, selector_of};
 ghost use Rattle.ob0_parse_descent.specs.Follow.{binding_rank};
-ghost use Rattle.ob0_parse_descent.specs.Reading.{terminal_or_end, rest, Reads, ReadsItem, ReadsToken, ReadsIdentifier, TellsIfTokenAt, TellsIfIdentifierAt, IsSignAt, ReadsDesignator, IsOperatorOf, IsSingleTokenFactor, OpensLevel};
-ghost use Rattle.ob0_parse_descent.specs.declared.refusal.Expected.TheVariants as expected;
+ghost use Rattle.ob0_parse_descent.specs.Reading.{terminal_or_end, rest, Reads, ReadsItem, ReadsToken, ReadsIdentifier, TellsIfTokenAt, TellsIfIdentifierAt, IsSignAt, ReadsDesignator, IsOperatorOfKind, IsSingleTokenFactor, OpensLevel};
+ghost use Rattle.ob0_parse_descent.specs.declared.refusal.ExpectedSyntax.TheVariants as expected;
 ghost use Rattle.ob0_parse_descent.specs.declared.refusal.ParseRefusal.TheVariants.{Syntax};
 
-use crate::growth::push_doubling;
-use crate::refusal::{Expected, ParseRefusal};
+use crate::growth::push_with_doubling;
+use crate::refusal::{ExpectedSyntax, ParseRefusal};
 use ob0_scan::{ReservedWord, Symbol, Token, TokenKind};
 use ob0_tree::{
     AddOperator, Addend, Comparison, CompoundExpression, Designator, Expression, Factor,
@@ -97,7 +97,7 @@ impl<'t> Parser<'t> {
         if self.has_word_at(at, word) {
             Ok(at + 1)
         } else {
-            syntax_error(at, Expected::Word(word))
+            syntax_error(at, ExpectedSyntax::Word(word))
         }
     }
 
@@ -110,7 +110,7 @@ impl<'t> Parser<'t> {
         if self.has_symbol_at(at, symbol) {
             Ok(at + 1)
         } else {
-            syntax_error(at, Expected::Symbol(symbol))
+            syntax_error(at, ExpectedSyntax::Symbol(symbol))
         }
     }
 
@@ -123,7 +123,7 @@ impl<'t> Parser<'t> {
         if self.has_identifier_at(at) {
             Ok((at, at + 1))
         } else {
-            syntax_error(at, Expected::Identifier)
+            syntax_error(at, ExpectedSyntax::Identifier)
         }
     }
 
@@ -135,7 +135,8 @@ impl<'t> Parser<'t> {
         self.kind(at) == Some(TokenKind::Identifier)
     }
 
-    /// Parses a further name of a list, `"," ident`. Returns None if the token `at` isn't a comma.
+    /// Parses a further name of a list, `"," ident`. Returns None if the token at `at` isn't a
+    /// comma.
     fn parse_further_name(&self, at: usize) -> ItemResult<usize>
         requires { at ≤ length self.now.tokens.now }
         ensures read { ReadsItem then_name 0 self.now.tokens.now at result }
@@ -157,7 +158,7 @@ impl<'t> Parser<'t> {
         let (first, mut next) = self.expect_identifier(at)?;
         let mut more = Vec::new(self.alloc);
         while let Some((name, end)) = self.parse_further_name(next)? {
-            push_doubling(&mut more, name)?;
+            push_with_doubling(&mut more, name)?;
             next = end;
         }
         Ok((Names { first, more }, next))
@@ -195,12 +196,12 @@ impl<'t> Parser<'t> {
         Ok((Expression::CompoundExpression(compound), end))
     }
 
-    /// Returns the expression that consists only of the simple expression `side`, without a
+    /// Returns the expression that consists only of the simple expression `side` and has no
     /// comparison. If `side` is a single factor, the result is an `Expression::Factor`, which needs
     /// no box.
     #[inline(always)]
     fn expression_without_relation(&self, side: SimpleExpression) -> Result<Expression, AllocError>
-        ensures { IfOk result (λ e. expression_of e ≡ compares (simple_of side) none) }
+        ensures { IfOk result (λ e. expression_of e ≡ compares (simple_expression_of side) none) }
     {
         if side.sign.is_none() && side.first.more.is_empty() && side.more.is_empty() {
             return Ok(Expression::Factor(side.first.first));
@@ -215,7 +216,7 @@ impl<'t> Parser<'t> {
         Ok(Expression::CompoundExpression(compound))
     }
 
-    /// Parses an optional comparison, `relation simple`. Returns None if the token `at` isn't a
+    /// Parses an optional comparison, `relation simple`. Returns None if the token at `at` isn't a
     /// relation.
     #[cycle(expressions)]
     fn parse_comparison(&self, at: usize, room: u32) -> ItemResult<Comparison>
@@ -233,9 +234,9 @@ impl<'t> Parser<'t> {
     }
 
     /// Returns the factor that consists only of the token at `at`. Returns None if that token is
-    /// neither an identifier nor an integer. `level` is the highest rank of a token that can
-    /// continue the construct that the caller parses. So the function also returns None if the rank
-    /// of the next token (`binding_rank`) is at most `level`.
+    /// neither an identifier nor an integer. Also returns None if the rank of the next token
+    /// (`binding_rank`) is at most `level`, the highest rank of a token that can continue the
+    /// construct that the caller parses.
     #[inline(always)]
     fn single_token_factor(&self, at: usize, level: u8) -> Option<Factor>
         requires within { at ≤ length self.now.tokens.now }
@@ -274,7 +275,7 @@ impl<'t> Parser<'t> {
         room: u32,
     ) -> ConstructResult<SimpleExpression>
         requires { at ≤ length self.now.tokens.now }
-        ensures { Reads simple_of room self.now.tokens.now at result }
+        ensures { Reads simple_expression_of room self.now.tokens.now at result }
     {
         let Some(factor) = self.single_token_factor(at, ADDITION_RANK) else {
             return self.parse_simple_expression(at, room);
@@ -329,13 +330,13 @@ impl<'t> Parser<'t> {
     #[inline(never)]
     fn parse_simple_expression(&self, at: usize, room: u32) -> ConstructResult<SimpleExpression>
         requires { at ≤ length self.now.tokens.now }
-        ensures { Reads simple_of room self.now.tokens.now at result }
+        ensures { Reads simple_expression_of room self.now.tokens.now at result }
     {
         let (sign, start) = self.parse_sign(at);
         let (first, mut next) = self.parse_term_fast(start, room)?;
         let mut more = Vec::new(self.alloc);
         while let Some((addend, end)) = self.parse_addend(next, room)? {
-            push_doubling(&mut more, addend)?;
+            push_with_doubling(&mut more, addend)?;
             next = end;
         }
         Ok((SimpleExpression { sign, first, more }, next))
@@ -355,7 +356,7 @@ impl<'t> Parser<'t> {
     }
 
     /// Parses a further term with the operator before it, `("+" | "-" | OR) term`. Returns None if
-    /// the token `at` is no such operator.
+    /// the token at `at` is no such operator.
     #[cycle(expressions)]
     fn parse_addend(&self, at: usize, room: u32) -> ItemResult<Addend>
         requires { at ≤ length self.now.tokens.now }
@@ -381,14 +382,14 @@ impl<'t> Parser<'t> {
         let (first, mut next) = self.parse_factor_fast(at, room)?;
         let mut more = Vec::new(self.alloc);
         while let Some((multiplier, end)) = self.parse_multiplier(next, room)? {
-            push_doubling(&mut more, multiplier)?;
+            push_with_doubling(&mut more, multiplier)?;
             next = end;
         }
         Ok((Term { first, more }, next))
     }
 
     /// Parses a further factor with the operator before it, `("*" | DIV | MOD | "&") factor`.
-    /// Returns None if the token `at` is no such operator.
+    /// Returns None if the token at `at` is no such operator.
     #[cycle(expressions)]
     fn parse_multiplier(&self, at: usize, room: u32) -> ItemResult<Multiplier>
         requires { at ≤ length self.now.tokens.now }
@@ -418,7 +419,7 @@ impl<'t> Parser<'t> {
             return self.parse_negation(at, room);
         }
         let Some(kind) = self.kind(at) else {
-            return syntax_error(at, Expected::Expression);
+            return syntax_error(at, ExpectedSyntax::Expression);
         };
         match kind {
             TokenKind::Identifier => {
@@ -426,7 +427,7 @@ impl<'t> Parser<'t> {
                 Ok((Factor::Designator(designator), next))
             }
             TokenKind::Integer(_) => Ok((Factor::Integer(at), at + 1)),
-            _ => syntax_error(at, Expected::Expression),
+            _ => syntax_error(at, ExpectedSyntax::Expression),
         }
     }
 
@@ -464,13 +465,13 @@ impl<'t> Parser<'t> {
         let (name, mut next) = self.expect_identifier(at)?;
         let mut selectors = Vec::new(self.alloc);
         while let Some((selector, end)) = self.parse_selector(next, room)? {
-            push_doubling(&mut selectors, selector)?;
+            push_with_doubling(&mut selectors, selector)?;
             next = end;
         }
         Ok((Designator { name, selectors }, next))
     }
 
-    /// Parses an optional selector, `"." ident | "[" expression "]"`. Returns None if the token
+    /// Parses an optional selector, `"." ident | "[" expression "]"`. Returns None if the token at
     /// `at` is neither `.` nor `[`.
     #[cycle(expressions)]
     fn parse_selector(&self, at: usize, room: u32) -> ItemResult<Selector>
@@ -519,7 +520,7 @@ fn binding_rank(next: Option<TokenKind>) -> u8
 
 /// Returns the relation that a token of this kind spells, or None if it spells no relation.
 fn relation_of(kind: TokenKind) -> Option<Relation>
-    ensures { IsOperatorOf relation_token COMPARISON_RANK kind result }
+    ensures { IsOperatorOfKind relation_token_kind COMPARISON_RANK kind result }
 {
     match kind {
         TokenKind::Symbol(Symbol::Equal) => Some(Relation::Equal),
@@ -535,7 +536,7 @@ fn relation_of(kind: TokenKind) -> Option<Relation>
 /// Returns the operator that a token of this kind spells if the token is `+`, `-` or OR, otherwise
 /// None.
 fn add_operator_of(kind: TokenKind) -> Option<AddOperator>
-    ensures { IsOperatorOf add_operator_token ADDITION_RANK kind result }
+    ensures { IsOperatorOfKind add_operator_token_kind ADDITION_RANK kind result }
 {
     match kind {
         TokenKind::Symbol(Symbol::Plus) => Some(AddOperator::Add),
@@ -548,7 +549,7 @@ fn add_operator_of(kind: TokenKind) -> Option<AddOperator>
 /// Returns the operator that a token of this kind spells if the token is `*`, DIV, MOD or `&`,
 /// otherwise None.
 fn multiply_operator_of(kind: TokenKind) -> Option<MultiplyOperator>
-    ensures { IsOperatorOf multiply_operator_token MULTIPLICATION_RANK kind result }
+    ensures { IsOperatorOfKind multiply_operator_token_kind MULTIPLICATION_RANK kind result }
 {
     match kind {
         TokenKind::Symbol(Symbol::Times) => Some(MultiplyOperator::Multiply),
@@ -560,7 +561,7 @@ fn multiply_operator_of(kind: TokenKind) -> Option<MultiplyOperator>
 }
 
 /// Returns a syntax error: `expected` is expected at the token with the index `token`.
-pub fn syntax_error<T>(token: usize, expected: Expected) -> Result<T, ParseRefusal>
+pub fn syntax_error<T>(token: usize, expected: ExpectedSyntax) -> Result<T, ParseRefusal>
     ensures { result ≡ Err (Syntax token expected) }
 {
     Err(ParseRefusal::Syntax { token, expected })

@@ -9,7 +9,7 @@ use thiserror::Error;
 
 /// The token or construct that a syntax error reports as expected.
 #[derive(Clone, Copy, PartialEq, Eq, Debug)]
-pub enum Expected {
+pub enum ExpectedSyntax {
     Type,
     Expression,
     Identifier,
@@ -18,7 +18,7 @@ pub enum Expected {
     Symbol(Symbol),
 }
 
-impl Expected {
+impl ExpectedSyntax {
     ghost use Rattle.ob0_parse_descent.specs.ExpectedText.{expected_text};
 
     /// Returns the text that follows `expected` in the message of a syntax error.
@@ -26,12 +26,12 @@ impl Expected {
         ensures { result.now ≡ expected_text self }
     {
         match self {
-            Expected::Type => "type",
-            Expected::Expression => "expression",
-            Expected::Identifier => "identifier",
-            Expected::EndOfText => "end of text",
-            Expected::Word(word) => word.text(),
-            Expected::Symbol(symbol) => symbol.text(),
+            ExpectedSyntax::Type => "type",
+            ExpectedSyntax::Expression => "expression",
+            ExpectedSyntax::Identifier => "identifier",
+            ExpectedSyntax::EndOfText => "end of text",
+            ExpectedSyntax::Word(word) => word.text(),
+            ExpectedSyntax::Symbol(symbol) => symbol.text(),
         }
     }
 }
@@ -42,9 +42,14 @@ impl Expected {
 #[derive(Debug, Drop, Error)]
 pub enum ParseRefusal {
     #[error("token {token}: expected {}", .expected.text())]
-    Syntax { token: usize, expected: Expected },
+    Syntax {
+        token: usize,
+        expected: ExpectedSyntax,
+    },
     #[error("token {token}: nested too deep")]
-    TooDeep { token: usize },
+    TooDeep {
+        token: usize,
+    },
     #[error("out of memory")]
     Memory,
 }

@@ -1,16 +1,17 @@
-//! Parses statements and lists of statements.
+//! Parses statements and lists of statements. The parameters `at` and `room` are described in
+//! `parser.rt`.
 
 ghost use Rattle.std.specs.Prelude.{true, ◌≡◌, ◌≤◌, length};
 ghost use Rattle.ob0_scan.specs.declared.lexeme.TokenKind.TheVariants as kind;
 ghost use Rattle.ob0_scan.specs.declared.lexeme.ReservedWord.TheVariants as reserved;
 ghost use Rattle.ob0_scan.specs.declared.lexeme.Symbol.TheVariants as symbol;
 ghost use Rattle.ob0_tree.specs.View.{arguments_of_vec, further_argument_of, expression_of, statement_of, sequence_of_vec, further_statement_of, elsif_of, elsifs_of_vec, else_part_of};
-ghost use Rattle.ob0_parse_descent.specs.Follow.{opens_expression};
+ghost use Rattle.ob0_parse_descent.specs.Follow.{may_begin_expression};
 ghost use Rattle.ob0_parse_descent.specs.Reading.{Reads, ReadsList, ReadsItem, TellsIfTokenAt, TellsIfIdentifierAt};
 
-use crate::growth::push_doubling;
+use crate::growth::push_with_doubling;
 use crate::parser::{ConstructResult, ItemResult, Parser, levels_left_inside, syntax_error};
-use crate::refusal::Expected;
+use crate::refusal::ExpectedSyntax;
 use ob0_scan::{ReservedWord, Symbol, TokenKind};
 use ob0_tree::{Assignment, Call, Elsif, Expression, If, Repeat, Statement, While};
 
@@ -36,9 +37,9 @@ impl<'t> Parser<'t> {
         Ok((Statement::Empty, at))
     }
 
-    /// Parses an assignment or a call, beginning at the identifier `at`. It is an assignment if
-    /// `:=` follows the identifier and its selectors. Otherwise it must be a call, and the
-    /// identifier must have no selectors.
+    /// Parses an assignment or a call, which begins with the identifier at `at`. It is an
+    /// assignment if `:=` follows the identifier and its selectors. Otherwise it must be a call,
+    /// and the identifier must have no selectors.
     fn parse_assignment_or_call(&self, at: usize, room: u32) -> ConstructResult<Statement>
         requires { TellsIfIdentifierAt self.now.tokens.now at true }
         ensures { Reads statement_of room self.now.tokens.now at result }
@@ -50,7 +51,7 @@ impl<'t> Parser<'t> {
             return Ok((Statement::Assign(boxed), end));
         }
         if !target.selectors.is_empty() {
-            return syntax_error(next, Expected::Symbol(Symbol::Becomes));
+            return syntax_error(next, ExpectedSyntax::Symbol(Symbol::Becomes));
         }
         let procedure = target.name;
         let Some((arguments, end)) = self.parse_arguments(next, room)? else {
@@ -73,7 +74,7 @@ impl<'t> Parser<'t> {
     }
 
     /// Parses the optional arguments of a call, `"(" [expression {"," expression}] ")"`. Returns
-    /// None if the token `at` isn't `(`.
+    /// None if the token at `at` isn't `(`.
     fn parse_arguments(&self, at: usize, room: u32) -> ItemResult<Vec<Expression>>
         requires { at ≤ length self.now.tokens.now }
         ensures { ReadsItem arguments_of_vec room self.now.tokens.now at result }
@@ -81,7 +82,7 @@ impl<'t> Parser<'t> {
         if !self.has_symbol_at(at, Symbol::LeftParen) {
             return Ok(None);
         }
-        if !opens_expression(self.kind(at + 1)) {
+        if !may_begin_expression(self.kind(at + 1)) {
             let end = self.expect_symbol(at + 1, Symbol::RightParen)?;
             return Ok(Some((Vec::new(self.alloc), end)));
         }
@@ -97,15 +98,16 @@ impl<'t> Parser<'t> {
     {
         let mut arguments = Vec::new(self.alloc);
         let (first, mut next) = self.parse_expression(at, room)?;
-        push_doubling(&mut arguments, first)?;
+        push_with_doubling(&mut arguments, first)?;
         while let Some((argument, end)) = self.parse_further_argument(next, room)? {
-            push_doubling(&mut arguments, argument)?;
+            push_with_doubling(&mut arguments, argument)?;
             next = end;
         }
         Ok((arguments, next))
     }
 
-    /// Parses a further argument, `"," expression`. Returns None if the token `at` isn't a comma.
+    /// Parses a further argument, `"," expression`. Returns None if the token at `at` isn't a
+    /// comma.
     fn parse_further_argument(&self, at: usize, room: u32) -> ItemResult<Expression>
         requires { at ≤ length self.now.tokens.now }
         ensures { ReadsItem further_argument_of room self.now.tokens.now at result }
@@ -125,15 +127,15 @@ impl<'t> Parser<'t> {
     {
         let mut statements = Vec::new(self.alloc);
         let (first, mut next) = self.parse_statement(at, room)?;
-        push_doubling(&mut statements, first)?;
+        push_with_doubling(&mut statements, first)?;
         while let Some((statement, end)) = self.parse_further_statement(next, room)? {
-            push_doubling(&mut statements, statement)?;
+            push_with_doubling(&mut statements, statement)?;
             next = end;
         }
         Ok((statements, next))
     }
 
-    /// Parses a further statement, `";" statement`. Returns None if the token `at` isn't `;`.
+    /// Parses a further statement, `";" statement`. Returns None if the token at `at` isn't `;`.
     #[cycle(statements)]
     fn parse_further_statement(&self, at: usize, room: u32) -> ItemResult<Statement>
         requires { at ≤ length self.now.tokens.now }
@@ -181,14 +183,14 @@ impl<'t> Parser<'t> {
         let mut elsifs = Vec::new(self.alloc);
         let mut next = at;
         while let Some((elsif, end)) = self.parse_elsif(next, room)? {
-            push_doubling(&mut elsifs, elsif)?;
+            push_with_doubling(&mut elsifs, elsif)?;
             next = end;
         }
         Ok((elsifs, next))
     }
 
-    /// Parses an ELSIF part, `ELSIF expression THEN sequence`. Returns None if the token `at` isn't
-    /// ELSIF.
+    /// Parses an ELSIF part, `ELSIF expression THEN sequence`. Returns None if the token at `at`
+    /// isn't ELSIF.
     #[cycle(statements)]
     fn parse_elsif(&self, at: usize, room: u32) -> ItemResult<Elsif>
         requires { at ≤ length self.now.tokens.now }
@@ -204,7 +206,7 @@ impl<'t> Parser<'t> {
     }
 
     /// Parses the ELSE part of an IF statement, `[ELSE sequence]`. The statements are None if the
-    /// token `at` isn't ELSE.
+    /// token at `at` isn't ELSE.
     #[cycle(statements)]
     fn parse_else(&self, at: usize, room: u32) -> ConstructResult<Option<Vec<Statement>>>
         requires { at ≤ length self.now.tokens.now }
@@ -249,8 +251,8 @@ impl<'t> Parser<'t> {
 
 /// Returns whether an expression may begin with a token of this kind. At the end of the text (None)
 /// the result is false.
-fn opens_expression(first: Option<TokenKind>) -> bool
-    ensures { result ≡ opens_expression first }
+fn may_begin_expression(first: Option<TokenKind>) -> bool
+    ensures { result ≡ may_begin_expression first }
 {
     match first {
         Some(TokenKind::Identifier) => true,

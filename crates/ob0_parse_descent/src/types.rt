@@ -1,16 +1,17 @@
-//! Parses types as they are written in the text: a name, an ARRAY type or a RECORD type.
+//! Parses types as they are written in the text: a name, an ARRAY type or a RECORD type. The
+//! parameters `at` and `room` are described in `parser.rt`.
 
 ghost use Rattle.std.specs.Prelude.{true, ◌≤◌, length};
 ghost use Rattle.ob0_scan.specs.declared.lexeme.TokenKind.TheVariants as kind;
 ghost use Rattle.ob0_scan.specs.declared.lexeme.ReservedWord.TheVariants as reserved;
-ghost use Rattle.ob0_tree.specs.View.{type_of, fields_of, further_fields_of_group};
+ghost use Rattle.ob0_tree.specs.View.{type_of, optional_field_group_of, further_field_group_of};
 ghost use Rattle.ob0_parse_descent.specs.Reading.{Reads, ReadsItem, TellsIfTokenAt};
 
-use crate::growth::push_doubling;
+use crate::growth::push_with_doubling;
 use crate::parser::{ConstructResult, ItemResult, Parser, levels_left_inside, syntax_error};
-use crate::refusal::Expected;
+use crate::refusal::ExpectedSyntax;
 use ob0_scan::{ReservedWord, Symbol};
-use ob0_tree::{ArrayType, FieldGroup, Fields, RecordType, WrittenType};
+use ob0_tree::{ArrayType, FieldGroup, OptionalFieldGroup, RecordType, WrittenType};
 
 impl<'t> Parser<'t> {
     /// Parses a type: `ident | ARRAY expression OF type | RECORD fields {";" fields} END`.
@@ -28,7 +29,7 @@ impl<'t> Parser<'t> {
         if self.has_word_at(at, ReservedWord::Record) {
             return self.parse_record_type(at, room);
         }
-        syntax_error(at, Expected::Type)
+        syntax_error(at, ExpectedSyntax::Type)
     }
 
     /// Parses an array type, `ARRAY expression OF type`.
@@ -53,43 +54,47 @@ impl<'t> Parser<'t> {
     {
         let inner = levels_left_inside(at, room)?;
         let mut groups = Vec::new(self.alloc);
-        let (first, mut next) = self.parse_fields(at + 1, inner)?;
-        push_doubling(&mut groups, first)?;
-        while let Some((fields, end)) = self.parse_further_fields(next, inner)? {
-            push_doubling(&mut groups, fields)?;
+        let (first, mut next) = self.parse_optional_field_group(at + 1, inner)?;
+        push_with_doubling(&mut groups, first)?;
+        while let Some((fields, end)) = self.parse_further_field_group(next, inner)? {
+            push_with_doubling(&mut groups, fields)?;
             next = end;
         }
         let end = self.expect_word(next, ReservedWord::End)?;
         Ok((WrittenType::Record(RecordType { groups }), end))
     }
 
-    /// Parses a further group of fields, `";" fields`. Returns None if the token `at` isn't `;`.
+    /// Parses a further group of fields, `";" fields`. Returns None if the token at `at` isn't `;`.
     #[cycle(types)]
-    fn parse_further_fields(&self, at: usize, room: u32) -> ItemResult<Fields>
+    fn parse_further_field_group(&self, at: usize, room: u32) -> ItemResult<OptionalFieldGroup>
         requires { at ≤ length self.now.tokens.now }
-        ensures { ReadsItem further_fields_of_group room self.now.tokens.now at result }
+        ensures { ReadsItem further_field_group_of room self.now.tokens.now at result }
     {
         if !self.has_symbol_at(at, Symbol::Semicolon) {
             return Ok(None);
         }
-        let (fields, next) = self.parse_fields(at + 1, room)?;
+        let (fields, next) = self.parse_optional_field_group(at + 1, room)?;
         Ok(Some((fields, next)))
     }
 
-    /// Parses a group of fields of a record, `[names ":" type]`. The group is empty if the token
+    /// Parses a group of fields of a record, `[names ":" type]`. The group is empty if the token at
     /// `at` isn't an identifier.
     #[cycle(types)]
-    fn parse_fields(&self, at: usize, room: u32) -> ConstructResult<Fields>
+    fn parse_optional_field_group(
+        &self,
+        at: usize,
+        room: u32,
+    ) -> ConstructResult<OptionalFieldGroup>
         requires { at ≤ length self.now.tokens.now }
-        ensures { Reads fields_of room self.now.tokens.now at result }
+        ensures { Reads optional_field_group_of room self.now.tokens.now at result }
     {
         if !self.has_identifier_at(at) {
-            return Ok((Fields::Empty, at));
+            return Ok((OptionalFieldGroup::Empty, at));
         }
         let (names, next) = self.parse_names(at)?;
         let start = self.expect_symbol(next, Symbol::Colon)?;
         let (written, end) = self.parse_type(start, room)?;
         let boxed = Box::new(self.alloc, FieldGroup { names, written })?;
-        Ok((Fields::Listed(boxed), end))
+        Ok((OptionalFieldGroup::Listed(boxed), end))
     }
 }

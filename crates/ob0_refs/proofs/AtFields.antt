@@ -9,7 +9,7 @@ use Rattle.ob0_tree.specs.Places.{token_text_at}
 use Rattle.ob0_scope_table.specs.Resolution.{Resolution, span_at}
 use Rattle.ob0_scope_table.specs.Spans.{is_on_span}
 use Rattle.ob0_scope.specs.NamesAtPlaces.{name_at_offset}
-use Rattle.ob0_scope.specs.declared.naming.Named as named
+use Rattle.ob0_scope.specs.declared.naming.BoundName as named
 use Rattle.ob0_types.specs.IdentifierMeanings.{meaning_of_name_or_field}
 use Rattle.ob0_types.specs.declared.meant.ResolvedIdentifier.{ResolvedIdentifier}
 use Rattle.ob0_language_types.proofs.Literals.{some_inverse}
@@ -19,7 +19,7 @@ use Rattle.ob0_types_fields.specs.Identifiers.{field_declaring_token, field_at, 
 use Rattle.ob0_types_fields.proofs.FieldsAreDeclared.{fields_are_declared-holds}
 use Rattle.ob0_types_fields.proofs.TypedFields.{fields_have_types-holds}
 use Rattle.ob0_refs.specs.Laws.{FieldsHaveDefinitions, FieldRenamingChangesReferences, FieldsHaveHovers, RefersToFieldAt}
-use Rattle.ob0_refs.specs.Questions.{field_answer, answer_about_identifier, definition_of_identifier, hover_of_identifier, references_of_optional_identifier, references_at, field_hover_with_type}
+use Rattle.ob0_refs.specs.Questions.{answer_about_field, answer_about_identifier, definition_of_identifier, hover_of_identifier, references_of_optional_identifier, references_at, hover_of_field_with_type}
 use Rattle.ob0_refs.specs.declared.answers.At as answer
 use Rattle.ob0_refs.specs.declared.answers.Of as of
 use Rattle.ob0_refs.specs.declared.answers.Of.TheVariants as answer_of
@@ -48,11 +48,11 @@ record OnField (r : Resolution) (offset : ℕ) (span : Span) (k : ℕ) : Type 0 
 on_field : (r : Resolution) (offset k index : ℕ) (span : Span) → RefersToFieldAt r offset span k index → OnField r offset span k
 on_field r offset k index span h = go (name_at_offset r.module_read offset) refl (field_at r offset) refl h
   where
-    go : (n : Option named.Named) → name_at_offset r.module_read offset ≡ n → (f : Option FieldName) → field_at r offset ≡ f → option_map (λ (x : ResolvedIdentifier). answer_about_identifier r.module_read x.token x.means) (meaning_of_name_or_field n f) ≡ Some (record { span = span; of = answer_of.Field k index }) → OnField r offset span k
+    go : (n : Option named.BoundName) → name_at_offset r.module_read offset ≡ n → (f : Option FieldName) → field_at r offset ≡ f → option_map (λ (x : ResolvedIdentifier). answer_about_identifier r.module_read x.token x.means) (meaning_of_name_or_field n f) ≡ Some (record { span = span; of = answer_of.Field k index }) → OnField r offset span k
     go (Some n) e f g same = absurd (true≢false (sym (ap (λ (a : answer.At). answers_field a.of) (some_inverse same)) ∙ no_field (nat_lt n.ordinal 7) n.ordinal))
     go None e None g same = absurd (cc)
     go None e (Some x) g same =
-        let here : field_answer r.module_read x ≡ record { span = span; of = answer_of.Field k index } = some_inverse same in
+        let here : answer_about_field r.module_read x ≡ record { span = span; of = answer_of.Field k index } = some_inverse same in
         record {
           token = x.token;
           no_name = e;
@@ -131,4 +131,4 @@ fields_have_hovers-holds r offset k index span well h =
     let x : FieldName = record { token = at.token; owner = k } in
     let typed : is_some (typed_field r x) ≡ true = found_holds m.source offset x (λ y. is_some (typed_field r y) ≡ true) (field_identifiers r) (fields_have_types-holds r well.resolved well.well_typed) at.field in
     (λ i. is_some (option_and_then (λ (y : ResolvedIdentifier). hover_of_identifier r y.token y.means) (meaning_of_name_or_field (at.no_name i) (at.field i))))
-    ∙ (some_mapped (λ (f : TypedField). field_hover_with_type r at.token f.shape) (typed_field r x) ∙ typed)
+    ∙ (some_mapped (λ (f : TypedField). hover_of_field_with_type r at.token f.shape) (typed_field r x) ∙ typed)

@@ -10,7 +10,7 @@ use Rattle.ob0_language_names.specs.Parts.{formal_names, formal_sections, module
 use Rattle.ob0_scope_table.specs.Resolution.{declaring_names}
 use Rattle.ob0_scope_table.proofs.Declared.{formals_declared}
 use Rattle.ob0_scope_table.proofs.Plain.{declaring_names-append}
-use Rattle.ob0_refs.specs.HoverLaws.{HasParametersAfter, ParametersFollowProcedure, block_headings, headings, procedure_headings}
+use Rattle.ob0_refs.specs.HoverLaws.{HasParametersDeclaredNext, ParametersFollowProcedure, block_headings, headings, procedure_headings}
 
 -- ---- a heading among declaring identifiers
 
@@ -89,7 +89,7 @@ first_ones : (f : ℕ → List ℕ) (xs ys : List ℕ) → take (length xs) (map
 first_ones f [] ys = refl
 first_ones f (x ∷ xs) ys = ap (λ zs. f x ∷ zs) (first_ones f xs ys)
 
-following : (m : ParsedModule) (h : ℕ × List ℕ) → IsAmong (declaring (tree_of m)) h → HasParametersAfter m h
+following : (m : ParsedModule) (h : ℕ × List ℕ) → IsAmong (declaring (tree_of m)) h → HasParametersDeclaredNext m h
 following m h s =
     let all : List ℕ = declaring (tree_of m) in
     let n : ℕ = length s.before in
@@ -107,4 +107,4 @@ following m h s =
     }
 
 pub parameters_are_following-holds : ParametersFollowProcedure
-parameters_are_following-holds m = All-weaker (IsAmong (declaring (tree_of m))) (HasParametersAfter m) (following m) (block_headings (module_block (tree_of m))) (module_among (tree_of m))
+parameters_are_following-holds m = All-weaker (IsAmong (declaring (tree_of m))) (HasParametersDeclaredNext m) (following m) (block_headings (module_block (tree_of m))) (module_among (tree_of m))

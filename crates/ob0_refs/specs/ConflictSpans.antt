@@ -21,15 +21,15 @@ span_or_text_start (Some span) = span
 
 -- Returns the span of the identifier at which a new name for the declaration with the ordinal `d`
 -- has this conflict. For the conflict `at_declaration`, this is the identifier that declares `d`.
--- For `at_occurrence k`, it is the looked-up name with the number `k`, counted from 0 in text order.
--- If that identifier isn't found, returns an empty span at the text's start.
+-- For `at_occurrence k`, it is the looked-up name with the number `k`, counted from 0 in text
+-- order. If that identifier isn't found, returns an empty span at the text's start.
 abbrev pub conflict_span : ParsedModule → ℕ → NameConflict → Span
 conflict_span m d at_declaration = span_or_text_start (declaring_span m d)
 conflict_span m d (at_occurrence k) = span_or_text_start (occurrence_span m k)
 
 -- Returns the span of the first conflict of a renaming of the declaration with the ordinal `d` to
--- `new`. Returns None if `new` is free. If another declaration of the same block has the name `new`,
--- returns the span of the identifier that declares `d`. Otherwise returns the span of the first
--- looked-up name, in text order, whose binding the renaming would change.
+-- `new`. Returns None if `new` is free. If another declaration of the same block has the name
+-- `new`, returns the span of the identifier that declares `d`. Otherwise returns the span of the
+-- first looked-up name, in text order, whose binding the renaming would change.
 abbrev pub first_conflict_span : ParsedModule → ℕ → Name → Option Span
 first_conflict_span m d new = option_map (conflict_span m d) (first_name_conflict (named_tree_of m) d new)

@@ -1,5 +1,5 @@
--- States the law on which a procedure's hover text relies: the names declared after a procedure's name
--- begin with the names of its parameters.
+-- States the law on which a procedure's hover text relies: the names declared after a procedure's
+-- name begin with the names of its parameters.
 -- Rule: none; used in the contract of `parameters_follow_procedure`.
 use Rattle.std.specs.Prelude.{◌≡◌, ℕ, List, [], ◌++◌, ◌∷◌, Some, length, map, take}
 use Rattle.std.specs.List.{All}
@@ -31,7 +31,7 @@ abbrev mutual
 
 -- States that the first names declared after a procedure's name are the names of its parameters, in
 -- order. `heading` has the token of the procedure's name and the tokens of the parameters' names.
-pub record HasParametersAfter (m : ParsedModule) (heading : ℕ × List ℕ) : Type 0 where
+pub record HasParametersDeclaredNext (m : ParsedModule) (heading : ℕ × List ℕ) : Type 0 where
   pub ordinal : ℕ
   pub declares : declaration_token (declaring_names (identifiers role.Declaring (tree_of m))) ordinal
       ≡ Some heading.0
@@ -41,4 +41,4 @@ pub record HasParametersAfter (m : ParsedModule) (heading : ℕ × List ℕ) : T
 -- parameters, in order.
 abbrev pub ParametersFollowProcedure : Type 0
 ParametersFollowProcedure =
-    (m : ParsedModule) → All (HasParametersAfter m) (block_headings (module_block (tree_of m)))
+    (m : ParsedModule) → All (HasParametersDeclaredNext m) (block_headings (module_block (tree_of m)))

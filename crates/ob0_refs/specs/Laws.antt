@@ -17,8 +17,8 @@ abbrev pub RefersToFieldAt : Resolution → ℕ → Span → ℕ → ℕ → Typ
 RefersToFieldAt r offset span k index =
     answer_at_offset r offset ≡ Some record { span = span; of = answer_of.Field k index }
 
--- States that in a valid module, definition finds a span at each identifier that refers to a field: at
--- the field's declaration and at each selector.
+-- States that in a valid module, definition finds a span at each identifier that refers to a field:
+-- at the field's declaration and at each selector.
 abbrev pub FieldsHaveDefinitions : Type 0
 FieldsHaveDefinitions =
     (r : Resolution) (offset k index : ℕ) (span : Span)
@@ -26,10 +26,10 @@ FieldsHaveDefinitions =
     → RefersToFieldAt r offset span k index
     → is_some (definition_at r offset) ≡ true
 
--- States that renaming at the byte offset `offset` finds a field of the record with the ordinal `k`,
--- and no name. The renaming changes the field's identifiers (`field_tokens`). These are exactly the
--- references to the field, including its declaration. The identifier at the offset is one of them and
--- has the span `span`.
+-- States that renaming at the byte offset `offset` finds a field of the record with the ordinal
+-- `k`, and no name. The renaming changes the field's identifiers (`field_tokens`). These are
+-- exactly the references to the field, including its declaration. The identifier at the offset is
+-- one of them and has the span `span`.
 pub record RenamesFieldAt (r : Resolution) (offset : ℕ) (span : Span) (k : ℕ) : Type 0 where
   pub token : ℕ
   pub no_name : name_at_offset r.module_read offset ≡ None
@@ -47,8 +47,8 @@ FieldRenamingChangesReferences =
     → RefersToFieldAt r offset span k index
     → RenamesFieldAt r offset span k
 
--- States that in a valid module, hover returns a text at each identifier that refers to a field: at the
--- field's declaration and at each selector.
+-- States that in a valid module, hover returns a text at each identifier that refers to a field: at
+-- the field's declaration and at each selector.
 abbrev pub FieldsHaveHovers : Type 0
 FieldsHaveHovers =
     (r : Resolution) (offset k index : ℕ) (span : Span)

@@ -1,10 +1,10 @@
--- Defines the answer of `at` about a name: the name's span, and the thing that the name refers to.
+-- Defines the answer of `at` about a name: the name's span, and what the name refers to.
 -- Rule: docs/PROTOCOL.md, Requests on documents 3, 4.
 use Rattle.std.specs.Prelude.{ℕ, nat_lt, if◌then◌else◌}
 use Rattle.ob0_tree.specs.ParsedModule.{ParsedModule}
 use Rattle.ob0_language_names.specs.Scopes.{predeclared_count}
 use Rattle.ob0_scope_table.specs.Resolution.{span_at}
-use Rattle.ob0_scope.specs.declared.naming.Named as named
+use Rattle.ob0_scope.specs.declared.naming.BoundName as named
 use Rattle.ob0_refs.specs.declared.answers.At as answer
 use Rattle.ob0_refs.specs.declared.answers.Of as of
 use Rattle.ob0_refs.specs.declared.answers.Of.TheVariants as answer_of
@@ -16,5 +16,5 @@ referent_of_ordinal ordinal = if nat_lt ordinal predeclared_count then answer_of
 
 -- returns the answer about a name: the name's span, and the declaration that it refers to, or
 -- Predeclared
-abbrev pub name_answer : ParsedModule → named.Named → answer.At
-name_answer m n = record { span = span_at m.source n.token; of = referent_of_ordinal n.ordinal }
+abbrev pub answer_about_name : ParsedModule → named.BoundName → answer.At
+answer_about_name m n = record { span = span_at m.source n.token; of = referent_of_ordinal n.ordinal }

@@ -1,5 +1,5 @@
--- Defines the answers to hover, definition, references and prepareRename at a byte offset. The answers
--- are about the name or field that the identifier at the offset refers to.
+-- Defines the answers to hover, definition, references and prepareRename at a byte offset. The
+-- answers are about the name or field that the identifier at the offset refers to.
 -- Rule: docs/PROTOCOL.md, Requests on documents 3 to 5.
 use Rattle.std.specs.Prelude.{◌≡◌, ◌==◌, ℕ, Bool, true, false, not, nat_lt, List, [], map, if◌then◌else◌, Option, Some, None, option_map, option_and_then, unwrap_or}
 use Rattle.std.specs.List.{filter}
@@ -16,7 +16,7 @@ use Rattle.ob0_types.specs.IdentifierMeanings.{identifier_meaning_at}
 use Rattle.ob0_types.specs.declared.meant.ResolvedIdentifier.{ResolvedIdentifier}
 use Rattle.ob0_types.specs.declared.meant.IdentifierMeaning.{IdentifierMeaning}
 use Rattle.ob0_types.specs.declared.meant.IdentifierMeaning.TheVariants.{Name, Field}
-use Rattle.ob0_refs.specs.NameAnswers.{name_answer}
+use Rattle.ob0_refs.specs.NameAnswers.{answer_about_name}
 use Rattle.ob0_refs.specs.Places.{declaring_span, reference_spans_of}
 use Rattle.ob0_refs.specs.Hovers.{field_text, type_text}
 use Rattle.ob0_refs.specs.NameHovers.{HoverText, hover_of_name}
@@ -27,20 +27,20 @@ use Rattle.ob0_refs.specs.declared.answers.Of.TheVariants as answer_of
 
 -- Returns the index of a field among the fields of its record, counted from 0. The field is found
 -- by its name. Returns 0 if it isn't found.
-abbrev pub field_index : ParsedModule → FieldName → ℕ
-field_index m x = unwrap_or (field_index_in_record m x.owner (token_text_at m.source x.token)) 0
+abbrev pub field_index_or_zero : ParsedModule → FieldName → ℕ
+field_index_or_zero m x = unwrap_or (field_index_in_record m x.owner (token_text_at m.source x.token)) 0
 
 -- returns the answer about a field's identifier: the identifier's span, the field's record, and the
 -- field's index in the record
-abbrev pub field_answer : ParsedModule → FieldName → answer.At
-field_answer m x =
-    record { span = span_at m.source x.token; of = answer_of.Field x.owner (field_index m x) }
+abbrev pub answer_about_field : ParsedModule → FieldName → answer.At
+answer_about_field m x =
+    record { span = span_at m.source x.token; of = answer_of.Field x.owner (field_index_or_zero m x) }
 
--- returns the answer about the identifier with this token index and this meaning: its span and the
--- thing that it refers to
+-- returns the answer about the identifier with this token index and this meaning: its span and what
+-- it refers to
 abbrev pub answer_about_identifier : ParsedModule → ℕ → IdentifierMeaning → answer.At
-answer_about_identifier m token (Name ordinal) = name_answer m (record { token = token; ordinal = ordinal })
-answer_about_identifier m token (Field k) = field_answer m (record { token = token; owner = k })
+answer_about_identifier m token (Name ordinal) = answer_about_name m (record { token = token; ordinal = ordinal })
+answer_about_identifier m token (Field k) = answer_about_field m (record { token = token; owner = k })
 
 -- returns the answer about the name or field at a byte offset, or None if there is no name or field
 -- at the offset
@@ -67,15 +67,15 @@ renamable_span_at r offset =
 -- ---- definition: the span of the identifier that declares the name or field
 
 -- returns the span of the identifier that declares a field, or None if the field isn't found
-abbrev pub field_definition : ParsedModule → FieldName → Option Span
-field_definition m x =
+abbrev pub definition_of_field : ParsedModule → FieldName → Option Span
+definition_of_field m x =
     option_map (span_at m.source) (field_declaring_token m x.owner (token_text_at m.source x.token))
 
 -- Returns the span of the identifier that declares the name or field that an identifier refers to.
 -- Returns None for a predeclared name, and for a field that isn't found.
 abbrev pub definition_of_identifier : ParsedModule → ℕ → IdentifierMeaning → Option Span
 definition_of_identifier m token (Name ordinal) = declaring_span m ordinal
-definition_of_identifier m token (Field k) = field_definition m (record { token = token; owner = k })
+definition_of_identifier m token (Field k) = definition_of_field m (record { token = token; owner = k })
 
 -- Returns the span of the identifier that declares the name or field at a byte offset. Returns None
 -- if there is no name or field at the offset, or if the name is predeclared.
@@ -86,13 +86,13 @@ definition_at r offset =
 
 -- ---- references: the spans of all identifiers that refer to the name or field
 
--- returns a list of token indexes without this token index, or the whole list for None
+-- returns these token indexes without the given token index, or all of them for None
 abbrev pub tokens_without : Option ℕ → List ℕ → List ℕ
 tokens_without None tokens = tokens
 tokens_without (Some token) tokens = filter (λ other. not (other == token)) tokens
 
 -- Returns the token indexes of all identifiers that refer to a field, in text order. The identifier
--- that declares the field is included only if the Bool is true.
+-- that declares the field is included only if the third argument is true.
 abbrev pub field_reference_tokens : Resolution → FieldName → Bool → List ℕ
 field_reference_tokens r x true = field_tokens r x.owner (token_text_at r.module_read.source x.token)
 field_reference_tokens r x false =
@@ -104,8 +104,9 @@ field_reference_tokens r x false =
 abbrev pub field_reference_spans : Resolution → Bool → FieldName → List Span
 field_reference_spans r include x = map (span_at r.module_read.source) (field_reference_tokens r x include)
 
--- Returns the spans of the references to the name or field that the identifier with this token index
--- and this meaning refers to. The declaring identifier is among the references if `include` is true.
+-- Returns the spans of the references to the name or field that the identifier with this token
+-- index and this meaning refers to. The declaring identifier is among the references if `include`
+-- is true.
 abbrev pub references_of_identifier : Resolution → Bool → ℕ → IdentifierMeaning → List Span
 references_of_identifier r include token (Name ordinal) = reference_spans_of r.module_read ordinal include
 references_of_identifier r include token (Field k) = field_reference_spans r include (record { token = token; owner = k })
@@ -133,8 +134,8 @@ AreReferencesAt r offset include spans = spans ≡ references_at r offset includ
 
 -- returns the hover text of a field's identifier, given the identifier's token index and the
 -- field's type
-abbrev pub field_hover_with_type : Resolution → ℕ → Shape → HoverText
-field_hover_with_type r token s =
+abbrev pub hover_of_field_with_type : Resolution → ℕ → Shape → HoverText
+hover_of_field_with_type r token s =
     record {
       span = span_at r.module_read.source token;
       text = field_text (token_text_at r.module_read.source token) (type_text s);
@@ -142,18 +143,18 @@ field_hover_with_type r token s =
 
 -- Returns the hover text of an identifier that declares or selects a field. The text shows the
 -- field's type. Returns None if the field isn't found.
-abbrev pub field_hover : Resolution → FieldName → Option HoverText
-field_hover r x = option_map (λ f. field_hover_with_type r x.token f.shape) (typed_field r x)
+abbrev pub hover_of_field : Resolution → FieldName → Option HoverText
+hover_of_field r x = option_map (λ f. hover_of_field_with_type r x.token f.shape) (typed_field r x)
 
--- Returns the hover text of the identifier with this token index and this meaning. Returns None if the
--- declaration or field that it refers to isn't found.
+-- Returns the hover text of the identifier with this token index and this meaning. Returns None if
+-- the declaration or field that it refers to isn't found.
 abbrev pub hover_of_identifier : Resolution → ℕ → IdentifierMeaning → Option HoverText
 hover_of_identifier r token (Name ordinal) =
     hover_of_name r.module_read (record { token = token; ordinal = ordinal })
-hover_of_identifier r token (Field k) = field_hover r (record { token = token; owner = k })
+hover_of_identifier r token (Field k) = hover_of_field r (record { token = token; owner = k })
 
--- Returns the hover text of the identifier at a byte offset. Returns None if no identifier at the offset
--- refers to a name or field, or if the declaration or field isn't found.
+-- Returns the hover text of the identifier at a byte offset. Returns None if no identifier at the
+-- offset refers to a name or field, or if the declaration or field isn't found.
 abbrev pub hover_at_offset : Resolution → ℕ → Option HoverText
 hover_at_offset r offset =
     option_and_then (λ (x : ResolvedIdentifier). hover_of_identifier r x.token x.means) (identifier_meaning_at r offset)

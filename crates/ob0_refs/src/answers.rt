@@ -1,10 +1,9 @@
-//! Defines the types of the answers about an identifier: the thing that it refers to, its hover
-//! text, and the conflict of a new name for its declaration.
+//! Defines the types of the answers about an identifier: what it refers to, its hover text, and the
+//! conflict of a new name for its declaration.
 
 use ob0_scan::Span;
 
-/// The thing that an identifier refers to: a declaration of the text, a predeclared name, or a
-/// field.
+/// What an identifier refers to: a declaration of the text, a predeclared name, or a field.
 #[derive(Clone, Copy, PartialEq, Eq)]
 pub enum Of {
     /// The ordinal of a declaration of the text.
@@ -16,7 +15,7 @@ pub enum Of {
     Field { ordinal: usize, index: usize },
 }
 
-/// An identifier of the text, with its span in bytes and the thing it refers to.
+/// The answer of `at` about an identifier of the text: its span in bytes, and what it refers to.
 #[derive(Clone, Copy, PartialEq, Eq)]
 pub struct At {
     pub span: Span,

@@ -34,11 +34,11 @@ pub(crate) fn reference_spans_of(
         (λ spans. spans.items ≡ reference_spans_of names.now.module_read declaration include) }
 {
     let found = tokens_bound_to(alloc, names, declaration, include)?;
-    spans_of(alloc, names.tokens(), &found)
+    token_spans(alloc, names.tokens(), &found)
 }
 
 /// Returns the spans of the tokens with the indexes `found`, in the same order.
-pub(crate) fn spans_of(
+pub(crate) fn token_spans(
     alloc: Global,
     tokens: &Tokens,
     found: &[usize],

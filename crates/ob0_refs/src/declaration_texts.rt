@@ -12,7 +12,7 @@ ghost use Rattle.ob0_tree.specs.Tree.{identifiers};
 ghost use Rattle.ob0_tree.specs.declared.tree.Role.TheVariants as role;
 ghost use Rattle.ob0_scope_table.specs.Resolution.{declaring_names};
 ghost use Rattle.ob0_refs.specs.DeclarationParts.{declared_object_view, signature_view};
-ghost use Rattle.ob0_refs.specs.Declarations.{declaration_hover, name_hover, names_declared_after, hover_parameter, hover_parameters};
+ghost use Rattle.ob0_refs.specs.Declarations.{hover_text_of_declaration, hover_text_of_name, names_declared_after, hover_parameter, hover_parameters};
 ghost use Rattle.ob0_refs.specs.Hovers.{field_text, type_declaration_text, procedure_text, type_text, variable_text};
 ghost use Rattle.ob0_refs.specs.Parameters.{parameter_view};
 ghost use Rattle.ob0_types_table.specs.KnownTables.{declared_object_in, shapes_of};
@@ -25,7 +25,7 @@ use crate::hovers::{
 };
 use crate::type_texts::type_text;
 use ob0_scan::Tokens;
-use ob0_scope::Named;
+use ob0_scope::BoundName;
 use ob0_scope_table::{PREDECLARED_COUNT, Resolved};
 use ob0_tree::token_text_at;
 use ob0_types_table::{DeclarationTable, FormalParameter, Object, TypeId};
@@ -37,10 +37,10 @@ pub(crate) fn name_hover_text(
     alloc: Global,
     known: &DeclarationTable,
     names: &Resolved<'_>,
-    name: Named,
+    name: BoundName,
 ) -> Result<Option<String>, AllocError>
     ensures { IfOk result (λ r. option_map string_bytes r
-        ≡ name_hover names.now.module_read name (declared_object_in known.now name.ordinal)) }
+        ≡ hover_text_of_name names.now.module_read name (declared_object_in known.now name.ordinal)) }
 {
     if name.ordinal < PREDECLARED_COUNT {
         let text = predeclared_text(alloc, token_text_at(names.tokens(), name.token))?;
@@ -58,11 +58,11 @@ fn object_hover_text(
     alloc: Global,
     known: &DeclarationTable,
     names: &Resolved<'_>,
-    name: Named,
+    name: BoundName,
     object: &Object,
 ) -> Result<Option<String>, AllocError>
     ensures { IfOk result (λ r. option_map string_bytes r
-        ≡ declaration_hover names.now.module_read name (declared_object_view known.now object.now)) }
+        ≡ hover_text_of_declaration names.now.module_read name (declared_object_view known.now object.now)) }
 {
     let text = token_text_at(names.tokens(), name.token);
     match object {
@@ -106,7 +106,7 @@ fn variable_hover_text(
     variable_text(alloc, name, of.as_str())
 }
 
-/// Returns the hover text of a field with this name and type.
+/// Returns the hover text of a field with the name `name` and the type `of`.
 pub(crate) fn field_hover_text(
     alloc: Global,
     known: &DeclarationTable,
@@ -128,7 +128,7 @@ fn procedure_hover_text(
     alloc: Global,
     known: &DeclarationTable,
     names: &Resolved<'_>,
-    name: Named,
+    name: BoundName,
     formals: &[FormalParameter],
 ) -> Result<String, AllocError>
     ensures { IfOk result (λ text. string_bytes text

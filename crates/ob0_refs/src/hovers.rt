@@ -18,7 +18,11 @@ pub(crate) struct Parameter<'a> {
 }
 
 /// Returns the text of an array type, given the array's length and the text of its element type.
-pub(crate) fn array_text(alloc: Global, length: usize, element: &str) -> Result<String, AllocError>
+pub(crate) fn array_text_from_element_text(
+    alloc: Global,
+    length: usize,
+    element: &str,
+) -> Result<String, AllocError>
     ensures { IfOk result (λ text. (k : ℕ) (s : Shape)
         → element.now ≡ type_text s
         → string_bytes text ≡ type_text (array_shape k length s)) }
@@ -94,6 +98,7 @@ pub(crate) fn procedure_text(
     format!(in alloc; "PROCEDURE {name}({list})")
 }
 
+/// Returns the texts of all parameters, with `; ` between them.
 fn parameters_text(alloc: Global, parameters: &[Parameter<'_>]) -> Result<String, AllocError>
     ensures { IfOk result
         (λ text. string_bytes text ≡ parameters_text (map parameter_view parameters.now)) }
@@ -110,6 +115,7 @@ fn parameters_text(alloc: Global, parameters: &[Parameter<'_>]) -> Result<String
     Ok(text)
 }
 
+/// Appends the text of a parameter: `a: T` or `VAR a: T`.
 fn push_parameter(text: &mut String, parameter: &Parameter<'_>) -> Result<(), AllocError>
     ensures { OnOk result (string_bytes text.new
         ≡ string_bytes text.old ++ parameter_text (parameter_view parameter.now)) }

@@ -1,15 +1,15 @@
-//! Makes the answer of `at` about a name: the name's span, and the thing that the name refers to.
+//! Makes the answer of `at` about a name: the name's span, and what the name refers to.
 
 ghost use Rattle.std.specs.Prelude.{◌≡◌};
-ghost use Rattle.ob0_refs.specs.NameAnswers.{name_answer, referent_of_ordinal};
+ghost use Rattle.ob0_refs.specs.NameAnswers.{answer_about_name, referent_of_ordinal};
 
 use crate::answers::{At, Of};
-use ob0_scope::Named;
+use ob0_scope::BoundName;
 use ob0_scope_table::{PREDECLARED_COUNT, Resolved, token_span};
 
-/// Returns the span of a name, in bytes, and the thing that the name refers to.
-pub(crate) fn name_answer(names: &Resolved, name: Named) -> At
-    ensures { result ≡ name_answer names.now.module_read name }
+/// Returns the span of a name, in bytes, and what the name refers to.
+pub(crate) fn answer_about_name(names: &Resolved, name: BoundName) -> At
+    ensures { result ≡ answer_about_name names.now.module_read name }
 {
     At {
         span: token_span(names.tokens(), name.token),

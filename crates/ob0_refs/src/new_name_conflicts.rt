@@ -2,7 +2,7 @@
 
 ghost use Rattle.std.specs.Prelude.{◌≡◌, ◌↔◌, None, IfOk, option_map};
 ghost use Rattle.ob0_tree.specs.ParsedModule.{named_tree_of};
-ghost use Rattle.ob0_language_names.specs.Occurrences.{Free};
+ghost use Rattle.ob0_language_names.specs.Occurrences.{IsFreeName};
 ghost use Rattle.ob0_refs.specs.Parts.{span_of_conflict};
 ghost use Rattle.ob0_refs.specs.ConflictSpans.{first_conflict_span};
 
@@ -25,7 +25,7 @@ pub fn captures(
     ensures span { IfOk result (λ found. option_map span_of_conflict found
         ≡ first_conflict_span names.now.module_read declaration new.now) }
     ensures free { IfOk result
-        (λ found. found ≡ None ↔ Free (named_tree_of names.now.module_read) declaration new.now) }
+        (λ found. found ≡ None ↔ IsFreeName (named_tree_of names.now.module_read) declaration new.now) }
 {
     match first_capture(alloc, names, declaration, new)? {
         None => Ok(None),

@@ -3,14 +3,14 @@
 
 ghost use Rattle.std.specs.Prelude.{◌≡◌, IfOk, option_map};
 ghost use Rattle.ob0_refs.specs.Parts.{hover_view};
-ghost use Rattle.ob0_refs.specs.Questions.{field_hover, hover_at_offset, hover_of_identifier, field_hover_with_type};
+ghost use Rattle.ob0_refs.specs.Questions.{hover_of_field, hover_at_offset, hover_of_identifier, hover_of_field_with_type};
 ghost use Rattle.ob0_refs.specs.NameHovers.{hover_of_name};
 ghost use Rattle.ob0_types_table.specs.KnownTables.{shapes_of};
 ghost use Rattle.ob0_types_table.specs.Tables.{type_shape};
 
 use crate::answers::Hover;
 use crate::declaration_texts::{field_hover_text, name_hover_text};
-use ob0_scope::Named;
+use ob0_scope::BoundName;
 use ob0_scope_table::{Resolved, token_span};
 use ob0_tree::token_text_at;
 use ob0_types::{IdentifierMeaning, ResolvedIdentifier, WellTyped, identifier_meaning_at};
@@ -50,9 +50,9 @@ fn hover_of_identifier(
         IdentifierMeaning::Name(ordinal) => hover_of_name(
             alloc,
             well_typed,
-            Named { token, ordinal },
+            BoundName { token, ordinal },
         ),
-        IdentifierMeaning::Field(owner) => field_hover(
+        IdentifierMeaning::Field(owner) => hover_of_field(
             alloc,
             well_typed,
             FieldName { token, owner },
@@ -65,7 +65,7 @@ fn hover_of_identifier(
 fn hover_of_name(
     alloc: Global,
     well_typed: &WellTyped<'_>,
-    name: Named,
+    name: BoundName,
 ) -> Result<Option<Hover>, AllocError>
     ensures { IfOk result (λ h. option_map hover_view h ≡ hover_of_name well_typed.now.module_read name) }
 {
@@ -79,18 +79,18 @@ fn hover_of_name(
 
 /// Returns the hover text of a field identifier, with the identifier's span. Returns None if the
 /// field isn't found.
-fn field_hover(
+fn hover_of_field(
     alloc: Global,
     well_typed: &WellTyped<'_>,
     field: FieldName,
 ) -> Result<Option<Hover>, AllocError>
-    ensures { IfOk result (λ h. option_map hover_view h ≡ field_hover well_typed.now field) }
+    ensures { IfOk result (λ h. option_map hover_view h ≡ hover_of_field well_typed.now field) }
 {
     let known = well_typed.declarations();
     let names = well_typed.resolved();
     match typed_field(known, names, field) {
         None => Ok(None),
-        Some(found) => Ok(Some(field_hover_with_type(
+        Some(found) => Ok(Some(hover_of_field_with_type(
             alloc,
             known,
             names,
@@ -102,7 +102,7 @@ fn field_hover(
 
 /// Returns the hover text of a field's identifier, given the identifier's token index (`token`) and
 /// the field's type (`of`).
-fn field_hover_with_type(
+fn hover_of_field_with_type(
     alloc: Global,
     known: &DeclarationTable,
     names: &Resolved<'_>,
@@ -110,7 +110,7 @@ fn field_hover_with_type(
     of: TypeId,
 ) -> Result<Hover, AllocError>
     ensures { IfOk result
-        (λ h. hover_view h ≡ field_hover_with_type names.now token (type_shape (shapes_of known.now) of)) }
+        (λ h. hover_view h ≡ hover_of_field_with_type names.now token (type_shape (shapes_of known.now) of)) }
 {
     let tokens = names.tokens();
     let text = field_hover_text(alloc, known, token_text_at(tokens, token), of)?;

@@ -1,6 +1,5 @@
 //! Answers definition, references and prepareRename for the name or field at a byte offset. Also
-//! finds the declaration or field to which the identifier at the offset refers (`at`), for renaming
-//! and inlining.
+//! finds the declaration or field to which the identifier at the offset refers (`at`).
 //!
 //! Each public function first finds the meaning of the identifier at the offset
 //! (`identifier_meaning_at` of `ob0_types`). Then it has one case for a name and one for a field.
@@ -12,13 +11,13 @@
 //! take one pass over the module's fields.
 
 ghost use Rattle.std.specs.Prelude.{◌≡◌, IfOk, Some};
-ghost use Rattle.ob0_refs.specs.Questions.{AreReferencesAt, field_answer, answer_about_identifier, definition_of_identifier, definition_at, field_definition, field_reference_spans, field_reference_tokens, field_index, answer_at_offset, references_of_identifier, tokens_without, renamable_span_at, renamable_span_of_identifier};
+ghost use Rattle.ob0_refs.specs.Questions.{AreReferencesAt, answer_about_field, answer_about_identifier, definition_of_identifier, definition_at, definition_of_field, field_reference_spans, field_reference_tokens, field_index_or_zero, answer_at_offset, references_of_identifier, tokens_without, renamable_span_at, renamable_span_of_identifier};
 
 use crate::answers::{At, Of};
-use crate::declaration_spans::{declaration_span, reference_spans_of, spans_of};
-use crate::names::name_answer;
+use crate::declaration_spans::{declaration_span, reference_spans_of, token_spans};
+use crate::names::answer_about_name;
 use ob0_scan::Span;
-use ob0_scope::Named;
+use ob0_scope::BoundName;
 use ob0_scope_table::{PREDECLARED_COUNT, token_span};
 use ob0_tree::token_text_at;
 use ob0_types::{
@@ -41,38 +40,41 @@ pub fn at(well_typed: &WellTyped<'_>, offset: usize) -> Option<At>
     }
 }
 
-/// Returns the answer about an identifier: its span and the thing that it refers to.
+/// Returns the answer about an identifier: its span and what it refers to.
 fn answer_about_identifier(well_typed: &WellTyped<'_>, found: ResolvedIdentifier) -> At
     ensures { result ≡ answer_about_identifier well_typed.now.module_read found.token found.means }
 {
     let token = found.token;
     match found.means {
-        IdentifierMeaning::Name(ordinal) => name_answer(
+        IdentifierMeaning::Name(ordinal) => answer_about_name(
             well_typed.resolved(),
-            Named { token, ordinal },
+            BoundName { token, ordinal },
         ),
-        IdentifierMeaning::Field(owner) => field_answer(well_typed, FieldName { token, owner }),
+        IdentifierMeaning::Field(owner) => answer_about_field(
+            well_typed,
+            FieldName { token, owner },
+        ),
     }
 }
 
 /// Returns the answer about a field's identifier: its span, the field's record and the field's
 /// index in the record.
-fn field_answer(well_typed: &WellTyped<'_>, field: FieldName) -> At
-    ensures { result ≡ field_answer well_typed.now.module_read field }
+fn answer_about_field(well_typed: &WellTyped<'_>, field: FieldName) -> At
+    ensures { result ≡ answer_about_field well_typed.now.module_read field }
 {
     At {
         span: token_span(well_typed.resolved().tokens(), field.token),
         of: Of::Field {
             ordinal: field.owner,
-            index: field_index(well_typed, field),
+            index: field_index_or_zero(well_typed, field),
         },
     }
 }
 
 /// Returns the index of the field that an identifier refers to, counted from 0 among the fields of
 /// its record. Returns 0 if the field isn't found.
-fn field_index(well_typed: &WellTyped<'_>, field: FieldName) -> usize
-    ensures { result ≡ field_index well_typed.now.module_read field }
+fn field_index_or_zero(well_typed: &WellTyped<'_>, field: FieldName) -> usize
+    ensures { result ≡ field_index_or_zero well_typed.now.module_read field }
 {
     let names = well_typed.resolved();
     let name = token_text_at(names.tokens(), field.token);
@@ -133,14 +135,17 @@ fn definition_of_identifier(well_typed: &WellTyped<'_>, found: ResolvedIdentifie
     let token = found.token;
     match found.means {
         IdentifierMeaning::Name(ordinal) => declaration_span(well_typed.resolved(), ordinal),
-        IdentifierMeaning::Field(owner) => field_definition(well_typed, FieldName { token, owner }),
+        IdentifierMeaning::Field(owner) => definition_of_field(
+            well_typed,
+            FieldName { token, owner },
+        ),
     }
 }
 
 /// Returns the span of the identifier that declares the field that `field` refers to. Returns None
 /// if the field isn't found.
-fn field_definition(well_typed: &WellTyped<'_>, field: FieldName) -> Option<Span>
-    ensures { result ≡ field_definition well_typed.now.module_read field }
+fn definition_of_field(well_typed: &WellTyped<'_>, field: FieldName) -> Option<Span>
+    ensures { result ≡ definition_of_field well_typed.now.module_read field }
 {
     let names = well_typed.resolved();
     let name = token_text_at(names.tokens(), field.token);
@@ -207,7 +212,7 @@ fn field_reference_spans(
         (λ spans. spans.items ≡ field_reference_spans well_typed.now include field) }
 {
     let tokens = field_reference_tokens(alloc, well_typed, field, include)?;
-    let spans = spans_of(alloc, well_typed.resolved().tokens(), &tokens)?;
+    let spans = token_spans(alloc, well_typed.resolved().tokens(), &tokens)?;
     Ok(spans)
 }
 
@@ -228,12 +233,12 @@ fn field_reference_tokens(
         return Ok(tokens);
     }
     let declaring = field_declaring_token(well_typed, field.owner, name);
-    let uses = without_optional_token(alloc, declaring, tokens)?;
+    let uses = list_without_optional_token(alloc, declaring, tokens)?;
     Ok(uses)
 }
 
 /// Returns the list `tokens` without `token`, or the whole list if `token` is None.
-fn without_optional_token(
+fn list_without_optional_token(
     alloc: Global,
     token: Option<usize>,
     tokens: Vec<usize>,
@@ -243,14 +248,18 @@ fn without_optional_token(
     match token {
         None => Ok(tokens),
         Some(token) => {
-            let others = without_token(alloc, token, &tokens)?;
+            let others = list_without_token(alloc, token, &tokens)?;
             Ok(others)
         }
     }
 }
 
 /// Returns the list `tokens` without `token`.
-fn without_token(alloc: Global, token: usize, tokens: &[usize]) -> Result<Vec<usize>, AllocError>
+fn list_without_token(
+    alloc: Global,
+    token: usize,
+    tokens: &[usize],
+) -> Result<Vec<usize>, AllocError>
     ensures { IfOk result (λ others. others.items ≡ tokens_without (Some token) tokens.now) }
 {
     let mut others = Vec::new(alloc);

@@ -9,12 +9,13 @@ ghost use Rattle.ob0_types_table.specs.KnownTables.{shapes_of};
 ghost use Rattle.ob0_types_table.specs.Tables.{type_shape};
 ghost use Rattle.ob0_language_values.specs.Values.{array_shape};
 
-use crate::hovers::{array_text, record_text};
+use crate::hovers::{array_text_from_element_text, record_text};
 use ob0_types_table::{ArrayShape, DeclarationTable, Parts, TypeId};
 use std::alloc::{AllocError, Global};
 
-/// Returns the text of a type. An array shows the type of its elements, and a record the number of
-/// its fields. A type that isn't one of the module's types is shown as a record with 0 fields.
+/// Returns the text of a type. The text of an array shows the type of its elements, and the text of
+/// a record shows the number of its fields. A type that isn't one of the module's types is shown as
+/// a record with 0 fields.
 #[cycle(types)]
 pub(crate) fn type_text(
     alloc: Global,
@@ -45,5 +46,5 @@ fn array_type_text(
         (array_shape array.ordinal array.length (type_shape (shapes_of known.now) array.element))) }
 {
     let element = type_text(alloc, known, array.element)?;
-    array_text(alloc, array.length, element.as_str())
+    array_text_from_element_text(alloc, array.length, element.as_str())
 }

@@ -7,7 +7,7 @@ use Rattle.std.specs.List.{list_any}
 use Rattle.std.specs.declared.alloc.Global.{Global}
 use Rattle.std.proofs.lemmas.Slice.Eq.{bytes_eq-Decides}
 use Rattle.ob0_scan.specs.Classes.{IsIdentifier}
-use Rattle.ob0_scan.specs.TextWithTokens.{IsScan, TextWithTokens, max_text}
+use Rattle.ob0_scan.specs.TextWithTokens.{IsScan, TextWithTokens, max_text_length}
 use Rattle.ob0_text.specs.declared.edits.Edit.{Edit}
 use Rattle.ob0_text.specs.declared.position_types.Position.{Position}
 use Rattle.ob0_text.specs.declared.position_types.Unit as counting
@@ -21,13 +21,13 @@ use Rattle.ob0_scope_table.specs.Resolution.{Resolution}
 use Rattle.ob0_types.specs.CheckedModules.{IsWellTyped}
 use Rattle.ob0_edits_tokens.specs.Changed.{is_in_list, words_of}
 use Rattle.ob0_edits_tokens.specs.OfTrees.{RenamingKeepsSpelling, number_at, renamed_word_text}
-use Rattle.ob0_edits_tokens.specs.Replaced.{AreIdentifierIndexes, MayReplaceName, text_after_replacement}
+use Rattle.ob0_edits_tokens.specs.Replaced.{AreIdentifierIndexes, MayReplaceIdentifier, text_after_replacement}
 use Rattle.ob0_edits_tokens.specs.Written.{name_word}
 use Rattle.ob0_language_field_laws.specs.FieldLaws.{FreeFieldRenamingKeepsTypingAndRuns}
 use Rattle.ob0_types_fields.specs.declared.field_name.FieldName.{FieldName}
-use Rattle.ob0_types_fields.specs.Identifiers.{DuplicateHasDeclaringToken, RenamingChangesFieldTokens, field_declaring_token, field_identifiers, field_tokens, tokens_of_field}
+use Rattle.ob0_types_fields.specs.Identifiers.{DuplicateFieldNameHasDeclaringToken, RenamingChangesFieldTokens, field_declaring_token, field_identifiers, field_tokens, tokens_of_field}
 use Rattle.ob0_language_fields.specs.Renaming.{IsFreeFieldName, with_renamed_field}
-use Rattle.ob0_rename.specs.Answers.{RenameAnswers, AnswersForField, IsRenameRefusal, IsFieldRefusal, FailsOnlyForMemory}
+use Rattle.ob0_rename.specs.Answers.{RenameAnswers, AnswersRenamingOfField, IsRenameRefusal, IsFirstRefusalForField, FailsOnlyForMemory}
 use Rattle.ob0_rename.specs.Renaming.{TargetsField, Renaming, field_tokens_to_rename, token_range}
 use Rattle.ob0_rename.proofs.Outcomes.{Edited, whole, written}
 use Rattle.ob0_rename.proofs.Rewritten.{number_same, of_rewritten, text_same}
@@ -88,28 +88,28 @@ module _ (unit : counting.Unit) (text : List ℕ) (place : Position) (new : Name
   abbrev pub requested_field : Resolution → Renaming
   requested_field r = record { unit = unit; text = text; names = r; place = place; new = new }
 
-  pub duplicated : (r : Resolution) → IsIdentifier new → DuplicateHasDeclaringToken → (token : ℕ) (why : EditRefusal) → (if same_name new f then None else field_declaring_token r.module_read k new) ≡ Some token
-      → why ≡ refusal.Duplicate (token_range (requested_field r) token) → IsFieldRefusal (requested_field r) k f why
-  duplicated r id field_target token why other is =
+  pub duplicated : (r : Resolution) → IsIdentifier new → DuplicateFieldNameHasDeclaringToken → (token : ℕ) (why : EditRefusal) → (if same_name new f then None else field_declaring_token r.module_read k new) ≡ Some token
+      → why ≡ refusal.Duplicate (token_range (requested_field r) token) → IsFirstRefusalForField (requested_field r) k f why
+  duplicated r id target_of_optional_field token why other is =
       let found = other_some (same_name new f) (field_declaring_token r.module_read k new) token other in
-      subst (IsFieldRefusal (requested_field r) k f) (sym is) (id, field_target r.module_read k f new ∙ found.0, ap (option_map (token_range (requested_field r))) found.1)
+      subst (IsFirstRefusalForField (requested_field r) k f) (sym is) (id, target_of_optional_field r.module_read k f new ∙ found.0, ap (option_map (token_range (requested_field r))) found.1)
 
   pub field_answered : (r : Resolution) → IsWellTyped r → IsIdentifier new → IsFreeFieldName (named_tree_of r.module_read) k f new → FreeFieldRenamingKeepsTypingAndRuns → RenamingChangesFieldTokens → RenamingKeepsSpelling
-      → ((name : List ℕ) → IsIdentifier name → MayReplaceName name (name_word name ∷ [])) → AreIdentifierIndexes r.module_read.source.tokens 0 (field_tokens_to_rename r k f new)
-      → (result : Result (Vec Edit Global) EditRefusal) → Edited unit text new r.module_read.source (field_tokens_to_rename r k f new) result → AnswersForField (requested_field r) k f result
-  field_answered r well id free keeps by_tokens spells identifier_with_meaning names (Ok edits) made =
+      → ((name : List ℕ) → IsIdentifier name → MayReplaceIdentifier name (name_word name ∷ [])) → AreIdentifierIndexes r.module_read.source.tokens 0 (field_tokens_to_rename r k f new)
+      → (result : Result (Vec Edit Global) EditRefusal) → Edited unit text new r.module_read.source (field_tokens_to_rename r k f new) result → AnswersRenamingOfField (requested_field r) k f result
+  field_answered r well id free keeps by_tokens spells resolved_identifier_at names (Ok edits) made =
       let m = r.module_read in
       record {
         identifier = id;
         free = free;
         writes =
-            written unit text place new k r (with_renamed_field (named_tree_of m) k f new) (field_tokens_to_rename r k f new) id identifier_with_meaning
+            written unit text place new k r (with_renamed_field (named_tree_of m) k f new) (field_tokens_to_rename r k f new) id resolved_identifier_at
             (of_rewritten m (with_renamed_field (named_tree_of m) k f new) (field_tokens_to_rename r k f new) new well.resolved.parsed spells names (field_there r k f new well by_tokens))
             (keeps (named_tree_of m) k f new free well.well_typed) edits made;
       }
-  field_answered r well id free keeps by_tokens spells identifier_with_meaning names (Err why) made =
+  field_answered r well id free keeps by_tokens spells resolved_identifier_at names (Err why) made =
       elim made.refusals [
-        | inl e ↦ inr (subst (IsFieldRefusal (requested_field r) k f) (sym e) (id, free, made.too_long (ap Err e)))
+        | inl e ↦ inr (subst (IsFirstRefusalForField (requested_field r) k f) (sym e) (id, free, made.too_long (ap Err e)))
         | inr e ↦ inl e
       ]
 
@@ -125,19 +125,19 @@ module _ (unit : counting.Unit) (text : List ℕ) (place : Position) (new : Name
         | inr e ↦ e
       ]
     where
-      too_long_never : (r : Resolution) → IsScan r.module_read.source → (places : List ℕ) → places ≡ [] → max_text < length (text_after_replacement r.module_read.source places new) → ⊥
+      too_long_never : (r : Resolution) → IsScan r.module_read.source → (places : List ℕ) → places ≡ [] → max_text_length < length (text_after_replacement r.module_read.source places new) → ⊥
       too_long_never r scan places none long =
-          let same = subst (λ places. max_text < length (text_after_replacement r.module_read.source places new)) none long in
+          let same = subst (λ places. max_text_length < length (text_after_replacement r.module_read.source places new)) none long in
           omega (arith, same, whole r.module_read.source.text, scan.short)
 
 -- ---- an answer for the field at the place is the answer
 
-field_refused_there : (a : Renaming) (k : ℕ) (f : Name) → TargetsField a k f → (why : EditRefusal) → IsFieldRefusal a k f why → IsRenameRefusal a why
+field_refused_there : (a : Renaming) (k : ℕ) (f : Name) → TargetsField a k f → (why : EditRefusal) → IsFirstRefusalForField a k f why → IsRenameRefusal a why
 field_refused_there a k f means refusal.BadName h = inr (k, (f, means, h))
 field_refused_there a k f means (refusal.Duplicate range) h = inr (k, (f, means, h))
 field_refused_there a k f means refusal.TooLong h = inr (k, (f, means, h))
 field_refused_there a k f means _ h = absurd h
 
-pub field_answered_there : (a : Renaming) (k : ℕ) (f : Name) → TargetsField a k f → (result : Result (Vec Edit Global) EditRefusal) → AnswersForField a k f result → RenameAnswers a result
+pub field_answered_there : (a : Renaming) (k : ℕ) (f : Name) → TargetsField a k f → (result : Result (Vec Edit Global) EditRefusal) → AnswersRenamingOfField a k f result → RenameAnswers a result
 field_answered_there a k f means (Ok edits) h = inr (k, (f, means, h))
 field_answered_there a k f means (Err why) h = elim h [ inl e ↦ inl e | inr e ↦ inr (field_refused_there a k f means why e) ]

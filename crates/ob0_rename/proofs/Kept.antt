@@ -6,8 +6,8 @@ use Rattle.ob0_tree.specs.Tree.{Sort, Tree, block, constant, constants, declares
 use Rattle.ob0_language_names.specs.ConsistentNames.{are_distinct, block_names, block_has_consistent_names, has_consistent_names, formals_have_distinct_fields, procedure_has_consistent_names, procedures_have_consistent_names, types_have_distinct_fields, variables_have_distinct_fields}
 use Rattle.ob0_language_names.specs.Mapping.{map_names}
 use Rattle.ob0_language_names.specs.Names.{Name, naming_by_spelling, same_name}
-use Rattle.ob0_language_names.specs.Parts.{constant_names, formal_names, formal_sections, further_names, module_block, declared_type_names, names_in_list, procedure_name, section_constants, section_names, section_types, section_variables, variable_names}
-use Rattle.ob0_language_names.specs.Scopes.{Labelling, Scope, ordinal_after_names, ordinal_after_procedure, declare_names, declare_procedure_names, first_procedure_ordinal, first_type_ordinal, first_variable_ordinal, ordinal_of, predeclared_scope, procedures_scope, relabel_block, relabel_constant_section, relabel_constants, relabel_formals, relabel_further_names, relabel_names, relabel_procedure, relabel_procedures, relabel_section, relabel_sections, relabel_type_section, relabel_types, relabel_uses, relabel_variable_section, relabel_variables, renamed, types_scope, variables_scope, body_scope}
+use Rattle.ob0_language_names.specs.Parts.{constant_names, formal_names, formal_sections, further_names, module_block, declared_type_names, names_in_list, procedure_name, section_constants, parameter_section_names, section_types, section_variables, variable_names}
+use Rattle.ob0_language_names.specs.Scopes.{Labelling, Scope, ordinal_after_names, ordinal_after_procedure, declare_names, declare_procedure_names, first_procedure_ordinal, first_type_ordinal, first_variable_ordinal, ordinal_of, predeclared_scope, scope_before_procedures, relabel_block, relabel_constant_section, relabel_constants, relabel_formals, relabel_further_names, relabel_names, relabel_procedure, relabel_procedures, relabel_section, relabel_sections, relabel_type_section, relabel_types, relabel_uses, relabel_variable_section, relabel_variables, renamed, scope_before_types, scope_before_variables, body_scope}
 use Rattle.ob0_language_names.proofs.DistinctNames.{new_name}
 use Rattle.ob0_language_names.proofs.SameNames.{map_names-id}
 use Rattle.ob0_scope_table.proofs.Declared.{after_names_in_procedure, names_in, names_in_procedure, names_in_procedures}
@@ -90,22 +90,22 @@ module _ (d : ℕ) (new : Name) where
   variable_section-kept scope k none s h = refl
   variable_section-kept scope k (one (declares_variables vs)) s h = λ i. one (declares_variables (variables-kept scope k vs s h i))
 
-  section-kept : (scope : Scope Name) (k : ℕ) (f : Tree Name section) → InScope scope → AreSo k (section_names f) → relabel_section naming_by_spelling ren scope k f ≡ f
+  section-kept : (scope : Scope Name) (k : ℕ) (f : Tree Name section) → InScope scope → AreSo k (parameter_section_names f) → relabel_section naming_by_spelling ren scope k f ≡ f
   section-kept scope k (value_section ns t) s h = λ i. value_section (listed-kept k ns h i) (uses-kept scope t s i)
   section-kept scope k (variable_section ns t) s h = λ i. variable_section (listed-kept k ns h i) (uses-kept scope t s i)
 
   sections-kept : (scope : Scope Name) (k : ℕ) (fs : Tree Name (items further_section)) → InScope scope → AreSo k (formal_names fs) → relabel_sections naming_by_spelling ren scope k fs ≡ fs
   sections-kept scope k end s h = refl
   sections-kept scope k (more (then_section f) fs) s h =
-      let parts = so-append k (section_names f) (formal_names fs) h in
+      let parts = so-append k (parameter_section_names f) (formal_names fs) h in
       λ i. more (then_section (section-kept scope k f s parts.0 i))
-      (sections-kept (declare_names k (section_names f) scope) (ordinal_after_names k (section_names f)) fs (in_scope-names k (section_names f) scope parts.0 s) parts.1 i)
+      (sections-kept (declare_names k (parameter_section_names f) scope) (ordinal_after_names k (parameter_section_names f)) fs (in_scope-names k (parameter_section_names f) scope parts.0 s) parts.1 i)
 
   formals-kept : (scope : Scope Name) (k : ℕ) (fs : Tree Name (maybe formals)) → InScope scope → AreSo k (formal_names (formal_sections fs)) → relabel_formals naming_by_spelling ren scope k fs ≡ fs
   formals-kept scope k (one (some_formals f fs)) s h =
-      let parts = so-append k (section_names f) (formal_names fs) h in
+      let parts = so-append k (parameter_section_names f) (formal_names fs) h in
       λ i. one (some_formals (section-kept scope k f s parts.0 i)
-      (sections-kept (declare_names k (section_names f) scope) (ordinal_after_names k (section_names f)) fs (in_scope-names k (section_names f) scope parts.0 s) parts.1 i))
+      (sections-kept (declare_names k (parameter_section_names f) scope) (ordinal_after_names k (parameter_section_names f)) fs (in_scope-names k (parameter_section_names f) scope parts.0 s) parts.1 i))
   formals-kept scope k _ s h = refl
 
   mutual
@@ -119,15 +119,15 @@ module _ (d : ℕ) (new : Name) where
         let parts₁ = so-append (first_type_ordinal k b) ys (zs ++ names_in_procedures ps) parts.1 in
         let parts₂ = so-append (first_variable_ordinal k b) zs (names_in_procedures ps) parts₁.1 in
         let s₁ = in_scope-names k xs scope parts.0 s in
-        let s₂ = in_scope-names (first_type_ordinal k b) ys (types_scope k b scope) parts₁.0 s₁ in
-        let s₃ = in_scope-names (first_variable_ordinal k b) zs (variables_scope k b scope) parts₂.0 s₂ in
+        let s₂ = in_scope-names (first_type_ordinal k b) ys (scope_before_types k b scope) parts₁.0 s₁ in
+        let s₃ = in_scope-names (first_variable_ordinal k b) zs (scope_before_variables k b scope) parts₂.0 s₂ in
         let onces = and_parts (are_distinct (own ++ block_names b)) (types_have_distinct_fields (section_types ts) && (variables_have_distinct_fields (section_variables vs) && procedures_have_consistent_names ps)) once in
         let onces₁ = and_parts (types_have_distinct_fields (section_types ts)) (variables_have_distinct_fields (section_variables vs) && procedures_have_consistent_names ps) onces.1 in
         let onces₂ = and_parts (variables_have_distinct_fields (section_variables vs)) (procedures_have_consistent_names ps) onces₁.1 in
-        let later = procedures-kept (procedures_scope k b scope) (first_procedure_ordinal k b) ps s₃ parts₂.1 onces₂.1 in
+        let later = procedures-kept (scope_before_procedures k b scope) (first_procedure_ordinal k b) ps s₃ parts₂.1 onces₂.1 in
         λ i. forms_block
-        (declares (constant_section-kept scope k cs s parts.0 i) (type_section-kept (types_scope k b scope) (first_type_ordinal k b) ts s₁ parts₁.0 i)
-        (variable_section-kept (variables_scope k b scope) (first_variable_ordinal k b) vs s₂ parts₂.0 i) (later.0 i))
+        (declares (constant_section-kept scope k cs s parts.0 i) (type_section-kept (scope_before_types k b scope) (first_type_ordinal k b) ts s₁ parts₁.0 i)
+        (variable_section-kept (scope_before_variables k b scope) (first_variable_ordinal k b) vs s₂ parts₂.0 i) (later.0 i))
         (uses-kept (body_scope k b scope) statements later.1 i)
 
     procedures-kept : (scope : Scope Name) (k : ℕ) (ps : Tree Name (items procedure)) → InScope scope → AreSo k (names_in_procedures ps) → procedures_have_consistent_names ps ≡ true

@@ -4,7 +4,7 @@ use Rattle.std.proofs.lemmas.Bool.{ltb-false, ltb-true}
 use Rattle.std.specs.Prelude.{IfErr, IfOk, IsErrOf, nat_lt}
 use Rattle.std.specs.declared.alloc.Global.{Global}
 use Rattle.ob0_scan.specs.Classes.{IsIdentifier}
-use Rattle.ob0_scan.specs.TextWithTokens.{IsScan, TextWithTokens, Word, max_text}
+use Rattle.ob0_scan.specs.TextWithTokens.{IsScan, TextWithTokens, Word, max_text_length}
 use Rattle.ob0_text.specs.Patches.{text_with_cuts}
 use Rattle.ob0_text.specs.declared.edits.Edit.{Edit}
 use Rattle.ob0_text.specs.declared.position_types.Position.{Position}
@@ -15,15 +15,15 @@ use Rattle.ob0_tree.specs.ParsedModule.{ParsedModule, named_tree_of, tree_of}
 use Rattle.ob0_tree.specs.Tree.{Tree, module_text, occurrences}
 use Rattle.ob0_language_names.specs.ConsistentNames.{has_consistent_names}
 use Rattle.ob0_language_names.specs.Names.{Name}
-use Rattle.ob0_language_names.specs.Occurrences.{Free, at_declaration, at_occurrence, bindings, first_name_conflict, first_difference, is_duplicate_name}
-use Rattle.ob0_scope.specs.Renames.{namesake, other_declaration, conflict_of}
+use Rattle.ob0_language_names.specs.Occurrences.{IsFreeName, at_declaration, at_occurrence, bindings, first_name_conflict, first_difference, is_duplicate_name}
+use Rattle.ob0_scope.specs.Renames.{namesake, other_declaration_in_conflict, conflict_of}
 use Rattle.ob0_scope_table.specs.Resolution.{IsResolution, Resolution}
 use Rattle.ob0_language_names.specs.Scopes.{renamed}
 use Rattle.ob0_scope.specs.declared.name_conflicts.FirstConflict as reported
 use Rattle.ob0_scope.specs.declared.name_conflicts.FirstConflict.TheVariants as reports
 use Rattle.ob0_tree.specs.Places.{token_text_at}
 use Rattle.ob0_types.specs.CheckedModules.{IsWellTyped}
-use Rattle.ob0_types.specs.IdentifierMeanings as identifier_with_meaning
+use Rattle.ob0_types.specs.IdentifierMeanings as resolved_identifier_at
 use Rattle.ob0_types.specs.declared.meant.ResolvedIdentifier.{ResolvedIdentifier}
 use Rattle.ob0_types.specs.declared.meant.IdentifierMeaning.{IdentifierMeaning}
 use Rattle.ob0_types.specs.declared.meant.IdentifierMeaning.TheVariants.{Name as name_of, Field}
@@ -31,16 +31,16 @@ use Rattle.ob0_language_types.specs.WellTyped.{WellTyped}
 use Rattle.ob0_language_runs.specs.EditLaws.{FreeRenamingKeepsTypingAndRuns, HaveSameRuns}
 use Rattle.ob0_edits_tokens.specs.Changed.{changes_at, changed_words, words_of}
 use Rattle.ob0_edits_tokens.specs.OfTrees.{RenamingKeepsSpelling}
-use Rattle.ob0_edits_tokens.specs.Replaced.{AreIdentifierIndexes, LeavesWords, MayReplaceName, replacement_at_token, range_and_text, text_after_replacement}
+use Rattle.ob0_edits_tokens.specs.Replaced.{AreIdentifierIndexes, EditsGiveWords, MayReplaceIdentifier, replacement_at_token, range_and_text, text_after_replacement}
 use Rattle.ob0_edits_tokens.specs.Written.{name_word}
 use Rattle.ob0_scope.specs.NamesAtPlaces.{name_at_offset, tokens_bound_to}
-use Rattle.ob0_scope.specs.declared.naming.Named as named
+use Rattle.ob0_scope.specs.declared.naming.BoundName as named
 use Rattle.ob0_types_fields.specs.declared.field_name.FieldName.{FieldName}
 use Rattle.ob0_types_fields.specs.Identifiers.{field_at}
 use Rattle.ob0_scope.proofs.Written.{renamed_there}
 use Rattle.ob0_tree.specs.Module.{ModuleOf}
-use Rattle.ob0_rename.specs.Answers.{RenameAnswers, AnswersForDeclaration, IsRenameRefusal, IsDeclarationRefusal, FailsOnlyForMemory, AcceptsPresentName, WritesNewName}
-use Rattle.ob0_rename.specs.Renaming.{TargetsField, TargetsDeclaration, Renaming, RenameTarget, ordinal_target, declaration, field_of, renaming_target, rename_target_at, target_of_name_or_field, module_of, nothing, declaring_token, is_declared_as, predeclared, token_range, tokens_to_rename}
+use Rattle.ob0_rename.specs.Answers.{RenameAnswers, AnswersRenamingOfDeclaration, IsRenameRefusal, IsFirstRefusalForDeclaration, FailsOnlyForMemory, AcceptsPresentName, WritesNewName}
+use Rattle.ob0_rename.specs.Renaming.{TargetsField, TargetsDeclaration, Renaming, RenameTarget, target_of_ordinal, declaration, field_of, renaming_target, rename_target_at, target_of_name_or_field, module_of, nothing, declaring_token, is_declared_as, predeclared, token_range, tokens_to_rename}
 use Rattle.ob0_rename.proofs.Owned.{other_is_declared}
 use Rattle.ob0_rename.proofs.Rewritten.{of_renamed}
 use Rattle.ob0_rename.proofs.Occurring.{occurrence_is_there}
@@ -48,9 +48,9 @@ use Rattle.ob0_rename.proofs.Occurring.{occurrence_is_there}
 -- states the facts about edits that write a new name at places of a scanned text
 pub record Edited (unit : counting.Unit) (text : List ℕ) (new : Name) (s : TextWithTokens) (places : List ℕ) (result : Result (Vec Edit Global) EditRefusal) : Type 0 where
   pub edits : IfOk result (λ edits. map range_and_text edits.items ≡ map (replacement_at_token unit text s.tokens new) places)
-  pub short : IfOk result (λ edits. length (text_after_replacement s places new) ≤ max_text)
-  pub leaves : (ws : List Word) → MayReplaceName new ws → IfOk result (λ edits. LeavesWords unit text edits.items (changed_words (changes_at places ws) 0 (words_of s)))
-  pub too_long : IsErrOf result refusal.TooLong → max_text < length (text_after_replacement s places new)
+  pub short : IfOk result (λ edits. length (text_after_replacement s places new) ≤ max_text_length)
+  pub leaves : (ws : List Word) → MayReplaceIdentifier new ws → IfOk result (λ edits. EditsGiveWords unit text edits.items (changed_words (changes_at places ws) 0 (words_of s)))
+  pub too_long : IsErrOf result refusal.TooLong → max_text_length < length (text_after_replacement s places new)
   pub refusals : IfErr result (λ why. (why ≡ refusal.TooLong) ⊎ (why ≡ refusal.Memory))
 
 pub once_of : (t : Tree Name module_text) → WellTyped t → has_consistent_names t ≡ true
@@ -66,30 +66,30 @@ module _ (unit : counting.Unit) (text : List ℕ) (place : Position) (new : Name
   requested r = record { unit = unit; text = text; names = r; place = place; new = new }
 
   pub captured : (r : Resolution) → IsResolution r → IsIdentifier new → (capture : reported.FirstConflict) (why : EditRefusal)
-      → Some (conflict_of capture) ≡ first_name_conflict (named_tree_of r.module_read) d new → other_declaration (Some capture) ≡ namesake (named_tree_of r.module_read) d new
+      → Some (conflict_of capture) ≡ first_name_conflict (named_tree_of r.module_read) d new → other_declaration_in_conflict (Some capture) ≡ namesake (named_tree_of r.module_read) d new
       → ((other token : ℕ) → capture ≡ reports.Duplicate other → declaring_token r.module_read other ≡ Some token → why ≡ refusal.Duplicate (token_range (requested r) token))
       → ((k token : ℕ) → capture ≡ reports.Occurrence k → slice_get (occurrences (tree_of r.module_read)) k ≡ Some token → why ≡ refusal.Captures (token_range (requested r) token))
-      → IsDeclarationRefusal (requested r) d why
+      → IsFirstRefusalForDeclaration (requested r) d why
   captured r is id (reports.Duplicate other) why first named duplicate occurrence =
       let m = r.module_read in
       let is_there = other_is_declared m d new other (sym named) in
       let range = ap (λ o. option_map (token_range (requested r)) (option_and_then (declaring_token m) o)) (sym named) ∙ ap (option_map (token_range (requested r))) is_there.1 in
-      subst (IsDeclarationRefusal (requested r) d) (sym (duplicate other is_there.0 refl is_there.1)) (id, sym first, range)
+      subst (IsFirstRefusalForDeclaration (requested r) d) (sym (duplicate other is_there.0 refl is_there.1)) (id, sym first, range)
   captured r is id (reports.Occurrence k) why first named duplicate occurrence =
       let m = r.module_read in
       let bound = bindings (renamed (named_tree_of m) d new) in
       let found = difference_of (is_duplicate_name (named_tree_of m) d new) (first_difference bound (bindings (named_tree_of m))) k (sym first) in
       let is_there = occurrence_is_there r bound k is found in
-      subst (IsDeclarationRefusal (requested r) d) (sym (occurrence k is_there.0 refl is_there.1)) (id, (k, sym first, ap (option_map (token_range (requested r))) is_there.1))
+      subst (IsFirstRefusalForDeclaration (requested r) d) (sym (occurrence k is_there.0 refl is_there.1)) (id, (k, sym first, ap (option_map (token_range (requested r))) is_there.1))
 
   -- Edits at some places leave a text of a tree that has the new name there. The tree must be
   -- well-typed and run like the module.
-  pub written : (r : Resolution) (tree : Tree Name module_text) (places : List ℕ) → IsIdentifier new → ((name : List ℕ) → IsIdentifier name → MayReplaceName name (name_word name ∷ []))
+  pub written : (r : Resolution) (tree : Tree Name module_text) (places : List ℕ) → IsIdentifier new → ((name : List ℕ) → IsIdentifier name → MayReplaceIdentifier name (name_word name ∷ []))
       → ((after : TextWithTokens) → IsScan after → words_of after ≡ changed_words (changes_at places (name_word new ∷ [])) 0 (words_of r.module_read.source) → ModuleOf after tree)
       → WellTyped tree × HaveSameRuns tree (named_tree_of r.module_read)
       → (edits : Vec Edit Global) → Edited unit text new r.module_read.source places (Ok edits) → WritesNewName (requested r) places tree edits.items
-  written r tree places id identifier_with_meaning leaves kept edits made =
-      let words = made.leaves (name_word new ∷ []) (identifier_with_meaning new id) in
+  written r tree places id resolved_identifier_at leaves kept edits made =
+      let words = made.leaves (name_word new ∷ []) (resolved_identifier_at new id) in
       record {
         short = made.short;
         changes = made.edits;
@@ -101,22 +101,22 @@ module _ (unit : counting.Unit) (text : List ℕ) (place : Position) (new : Name
         same_runs = kept.1;
       }
 
-  pub answered : (r : Resolution) → IsWellTyped r → IsIdentifier new → Free (named_tree_of r.module_read) d new → FreeRenamingKeepsTypingAndRuns → RenamingKeepsSpelling
-      → ((name : List ℕ) → IsIdentifier name → MayReplaceName name (name_word name ∷ [])) → AreIdentifierIndexes r.module_read.source.tokens 0 (tokens_to_rename r.module_read d new)
-      → (result : Result (Vec Edit Global) EditRefusal) → Edited unit text new r.module_read.source (tokens_to_rename r.module_read d new) result → AnswersForDeclaration (requested r) d result
-  answered r well id free keeps spells identifier_with_meaning names (Ok edits) made =
+  pub answered : (r : Resolution) → IsWellTyped r → IsIdentifier new → IsFreeName (named_tree_of r.module_read) d new → FreeRenamingKeepsTypingAndRuns → RenamingKeepsSpelling
+      → ((name : List ℕ) → IsIdentifier name → MayReplaceIdentifier name (name_word name ∷ [])) → AreIdentifierIndexes r.module_read.source.tokens 0 (tokens_to_rename r.module_read d new)
+      → (result : Result (Vec Edit Global) EditRefusal) → Edited unit text new r.module_read.source (tokens_to_rename r.module_read d new) result → AnswersRenamingOfDeclaration (requested r) d result
+  answered r well id free keeps spells resolved_identifier_at names (Ok edits) made =
       let m = r.module_read in
       record {
         identifier = id;
         free = free;
         writes =
-            written r (renamed (named_tree_of m) d new) (tokens_to_rename m d new) id identifier_with_meaning
+            written r (renamed (named_tree_of m) d new) (tokens_to_rename m d new) id resolved_identifier_at
             (of_renamed m d new well.resolved.parsed (once_of (named_tree_of m) well.well_typed) spells (renamed_there r d well.resolved) names)
             (keeps (named_tree_of m) d new free well.well_typed) edits made;
       }
-  answered r well id free keeps spells identifier_with_meaning names (Err why) made =
+  answered r well id free keeps spells resolved_identifier_at names (Err why) made =
       elim made.refusals [
-        | inl e ↦ inr (subst (IsDeclarationRefusal (requested r) d) (sym e) (id, free, made.too_long (ap Err e)))
+        | inl e ↦ inr (subst (IsFirstRefusalForDeclaration (requested r) d) (sym e) (id, free, made.too_long (ap Err e)))
         | inr e ↦ inl e
       ]
 
@@ -132,7 +132,7 @@ own_answered unit text new d m scan own (Err why) made =
     elim made.refusals [
       | inl e ↦
           let none : tokens_to_rename m d new ≡ [] = own_places (tokens_bound_to m d true) (is_declared_as m d new) own in
-          let long = subst (λ places. max_text < length (text_after_replacement m.source places new)) none (made.too_long (ap Err e)) in
+          let long = subst (λ places. max_text_length < length (text_after_replacement m.source places new)) none (made.too_long (ap Err e)) in
           absurd (omega (arith, long, whole m.source.text, scan.short))
       | inr e ↦ e
     ]
@@ -143,14 +143,14 @@ own_answered unit text new d m scan own (Err why) made =
 
 -- ---- an answer for the declaration or field at the place is the answer
 
-refused_there : (a : Renaming) (d : ℕ) → TargetsDeclaration a d → (why : EditRefusal) → IsDeclarationRefusal a d why → IsRenameRefusal a why
+refused_there : (a : Renaming) (d : ℕ) → TargetsDeclaration a d → (why : EditRefusal) → IsFirstRefusalForDeclaration a d why → IsRenameRefusal a why
 refused_there a d means refusal.BadName h = inl (d, means, h)
 refused_there a d means (refusal.Duplicate range) h = inl (d, means, h)
 refused_there a d means (refusal.Captures range) h = inl (d, means, h)
 refused_there a d means refusal.TooLong h = inl (d, means, h)
 refused_there a d means _ h = absurd h
 
-pub answered_there : (a : Renaming) (d : ℕ) → TargetsDeclaration a d → (result : Result (Vec Edit Global) EditRefusal) → AnswersForDeclaration a d result → RenameAnswers a result
+pub answered_there : (a : Renaming) (d : ℕ) → TargetsDeclaration a d → (result : Result (Vec Edit Global) EditRefusal) → AnswersRenamingOfDeclaration a d result → RenameAnswers a result
 answered_there a d means (Ok edits) h = inl (d, means, h)
 answered_there a d means (Err why) h = elim h [ inl e ↦ inl e | inr e ↦ inr (refused_there a d means why e) ]
 
@@ -160,29 +160,29 @@ answered_there a d means (Err why) h = elim h [ inl e ↦ inl e | inr e ↦ inr 
 
 -- returns the target that the meaning of an identifier gives
 abbrev pub target_of : TextWithTokens → ℕ → IdentifierMeaning → RenameTarget
-target_of source token (name_of ordinal) = ordinal_target ordinal
+target_of source token (name_of ordinal) = target_of_ordinal ordinal
 target_of source token (Field k) = field_of k (token_text_at source token)
 
 abbrev pub target_in : TextWithTokens → Option ResolvedIdentifier → RenameTarget
 target_in source None = nothing
 target_in source (Some x) = target_of source x.token x.means
 
-pub target_there : (r : Resolution) (offset : ℕ) (found : Option ResolvedIdentifier) → found ≡ identifier_with_meaning.identifier_meaning_at r offset → rename_target_at r offset ≡ target_in r.module_read.source found
+pub target_there : (r : Resolution) (offset : ℕ) (found : Option ResolvedIdentifier) → found ≡ resolved_identifier_at.identifier_meaning_at r offset → rename_target_at r offset ≡ target_in r.module_read.source found
 target_there r offset found is = one (name_at_offset r.module_read offset) (field_at r offset) ∙ ap (target_in r.module_read.source) (sym is)
   where
-    one : (n : Option named.Named) (f : Option FieldName) → target_of_name_or_field r.module_read.source n f ≡ target_in r.module_read.source (identifier_with_meaning.meaning_of_name_or_field n f)
+    one : (n : Option named.BoundName) (f : Option FieldName) → target_of_name_or_field r.module_read.source n f ≡ target_in r.module_read.source (resolved_identifier_at.meaning_of_name_or_field n f)
     one (Some n) f = refl
     one None None = refl
     one None (Some x) = refl
 
-pub is_declaration : (ordinal : ℕ) → 7 ≤ ordinal → ordinal_target ordinal ≡ declaration ordinal
+pub is_declaration : (ordinal : ℕ) → 7 ≤ ordinal → target_of_ordinal ordinal ≡ declaration ordinal
 is_declaration ordinal high = one (nat_lt ordinal 7) refl
   where
     one : (b : Bool) → nat_lt ordinal 7 ≡ b → (if b then predeclared else declaration ordinal) ≡ declaration ordinal
     one true e = absurd (omega (arith, high, ltb-true ordinal 7 e))
     one false e = refl
 
-pub is_predeclared : (ordinal : ℕ) → ordinal < 7 → ordinal_target ordinal ≡ predeclared
+pub is_predeclared : (ordinal : ℕ) → ordinal < 7 → target_of_ordinal ordinal ≡ predeclared
 is_predeclared ordinal low = one (nat_lt ordinal 7) refl
   where
     one : (b : Bool) → nat_lt ordinal 7 ≡ b → (if b then predeclared else declaration ordinal) ≡ predeclared

@@ -10,7 +10,7 @@ use Rattle.ob0_tree.specs.Tree.{Tree, identifiers, mapped_tree, block, declares,
 use Rattle.ob0_tree.specs.declared.tree.Role.TheVariants as role
 use Rattle.ob0_language_names.specs.ConsistentNames.{has_consistent_names}
 use Rattle.ob0_language_names.specs.Names.{Name, same_name}
-use Rattle.ob0_language_names.specs.Occurrences.{Free}
+use Rattle.ob0_language_names.specs.Occurrences.{IsFreeName}
 use Rattle.ob0_language_names.specs.Parts.{constant_names, formal_names, formal_sections, module_block, declared_type_names, section_constants, section_types, section_variables, variable_names}
 use Rattle.ob0_language_types.proofs.Literals.{some_inverse}
 use Rattle.ob0_scope.specs.Renames.{namesake}
@@ -87,7 +87,7 @@ module _ (m : ParsedModule) where
     pub own_module : is_declared_as m d new ≡ true → has_consistent_names (named_tree_of m) ≡ true → renamed (named_tree_of m) d new ≡ named_tree_of m
     own_module e once = let found = declared_by e in same_module d new (named_tree_of m) found.1.ordinal (all_so e) once
 
-    pub own_free : is_declared_as m d new ≡ true → has_consistent_names (named_tree_of m) ≡ true → Free (named_tree_of m) d new
+    pub own_free : is_declared_as m d new ≡ true → has_consistent_names (named_tree_of m) ≡ true → IsFreeName (named_tree_of m) d new
     own_free e once = let found = declared_by e in own_name_free d new (named_tree_of m) found.1.ordinal (all_so e) once
 
     -- Another declaration of a block has a declaring token.

@@ -15,12 +15,12 @@ use Rattle.ob0_language_names.specs.ConsistentNames.{has_consistent_names}
 use Rattle.ob0_language_names.specs.Names.{Name}
 use Rattle.ob0_language_names.specs.Scopes.{renamed}
 use Rattle.ob0_edits_tokens.specs.Changed.{changes_at, changed_words, words_of}
-use Rattle.ob0_edits_tokens.specs.OfTrees.{RenamingKeepsSpelling, number_at, indexed_tokens, renamed_word_text, word_text_at}
+use Rattle.ob0_edits_tokens.specs.OfTrees.{RenamingKeepsSpelling, number_at, indexed_terminals_of_words, renamed_word_text, word_text_at}
 use Rattle.ob0_edits_tokens.specs.Replaced.{AreIdentifierIndexes}
 use Rattle.ob0_edits_tokens.specs.Words.{terminal_of_word}
 use Rattle.ob0_edits_tokens.specs.Written.{name_word}
 use Rattle.ob0_scope.specs.NamesAtPlaces as names_at
-use Rattle.ob0_scope.specs.NamesAtPlaces.{IsRenamedAt, tokens_bound_to}
+use Rattle.ob0_scope.specs.NamesAtPlaces.{RenamingChangesExactlyTokens, tokens_bound_to}
 use Rattle.ob0_rename.specs.Renaming.{is_declared_as, tokens_to_rename}
 use Rattle.ob0_rename.proofs.Named.{among_same}
 use Rattle.ob0_rename.proofs.Owned.{own_module}
@@ -43,13 +43,13 @@ number_same s k = of_list s.tokens k
     of_list (t ∷ ts) zero = refl
     of_list (t ∷ ts) (suc k) = of_list ts k
 
-placed_from : (text : List ℕ) (k : ℕ) (ts : List Token) → indexed_tokens k (map (word_of_token text) ts) ++ (EndOfText ∷ []) ≡ place.index_terminals_from k ts
+placed_from : (text : List ℕ) (k : ℕ) (ts : List Token) → indexed_terminals_of_words k (map (word_of_token text) ts) ++ (EndOfText ∷ []) ≡ place.indexed_terminals_from k ts
 placed_from text k [] = refl
 placed_from text k (t ∷ ts) =
-    ap (λ xs. place.index_terminal k t.kind ∷ xs) (placed_from text (suc k) ts ∙ ap (λ n. place.index_terminals_from n ts) (omega arith))
+    ap (λ xs. place.indexed_terminal k t.kind ∷ xs) (placed_from text (suc k) ts ∙ ap (λ n. place.indexed_terminals_from n ts) (omega arith))
 
-spelled_places : (m : ParsedModule) → IsParsed m → spell (tree_of m) ≡ indexed_tokens 0 (words_of m.source)
-spelled_places m is = append_cancel_right (spell (tree_of m)) (indexed_tokens 0 (words_of m.source)) (EndOfText ∷ []) (is.places ∙ sym (placed_from m.source.text 0 m.source.tokens))
+spelled_places : (m : ParsedModule) → IsParsed m → spell (tree_of m) ≡ indexed_terminals_of_words 0 (words_of m.source)
+spelled_places m is = append_cancel_right (spell (tree_of m)) (indexed_terminals_of_words 0 (words_of m.source)) (EndOfText ∷ []) (is.places ∙ sym (placed_from m.source.text 0 m.source.tokens))
 
 lexemes_same : (text : List ℕ) (ts : List Token) → map (terminal_of_token text) ts ≡ map terminal_of_word (map (word_of_token text) ts)
 lexemes_same text [] = refl
@@ -61,14 +61,14 @@ pub at_places : (m : ParsedModule) (new : Name) (places : List ℕ) (k : ℕ)
     → renamed_word_text (words_of m.source) places new k ≡ (if names_at.is_among k places then new else place.token_text_at m.source k)
 at_places m new places k = λ i. if among_same k places i then new else text_same m.source k i
 
-renamed_there : (m : ParsedModule) (d : ℕ) (new : Name) (own : Bool) → is_declared_as m d new ≡ own → has_consistent_names (named_tree_of m) ≡ true → IsRenamedAt m d (tokens_bound_to m d true)
+renamed_there : (m : ParsedModule) (d : ℕ) (new : Name) (own : Bool) → is_declared_as m d new ≡ own → has_consistent_names (named_tree_of m) ≡ true → RenamingChangesExactlyTokens m d (tokens_bound_to m d true)
     → mapped_tree (renamed_word_text (words_of m.source) (if own then [] else tokens_bound_to m d true) new) (number_at (words_of m.source)) (tree_of m) ≡ renamed (named_tree_of m) d new
 renamed_there m d new true e once there =
     (λ i. mapped_tree (λ k. text_same m.source k i) (λ k. number_same m.source k i) (tree_of m)) ∙ sym (own_module m d new e once)
 renamed_there m d new false e once there =
     (λ i. mapped_tree (λ k. at_places m new (tokens_bound_to m d true) k i) (λ k. number_same m.source k i) (tree_of m)) ∙ sym (there new)
 
-pub renamed_module : (m : ParsedModule) (d : ℕ) (new : Name) → has_consistent_names (named_tree_of m) ≡ true → IsRenamedAt m d (tokens_bound_to m d true)
+pub renamed_module : (m : ParsedModule) (d : ℕ) (new : Name) → has_consistent_names (named_tree_of m) ≡ true → RenamingChangesExactlyTokens m d (tokens_bound_to m d true)
     → mapped_tree (renamed_word_text (words_of m.source) (tokens_to_rename m d new) new) (number_at (words_of m.source)) (tree_of m) ≡ renamed (named_tree_of m) d new
 renamed_module m d new once there = renamed_there m d new (is_declared_as m d new) refl once there
 
@@ -90,7 +90,7 @@ of_rewritten m t places new is spells names there after scan words =
           is.module_of.shallow;
     }
 
-pub of_renamed : (m : ParsedModule) (d : ℕ) (new : Name) → IsParsed m → has_consistent_names (named_tree_of m) ≡ true → RenamingKeepsSpelling → IsRenamedAt m d (tokens_bound_to m d true)
+pub of_renamed : (m : ParsedModule) (d : ℕ) (new : Name) → IsParsed m → has_consistent_names (named_tree_of m) ≡ true → RenamingKeepsSpelling → RenamingChangesExactlyTokens m d (tokens_bound_to m d true)
     → AreIdentifierIndexes m.source.tokens 0 (tokens_to_rename m d new)
     → (after : TextWithTokens) → IsScan after → words_of after ≡ changed_words (changes_at (tokens_to_rename m d new) (name_word new ∷ [])) 0 (words_of m.source)
     → ModuleOf after (renamed (named_tree_of m) d new)

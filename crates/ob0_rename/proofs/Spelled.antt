@@ -3,8 +3,8 @@ use Rattle.std.proofs.Common.{◌≡◌, ℕ, zero, suc, ◌-◌, ◌<◌, List,
 use Rattle.std.specs.Prelude.{IfSome}
 use Rattle.std.proofs.lemmas.List.{length-map}
 use Rattle.ob0_scan.specs.Classes.{IsLexemeOfKind, IsIdentifier}
-use Rattle.ob0_scan.specs.Lexed.{AreLexemes, Lexeme}
-use Rattle.ob0_scan.specs.TextWithTokens.{IsScan, Word, word_of_token, word_of, words_of_lexemes}
+use Rattle.ob0_scan.specs.Lexed.{AreLeadingLexemes, Lexeme}
+use Rattle.ob0_scan.specs.TextWithTokens.{IsScan, Word, word_of_token, words_of_lexeme, words_of_lexemes}
 use Rattle.ob0_scan.specs.declared.lexeme.LexemeKind.{LexemeKind}
 use Rattle.ob0_scan.specs.declared.lexeme.LexemeKind.TheVariants as lexeme
 use Rattle.ob0_scan.specs.declared.lexeme.Token.{Token}
@@ -23,7 +23,7 @@ use Rattle.ob0_scope_table.specs.Resolution.{declaring_names}
 use Rattle.ob0_edits_tokens.specs.Changed.{words_of}
 use Rattle.ob0_edits_tokens.specs.OfTrees.{word_text_at, word_at}
 use Rattle.ob0_edits_tokens.proofs.OfTrees.{word_kind}
-use Rattle.ob0_types.specs.IdentifierMeanings.{IsField}
+use Rattle.ob0_types.specs.IdentifierMeanings.{MeansField}
 use Rattle.ob0_types.specs.declared.meant.ResolvedIdentifier.{ResolvedIdentifier}
 use Rattle.ob0_rename.specs.Renaming.{is_declared_as}
 use Rattle.ob0_rename.proofs.Owned.{IsDeclaredBy, declared_by, declaring_tokens}
@@ -35,11 +35,11 @@ abbrev EachNamed : List Word → Type 0
 EachNamed [] = Unit {0}
 EachNamed (w ∷ ws) = (w.kind ≡ token.Identifier → IsIdentifier w.text) × EachNamed ws
 
-words_named : (ls : List Lexeme) (after : List ℕ) → AreLexemes ls after → EachNamed (words_of_lexemes ls)
+words_named : (ls : List Lexeme) (after : List ℕ) → AreLeadingLexemes ls after → EachNamed (words_of_lexemes ls)
 words_named [] after are = tt
 words_named (l ∷ ls) after are = one l.kind are.0.belongs (words_named ls after are.1)
   where
-    one : (kind : LexemeKind) → IsLexemeOfKind kind l.text → EachNamed (words_of_lexemes ls) → EachNamed (word_of l kind ++ words_of_lexemes ls)
+    one : (kind : LexemeKind) → IsLexemeOfKind kind l.text → EachNamed (words_of_lexemes ls) → EachNamed (words_of_lexeme l kind ++ words_of_lexemes ls)
     one lexeme.Space belongs later = later
     one lexeme.Comment belongs later = later
     one (lexeme.Token kind) belongs later = ((λ e. subst (λ k. IsLexemeOfKind (lexeme.Token k) l.text) e belongs), later)
@@ -76,6 +76,6 @@ own_identifier m d new is scan e =
     subst IsIdentifier by.written (spelled_at m found.0 scan is_there)
 
 -- The text of a field's identifier at a place is an identifier.
-pub field_spelled : (m : ParsedModule) (found : Option ResolvedIdentifier) → IsScan m.source → IfSome found (λ x. IsField x.means → order.IsIdentifierToken m.source.tokens x.token) → IfSome found (λ x. IsField x.means → IsIdentifier (place.token_text_at m.source x.token))
-field_spelled m None scan identifier_with_meaning = tt
-field_spelled m (Some x) scan identifier_with_meaning = λ field. spelled_at m x.token scan (identifier_with_meaning field)
+pub field_spelled : (m : ParsedModule) (found : Option ResolvedIdentifier) → IsScan m.source → IfSome found (λ x. MeansField x.means → order.IsIdentifierToken m.source.tokens x.token) → IfSome found (λ x. MeansField x.means → IsIdentifier (place.token_text_at m.source x.token))
+field_spelled m None scan resolved_identifier_at = tt
+field_spelled m (Some x) scan resolved_identifier_at = λ field. spelled_at m x.token scan (resolved_identifier_at field)

@@ -10,13 +10,13 @@ use Rattle.std.proofs.lemmas.Slice.Eq.{bytes_eq-Decides}
 use Rattle.ob0_tree.specs.Tree.{Tree, block, declares, declares_procedure, end, forms_block, is_module, item, items, module_text, more, procedure}
 use Rattle.ob0_language_names.specs.ConsistentNames.{are_distinct, block_names, block_has_consistent_names, has_consistent_names, formals_have_distinct_fields, is_among, procedure_has_consistent_names, procedures_have_consistent_names, types_have_distinct_fields, variables_have_distinct_fields}
 use Rattle.ob0_language_names.specs.Names.{Name, same_name}
-use Rattle.ob0_language_names.specs.Occurrences.{Free, bindings, scopes_in_block, scopes_in_procedure, scopes_in_procedures, declares_ordinal, another_declaration_has_name}
+use Rattle.ob0_language_names.specs.Occurrences.{IsFreeName, bindings, scopes_in_block, scopes_in_procedure, scopes_in_procedures, declares_ordinal, another_declaration_has_name}
 use Rattle.ob0_language_names.specs.Parts.{constant_names, formal_names, formal_sections, module_block, declared_type_names, procedure_name, section_constants, section_types, section_variables, variable_names}
-use Rattle.ob0_scope.specs.Renames.{namesake, namesake_in_scopes, other_with_name}
-use Rattle.ob0_language_names.specs.Scopes.{Scope, ordinal_after_block, ordinal_after_names, ordinal_after_procedure, ordinal_after_procedures, body_scope, declare_names, declare_procedure_names, first_procedure_ordinal, first_type_ordinal, first_variable_ordinal, procedures_scope, types_scope, variables_scope}
+use Rattle.ob0_scope.specs.Renames.{namesake, namesake_in_scopes, other_declaration_with_name}
+use Rattle.ob0_language_names.specs.Scopes.{Scope, ordinal_after_block, ordinal_after_names, ordinal_after_procedure, ordinal_after_procedures, body_scope, declare_names, declare_procedure_names, first_procedure_ordinal, first_type_ordinal, first_variable_ordinal, scope_before_procedures, scope_before_types, scope_before_variables}
 use Rattle.ob0_language_names.proofs.DistinctNames.{distinct-onto, labels_in, onto, onto-append, own_name}
 use Rattle.ob0_language_names.proofs.Ordinals.{le-ordinal_after_block, le-ordinal_after_names, le-ordinal_after_procedure, le-ordinal_after_procedures}
-use Rattle.ob0_language_names.proofs.RenamedDeclarations.{Clashes, label_names-own, labels_in-names, own_names-block}
+use Rattle.ob0_language_names.proofs.RenamedDeclarations.{Clashes, labels_of_declared_names-own, labels_in-names, own_names-block}
 use Rattle.ob0_language_names.proofs.NameEquality.{same_name-comm}
 use Rattle.ob0_scope_table.proofs.Declared.{after_names_in_procedure, names_in, names_in_procedure, names_in_procedures}
 use Rattle.ob0_rename.proofs.Kept.{AreSo, InScope, in_scope-names, same_module, so-append}
@@ -91,15 +91,15 @@ module _ (d : ℕ) (new : Name) where
         let parts₁ = so-append d new (first_type_ordinal k b) ys (zs ++ names_in_procedures ps) parts.1 in
         let parts₂ = so-append d new (first_variable_ordinal k b) zs (names_in_procedures ps) parts₁.1 in
         let s₁ = in_scope-names d new k xs (declare_names j own []) parts.0 s in
-        let s₂ = in_scope-names d new (first_type_ordinal k b) ys (types_scope k b (declare_names j own [])) parts₁.0 s₁ in
-        let s₃ = in_scope-names d new (first_variable_ordinal k b) zs (variables_scope k b (declare_names j own [])) parts₂.0 s₂ in
-        let s₄ = in_scope-procedures (first_procedure_ordinal k b) ps (procedures_scope k b (declare_names j own [])) parts₂.1 s₃ in
+        let s₂ = in_scope-names d new (first_type_ordinal k b) ys (scope_before_types k b (declare_names j own [])) parts₁.0 s₁ in
+        let s₃ = in_scope-names d new (first_variable_ordinal k b) zs (scope_before_variables k b (declare_names j own [])) parts₂.0 s₂ in
+        let s₄ = in_scope-procedures (first_procedure_ordinal k b) ps (scope_before_procedures k b (declare_names j own [])) parts₂.1 s₃ in
         let onces = and_parts (are_distinct (own ++ block_names b)) (types_have_distinct_fields (section_types ts) && (variables_have_distinct_fields (section_variables vs) && procedures_have_consistent_names ps)) once in
         let onces₁ = and_parts (types_have_distinct_fields (section_types ts)) (variables_have_distinct_fields (section_variables vs) && procedures_have_consistent_names ps) onces.1 in
         let onces₂ = and_parts (variables_have_distinct_fields (section_variables vs)) (procedures_have_consistent_names ps) onces₁.1 in
         let in_scope : are_distinct (labels_in own_name mine) ≡ true =
         ap are_distinct (own_names-block k b (declare_names j own [])
-        ∙ ap (onto (block_names b)) (labels_in-names own_name j own [] ∙ ap (λ xs. onto xs []) (label_names-own j own)))
+        ∙ ap (onto (block_names b)) (labels_in-names own_name j own [] ∙ ap (λ xs. onto xs []) (labels_of_declared_names-own j own)))
         ∙ (ap are_distinct (sym (onto-append own (block_names b) [])) ∙ (distinct-onto (own ++ block_names b) [] ∙ (ap are_distinct (append-nil (own ++ block_names b)) ∙ onces.0))) in
         λ i. no_clash mine s₄ in_scope i || procedures_clear (first_procedure_ordinal k b) ps parts₂.1 onces₂.1 i
 
@@ -120,7 +120,7 @@ module _ (d : ℕ) (new : Name) where
         let onces₁ = and_parts (formals_have_distinct_fields (formal_sections fs)) (block_has_consistent_names own b) onces.1 in
         block_clear (suc k) own b (in_scope-names d new (suc k) own [] parts.0 tt) parts.1 onces₁.1
 
-  pub own_name_free : (t : Tree Name module_text) → 7 ≤ d → AreSo d new 7 (names_in (module_block t)) → has_consistent_names t ≡ true → Free t d new
+  pub own_name_free : (t : Tree Name module_text) → 7 ≤ d → AreSo d new 7 (names_in (module_block t)) → has_consistent_names t ≡ true → IsFreeName t d new
   own_name_free (is_module x b closing) high h once =
       let onces = and_parts (same_name x closing) (block_has_consistent_names [] b) once in
       (block_clear 7 [] b tt h onces.1, ap bindings (same_module d new (is_module x b closing) high h once))
@@ -167,10 +167,10 @@ mutual
       let a₂ = le-ordinal_after_names (first_variable_ordinal k b) zs in
       let a₃ = le-ordinal_after_procedures (first_procedure_ordinal k b) ps in
       let w₁ = within-names low high k xs own l (le_trans a₁ (le_trans a₂ (le_trans a₃ h))) w in
-      let w₂ = within-names low high (first_type_ordinal k b) ys (types_scope k b own) (le_trans l a) (le_trans a₂ (le_trans a₃ h)) w₁ in
-      let w₃ = within-names low high (first_variable_ordinal k b) zs (variables_scope k b own) (le_trans l (le_trans a a₁)) (le_trans a₃ h) w₂ in
+      let w₂ = within-names low high (first_type_ordinal k b) ys (scope_before_types k b own) (le_trans l a) (le_trans a₂ (le_trans a₃ h)) w₁ in
+      let w₃ = within-names low high (first_variable_ordinal k b) zs (scope_before_variables k b own) (le_trans l (le_trans a a₁)) (le_trans a₃ h) w₂ in
       let l₃ = le_trans l (le_trans a (le_trans a₁ a₂)) in
-      (within-procedures low high (first_procedure_ordinal k b) ps (procedures_scope k b own) l₃ h w₃, procedures_within low high (first_procedure_ordinal k b) ps l₃ h)
+      (within-procedures low high (first_procedure_ordinal k b) ps (scope_before_procedures k b own) l₃ h w₃, procedures_within low high (first_procedure_ordinal k b) ps l₃ h)
 
   procedures_within : (low high k : ℕ) (ps : Tree Name (items procedure)) → low ≤ k → ordinal_after_procedures k ps ≤ high → AllWithin low high (scopes_in_procedures k ps)
   procedures_within low high k end l h = tt
@@ -187,17 +187,17 @@ mutual
       block_within low high (ordinal_after_names k own) (declare_names k own []) b (le_trans l (le-ordinal_after_names k own)) h
       (within-names low high k own [] l (le_trans (le-ordinal_after_block (ordinal_after_names k own) b) h) tt)
 
-other_within : (low high d : ℕ) (new : Name) (s : Scope Name) → Within low high s → OneWithin low high (other_with_name s d new)
+other_within : (low high d : ℕ) (new : Name) (s : Scope Name) → Within low high s → OneWithin low high (other_declaration_with_name s d new)
 other_within low high d new [] w = tt
 other_within low high d new (b ∷ s) w = one (same_name b.0 new && not (b.1 == d)) (other_within low high d new s w.2)
   where
-    one : (c : Bool) → OneWithin low high (other_with_name s d new) → OneWithin low high (if c then Some b.1 else other_with_name s d new)
+    one : (c : Bool) → OneWithin low high (other_declaration_with_name s d new) → OneWithin low high (if c then Some b.1 else other_declaration_with_name s d new)
     one true later = (w.0, w.1)
     one false later = later
 
 named_within : (low high d : ℕ) (new : Name) (ss : List (Scope Name)) → AllWithin low high ss → OneWithin low high (namesake_in_scopes ss d new)
 named_within low high d new [] w = tt
-named_within low high d new (s ∷ ss) w = one (declares_ordinal s d) (other_with_name s d new) (other_within low high d new s w.0) (named_within low high d new ss w.1)
+named_within low high d new (s ∷ ss) w = one (declares_ordinal s d) (other_declaration_with_name s d new) (other_within low high d new s w.0) (named_within low high d new ss w.1)
   where
     one : (c : Bool) (found : Option ℕ) → OneWithin low high found → OneWithin low high (namesake_in_scopes ss d new) → OneWithin low high (option_or (if c then found else None) (namesake_in_scopes ss d new))
     one true (Some k) here later = here

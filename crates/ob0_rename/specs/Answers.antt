@@ -4,8 +4,8 @@ use Rattle.std.specs.Prelude.{◌≡◌, ◌⊎◌, ℕ, ◌<◌, ◌≤◌, Lis
 use Rattle.std.specs.Str.{chars}
 use Rattle.std.specs.declared.alloc.Global.{Global}
 use Rattle.ob0_scan.specs.Classes.{IsIdentifier}
-use Rattle.ob0_scan.specs.TextWithTokens.{IsScan, TextWithTokens, max_text}
-use Rattle.ob0_text.specs.Patches.{patched}
+use Rattle.ob0_scan.specs.TextWithTokens.{IsScan, TextWithTokens, max_text_length}
+use Rattle.ob0_text.specs.Patches.{patched_text}
 use Rattle.ob0_text.specs.Units.{width_of}
 use Rattle.ob0_text.specs.declared.edits.Edit.{Edit}
 use Rattle.ob0_text.specs.declared.refusals.EditRefusal.{EditRefusal}
@@ -13,28 +13,28 @@ use Rattle.ob0_text.specs.declared.refusals.EditRefusal.TheVariants as refusal
 use Rattle.ob0_tree.specs.Module.{ModuleOf}
 use Rattle.ob0_tree.specs.Tree.{Tree, module_text}
 use Rattle.ob0_language_names.specs.Names.{Name}
-use Rattle.ob0_language_names.specs.Occurrences.{Free, at_declaration, at_occurrence, first_name_conflict}
+use Rattle.ob0_language_names.specs.Occurrences.{IsFreeName, at_declaration, at_occurrence, first_name_conflict}
 use Rattle.ob0_language_names.specs.Scopes.{renamed}
 use Rattle.ob0_language_types.specs.WellTyped.{WellTyped}
 use Rattle.ob0_language_runs.specs.EditLaws.{HaveSameRuns}
 use Rattle.ob0_edits_tokens.specs.Replaced.{replacement_at_token, range_and_text}
 use Rattle.ob0_language_fields.specs.Renaming.{IsFreeFieldName, with_renamed_field, is_duplicate_field}
-use Rattle.ob0_rename.specs.Renaming.{TargetsDeclaration, TargetsField, Renaming, field_tokens_to_rename, is_declared_as, renaming_target, module_of, nothing, occurrence_range, conflicting_field_range, conflicting_declaration_range, predeclared, text_after_renaming, tokens_to_rename, named_tree}
+use Rattle.ob0_rename.specs.Renaming.{TargetsDeclaration, TargetsField, Renaming, field_tokens_to_rename, is_declared_as, renaming_target, module_of, nothing, occurrence_range, conflicting_field_range, conflicting_declaration_range, predeclared, text_after_renaming, tokens_to_rename, named_tree_of_renaming}
 
 -- States that the edits write the new name at the tokens with the indexes `tokens` and change
--- nothing else. Applied all at once, the edits give a text with the tree `tree` and with at most
--- `max_text` bytes. The tree is well-typed and has the same runs as the module before the edits.
+-- nothing else. Applied together, the edits give a text with the tree `tree` and with at most
+-- `max_text_length` bytes. The tree is well-typed and has the same runs as the module before the edits.
 pub record WritesNewName (r : Renaming) (tokens : List ℕ) (tree : Tree Name module_text)
     (edits : List Edit) : Type 0 where
-  pub short : length (text_after_renaming r tokens) ≤ max_text
+  pub short : length (text_after_renaming r tokens) ≤ max_text_length
   pub changes : map range_and_text edits
       ≡ map (replacement_at_token r.unit r.text (module_of r).source.tokens r.new) tokens
   pub after : TextWithTokens
   pub scan : IsScan after
-  pub made : patched (width_of r.unit) r.text edits ≡ Some (chars after.text)
+  pub made : patched_text (width_of r.unit) r.text edits ≡ Some (chars after.text)
   pub of_module : ModuleOf after tree
   pub well_typed : WellTyped tree
-  pub same_runs : HaveSameRuns tree (named_tree r)
+  pub same_runs : HaveSameRuns tree (named_tree_of_renaming r)
 
 -- ---- answers to the renaming of a declaration
 
@@ -44,39 +44,39 @@ pub record WritesNewName (r : Renaming) (tokens : List ℕ) (tree : Tree Name mo
 -- are no edits. The edited text is the renamed module.
 pub record RenamesDeclaration (r : Renaming) (d : ℕ) (edits : List Edit) : Type 0 where
   pub identifier : IsIdentifier r.new
-  pub free : Free (named_tree r) d r.new
+  pub free : IsFreeName (named_tree_of_renaming r) d r.new
   pub writes : WritesNewName r (tokens_to_rename (module_of r) d r.new)
-      (renamed (named_tree r) d r.new) edits
+      (renamed (named_tree_of_renaming r) d r.new) edits
 
 -- States that the given refusal is the first one that applies to the new name of the declaration
 -- with the ordinal `d`, in the order of the cases below.
-abbrev pub IsDeclarationRefusal : Renaming → ℕ → EditRefusal → Type 0
-IsDeclarationRefusal r d refusal.NoName = ⊥
-IsDeclarationRefusal r d refusal.Predeclared = ⊥
-IsDeclarationRefusal r d refusal.BadName = ¬ IsIdentifier r.new
-IsDeclarationRefusal r d (refusal.Duplicate range) =
+abbrev pub IsFirstRefusalForDeclaration : Renaming → ℕ → EditRefusal → Type 0
+IsFirstRefusalForDeclaration r d refusal.NoName = ⊥
+IsFirstRefusalForDeclaration r d refusal.Predeclared = ⊥
+IsFirstRefusalForDeclaration r d refusal.BadName = ¬ IsIdentifier r.new
+IsFirstRefusalForDeclaration r d (refusal.Duplicate range) =
     IsIdentifier r.new
-    × (first_name_conflict (named_tree r) d r.new ≡ Some at_declaration)
+    × (first_name_conflict (named_tree_of_renaming r) d r.new ≡ Some at_declaration)
     × (conflicting_declaration_range r d ≡ Some range)
-IsDeclarationRefusal r d (refusal.Captures range) =
+IsFirstRefusalForDeclaration r d (refusal.Captures range) =
     IsIdentifier r.new
     × ((k : ℕ)
-    × (first_name_conflict (named_tree r) d r.new ≡ Some (at_occurrence k))
+    × (first_name_conflict (named_tree_of_renaming r) d r.new ≡ Some (at_occurrence k))
     × (occurrence_range r k ≡ Some range))
-IsDeclarationRefusal r d refusal.TooLong =
+IsFirstRefusalForDeclaration r d refusal.TooLong =
     IsIdentifier r.new
-    × Free (named_tree r) d r.new
-    × (max_text < length (text_after_renaming r (tokens_to_rename (module_of r) d r.new)))
-IsDeclarationRefusal r d refusal.TooDeep = ⊥
-IsDeclarationRefusal r d refusal.Shadowed = ⊥
-IsDeclarationRefusal r d refusal.CommentInside = ⊥
-IsDeclarationRefusal r d refusal.Memory = ⊥
+    × IsFreeName (named_tree_of_renaming r) d r.new
+    × (max_text_length < length (text_after_renaming r (tokens_to_rename (module_of r) d r.new)))
+IsFirstRefusalForDeclaration r d refusal.TooDeep = ⊥
+IsFirstRefusalForDeclaration r d refusal.Shadowed = ⊥
+IsFirstRefusalForDeclaration r d refusal.CommentInside = ⊥
+IsFirstRefusalForDeclaration r d refusal.Memory = ⊥
 
 -- States that the answer is edits that rename the declaration with the ordinal `d`, or the first
 -- refusal that applies, or `Memory`.
-abbrev pub AnswersForDeclaration : Renaming → ℕ → Result (Vec Edit Global) EditRefusal → Type 0
-AnswersForDeclaration r d (Ok edits) = RenamesDeclaration r d edits.items
-AnswersForDeclaration r d (Err why) = (why ≡ refusal.Memory) ⊎ IsDeclarationRefusal r d why
+abbrev pub AnswersRenamingOfDeclaration : Renaming → ℕ → Result (Vec Edit Global) EditRefusal → Type 0
+AnswersRenamingOfDeclaration r d (Ok edits) = RenamesDeclaration r d edits.items
+AnswersRenamingOfDeclaration r d (Err why) = (why ≡ refusal.Memory) ⊎ IsFirstRefusalForDeclaration r d why
 
 -- ---- answers to the renaming of a field
 
@@ -86,55 +86,55 @@ AnswersForDeclaration r d (Err why) = (why ≡ refusal.Memory) ⊎ IsDeclaration
 -- no edits. The edited text is the module with that field renamed.
 pub record RenamesField (r : Renaming) (k : ℕ) (f : Name) (edits : List Edit) : Type 0 where
   pub identifier : IsIdentifier r.new
-  pub free : IsFreeFieldName (named_tree r) k f r.new
+  pub free : IsFreeFieldName (named_tree_of_renaming r) k f r.new
   pub writes : WritesNewName r (field_tokens_to_rename r.names k f r.new)
-      (with_renamed_field (named_tree r) k f r.new) edits
+      (with_renamed_field (named_tree_of_renaming r) k f r.new) edits
 
 -- States that the given refusal is the first one that applies to the new name of the field `f` of
 -- the record with the ordinal `k`, in the order of the cases below. Only another field of that
 -- record can conflict with the new name, so `Captures` never applies.
-abbrev pub IsFieldRefusal : Renaming → ℕ → Name → EditRefusal → Type 0
-IsFieldRefusal r k f refusal.NoName = ⊥
-IsFieldRefusal r k f refusal.Predeclared = ⊥
-IsFieldRefusal r k f refusal.BadName = ¬ IsIdentifier r.new
-IsFieldRefusal r k f (refusal.Duplicate range) =
+abbrev pub IsFirstRefusalForField : Renaming → ℕ → Name → EditRefusal → Type 0
+IsFirstRefusalForField r k f refusal.NoName = ⊥
+IsFirstRefusalForField r k f refusal.Predeclared = ⊥
+IsFirstRefusalForField r k f refusal.BadName = ¬ IsIdentifier r.new
+IsFirstRefusalForField r k f (refusal.Duplicate range) =
     IsIdentifier r.new
-    × (is_duplicate_field (named_tree r) k f r.new ≡ true)
+    × (is_duplicate_field (named_tree_of_renaming r) k f r.new ≡ true)
     × (conflicting_field_range r k ≡ Some range)
-IsFieldRefusal r k f (refusal.Captures range) = ⊥
-IsFieldRefusal r k f refusal.TooLong =
+IsFirstRefusalForField r k f (refusal.Captures range) = ⊥
+IsFirstRefusalForField r k f refusal.TooLong =
     IsIdentifier r.new
-    × IsFreeFieldName (named_tree r) k f r.new
-    × (max_text < length (text_after_renaming r (field_tokens_to_rename r.names k f r.new)))
-IsFieldRefusal r k f refusal.TooDeep = ⊥
-IsFieldRefusal r k f refusal.Shadowed = ⊥
-IsFieldRefusal r k f refusal.CommentInside = ⊥
-IsFieldRefusal r k f refusal.Memory = ⊥
+    × IsFreeFieldName (named_tree_of_renaming r) k f r.new
+    × (max_text_length < length (text_after_renaming r (field_tokens_to_rename r.names k f r.new)))
+IsFirstRefusalForField r k f refusal.TooDeep = ⊥
+IsFirstRefusalForField r k f refusal.Shadowed = ⊥
+IsFirstRefusalForField r k f refusal.CommentInside = ⊥
+IsFirstRefusalForField r k f refusal.Memory = ⊥
 
 -- States that the answer is edits that rename the field `f` of the record with the ordinal `k`, or
 -- the first refusal that applies, or `Memory`.
-abbrev pub AnswersForField : Renaming → ℕ → Name → Result (Vec Edit Global) EditRefusal → Type 0
-AnswersForField r k f (Ok edits) = RenamesField r k f edits.items
-AnswersForField r k f (Err why) = (why ≡ refusal.Memory) ⊎ IsFieldRefusal r k f why
+abbrev pub AnswersRenamingOfField : Renaming → ℕ → Name → Result (Vec Edit Global) EditRefusal → Type 0
+AnswersRenamingOfField r k f (Ok edits) = RenamesField r k f edits.items
+AnswersRenamingOfField r k f (Err why) = (why ≡ refusal.Memory) ⊎ IsFirstRefusalForField r k f why
 
 -- ---- answers to the renaming of the declaration or field at the place
 
 -- States that the given refusal is the first one that applies to the new name, for the declaration
 -- or field at the renaming's place.
-abbrev pub IsTargetRefusal : Renaming → EditRefusal → Type 0
-IsTargetRefusal r why =
-    ((d : ℕ) × TargetsDeclaration r d × IsDeclarationRefusal r d why)
-    ⊎ ((k : ℕ) × ((f : Name) × TargetsField r k f × IsFieldRefusal r k f why))
+abbrev pub IsFirstRefusalForTarget : Renaming → EditRefusal → Type 0
+IsFirstRefusalForTarget r why =
+    ((d : ℕ) × TargetsDeclaration r d × IsFirstRefusalForDeclaration r d why)
+    ⊎ ((k : ℕ) × ((f : Name) × TargetsField r k f × IsFirstRefusalForField r k f why))
 
 -- States that the given refusal is the one that applies to the renaming. Either the place is on no
 -- name and no field, or the name at the place is predeclared, or the new name is refused.
 abbrev pub IsRenameRefusal : Renaming → EditRefusal → Type 0
 IsRenameRefusal r refusal.NoName = renaming_target r ≡ nothing
 IsRenameRefusal r refusal.Predeclared = renaming_target r ≡ predeclared
-IsRenameRefusal r refusal.BadName = IsTargetRefusal r refusal.BadName
-IsRenameRefusal r (refusal.Duplicate range) = IsTargetRefusal r (refusal.Duplicate range)
-IsRenameRefusal r (refusal.Captures range) = IsTargetRefusal r (refusal.Captures range)
-IsRenameRefusal r refusal.TooLong = IsTargetRefusal r refusal.TooLong
+IsRenameRefusal r refusal.BadName = IsFirstRefusalForTarget r refusal.BadName
+IsRenameRefusal r (refusal.Duplicate range) = IsFirstRefusalForTarget r (refusal.Duplicate range)
+IsRenameRefusal r (refusal.Captures range) = IsFirstRefusalForTarget r (refusal.Captures range)
+IsRenameRefusal r refusal.TooLong = IsFirstRefusalForTarget r refusal.TooLong
 IsRenameRefusal r refusal.TooDeep = ⊥
 IsRenameRefusal r refusal.Shadowed = ⊥
 IsRenameRefusal r refusal.CommentInside = ⊥
@@ -153,7 +153,8 @@ RenameAnswers r (Ok edits) = AreRenameEdits r edits.items
 RenameAnswers r (Err why) = (why ≡ refusal.Memory) ⊎ IsRenameRefusal r why
 
 -- States that the renaming's place is on a field or on a declared name that isn't predeclared, and
--- that the new name is an identifier. An allocation can fail only in this case.
+-- that the new name is an identifier. The contract of `rename` allows `Memory` only in
+-- this case.
 pub record MayRunOutOfMemory (r : Renaming) : Type 0 where
   pub identifier : IsIdentifier r.new
   pub some : ¬ (renaming_target r ≡ nothing)

@@ -19,7 +19,7 @@ use Rattle.ob0_scope_table.specs.Resolution.{Resolution, declaring_names, span_a
 use Rattle.ob0_edits_tokens.specs.Replaced.{text_after_replacement}
 use Rattle.ob0_edits_tokens.specs.Ranges.{range_of}
 use Rattle.ob0_scope.specs.NamesAtPlaces.{name_at_offset, tokens_bound_to}
-use Rattle.ob0_scope.specs.declared.naming.Named as named
+use Rattle.ob0_scope.specs.declared.naming.BoundName as named
 use Rattle.ob0_types_fields.specs.declared.field_name.FieldName.{FieldName}
 use Rattle.ob0_types_fields.specs.Identifiers.{field_declaring_token, field_at, field_tokens}
 
@@ -44,8 +44,8 @@ abbrev pub module_of : Renaming → read.ParsedModule
 module_of r = r.names.module_read
 
 -- Returns the tree of the renaming's module, in which each name is a text.
-abbrev pub named_tree : Renaming → Tree Name module_text
-named_tree r = read.named_tree_of (module_of r)
+abbrev pub named_tree_of_renaming : Renaming → Tree Name module_text
+named_tree_of_renaming r = read.named_tree_of (module_of r)
 
 -- ---- the target: the declaration or field at a place
 
@@ -62,20 +62,20 @@ pub data RenameTarget : Type 0 where
 -- Returns the target for a name that is bound to the declaration with the ordinal `ordinal`. The
 -- target is `predeclared` if the ordinal is below `predeclared_count`, otherwise it is that
 -- declaration.
-abbrev pub ordinal_target : ℕ → RenameTarget
-ordinal_target ordinal = if nat_lt ordinal predeclared_count then predeclared else declaration ordinal
+abbrev pub target_of_ordinal : ℕ → RenameTarget
+target_of_ordinal ordinal = if nat_lt ordinal predeclared_count then predeclared else declaration ordinal
 
--- Returns the target for an identifier that declares or selects a field: that field. If no such
--- identifier is at the place (None), returns `nothing`.
-abbrev pub field_target : TextWithTokens → Option FieldName → RenameTarget
-field_target source None = nothing
-field_target source (Some x) = field_of x.owner (token_text_at source x.token)
+-- Returns the target for an identifier that declares or selects a field: that field. If there is no
+-- such identifier (None), returns `nothing`.
+abbrev pub target_of_optional_field : TextWithTokens → Option FieldName → RenameTarget
+target_of_optional_field source None = nothing
+target_of_optional_field source (Some x) = field_of x.owner (token_text_at source x.token)
 
--- Returns the target for the name at a place. If no name is at the place (None), returns the target
--- for the field at the place.
-abbrev pub target_of_name_or_field : TextWithTokens → Option named.Named → Option FieldName → RenameTarget
-target_of_name_or_field source (Some n) f = ordinal_target n.ordinal
-target_of_name_or_field source None f = field_target source f
+-- Returns the target for a name and a field that were found at the same place. If there is no name
+-- (None), returns the target for the field.
+abbrev pub target_of_name_or_field : TextWithTokens → Option named.BoundName → Option FieldName → RenameTarget
+target_of_name_or_field source (Some n) f = target_of_ordinal n.ordinal
+target_of_name_or_field source None f = target_of_optional_field source f
 
 -- Returns the target at a byte offset: the declaration to which the name at the offset is bound, or
 -- otherwise the field at the offset. Returns `nothing` if the offset is on neither.
@@ -83,7 +83,8 @@ abbrev pub rename_target_at : Resolution → ℕ → RenameTarget
 rename_target_at names offset =
     target_of_name_or_field names.module_read.source (name_at_offset names.module_read offset) (field_at names offset)
 
--- Returns the target of the renaming, from the identifier at its place.
+-- Returns the target of the renaming: what the identifier at the position `r.place` refers to, or
+-- `nothing`.
 abbrev pub renaming_target : Renaming → RenameTarget
 renaming_target r = rename_target_at r.names (offset_of (width_of r.unit) r.text r.place)
 
@@ -138,7 +139,7 @@ token_range r token = range_of (width_of r.unit) r.text (span_at (module_of r).s
 abbrev pub conflicting_declaration_range : Renaming → ℕ → Option Range
 conflicting_declaration_range r d =
     option_map (token_range r)
-    (option_and_then (declaring_token (module_of r)) (namesake (named_tree r) d r.new))
+    (option_and_then (declaring_token (module_of r)) (namesake (named_tree_of_renaming r) d r.new))
 
 -- Returns the range of the identifier that declares a field with the new name in the record with
 -- the ordinal `k`. Returns None if the record has no such field.

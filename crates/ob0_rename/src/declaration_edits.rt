@@ -11,12 +11,12 @@ ghost use Rattle.ob0_scope_table.specs.Resolution.{span_at};
 ghost use Rattle.ob0_scope.specs.declared.name_conflicts.FirstConflict.TheVariants.{Duplicate, Occurrence};
 ghost use Rattle.ob0_text.specs.declared.refusals.EditRefusal.TheVariants as refused;
 ghost use Rattle.ob0_edits_tokens.specs.Ranges.{range_of};
-ghost use Rattle.ob0_rename.specs.Answers.{RenameAnswers, AnswersForDeclaration, MayRunOutOfMemory, FailsOnlyForMemory, AcceptsPresentName};
+ghost use Rattle.ob0_rename.specs.Answers.{RenameAnswers, AnswersRenamingOfDeclaration, MayRunOutOfMemory, FailsOnlyForMemory, AcceptsPresentName};
 ghost use Rattle.ob0_rename.specs.Renaming.{declaring_token, is_declared_as, renaming_of};
 
 use crate::fields::rename_field;
-use crate::places::{identifier_with_meaning, token_range, tokens_to_rename};
-use ob0_edits_tokens::laws::{names_replace_names, renaming_keeps_spelling};
+use crate::places::{resolved_identifier_at, token_range, tokens_to_rename};
+use ob0_edits_tokens::laws::{identifier_may_replace_identifier, renaming_keeps_spelling};
 use ob0_edits_tokens::replacement_edits;
 use ob0_language_runs::laws::free_renaming_keeps_typing_and_runs;
 use ob0_scan::is_identifier;
@@ -52,7 +52,7 @@ pub fn rename<T: TextStore>(
     ensures own_name { AcceptsPresentName (renaming_of (T.unit_of store.now) (T.content store.now) well_typed.now place new.now) result }
 {
     let offset = store.offset(place);
-    match identifier_with_meaning(well_typed, offset) {
+    match resolved_identifier_at(well_typed, offset) {
         None => Err(EditRefusal::NoName),
         Some(found) => match found.means {
             IdentifierMeaning::Name(ordinal) => {
@@ -81,12 +81,12 @@ fn rename_declaration<T: TextStore>(
 ) -> Result<Vec<Edit>, EditRefusal>
     requires { T.content store.now ≡ chars well_typed.now.module_read.source.text }
     ensures answers { (place : positions.Position)
-        → AnswersForDeclaration (renaming_of (T.unit_of store.now) (T.content store.now) well_typed.now place new.now) declaration result }
+        → AnswersRenamingOfDeclaration (renaming_of (T.unit_of store.now) (T.content store.now) well_typed.now place new.now) declaration result }
     ensures memory { result ≡ Err refused.Memory → IsIdentifier new.now }
     ensures own_name { is_declared_as well_typed.now.module_read declaration new.now ≡ true
         → FailsOnlyForMemory result }
 {
-    names_replace_names();
+    identifier_may_replace_identifier();
     renaming_keeps_spelling();
     free_renaming_keeps_typing_and_runs();
     let names = well_typed.resolved();
@@ -96,7 +96,7 @@ fn rename_declaration<T: TextStore>(
         return Err(EditRefusal::BadName);
     }
     match captures(alloc, names, declaration, new)? {
-        Some(capture) => Err(refusal_of(store, names, capture)),
+        Some(capture) => Err(refusal_of_conflict(store, names, capture)),
         None => {
             let tokens = tokens_to_rename(alloc, names, declaration, new)?;
             replacement_edits(alloc, store, names.tokens(), &tokens, new)
@@ -108,7 +108,11 @@ fn rename_declaration<T: TextStore>(
 /// declaration gives `Duplicate` with the range of that declaration's name. A conflict at an
 /// occurrence gives `Captures` with the range of the occurrence, which would be bound to another
 /// declaration.
-fn refusal_of<T: TextStore>(store: &T, names: &Resolved, capture: FirstConflict) -> EditRefusal
+fn refusal_of_conflict<T: TextStore>(
+    store: &T,
+    names: &Resolved,
+    capture: FirstConflict,
+) -> EditRefusal
     ensures duplicate { (other token : ℕ) → capture ≡ Duplicate other
         → declaring_token names.now.module_read other ≡ Some token
         → result ≡ refused.Duplicate (range_of (width_of (T.unit_of store.now))

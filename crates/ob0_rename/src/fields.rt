@@ -9,18 +9,20 @@ ghost use Rattle.ob0_tree.specs.Places.{token_text_at};
 ghost use Rattle.ob0_language_names.specs.Names.{same_name};
 ghost use Rattle.ob0_edits_tokens.specs.Replaced.{AreIdentifierIndexes};
 ghost use Rattle.ob0_types_fields.specs.Identifiers.{field_declaring_token};
-ghost use Rattle.ob0_rename.specs.Answers.{AnswersForField, FailsOnlyForMemory};
+ghost use Rattle.ob0_rename.specs.Answers.{AnswersRenamingOfField, FailsOnlyForMemory};
 ghost use Rattle.ob0_rename.specs.Renaming.{field_tokens_to_rename};
 
 use crate::places::token_range;
-use ob0_edits_tokens::laws::{names_replace_names, renaming_keeps_spelling};
+use ob0_edits_tokens::laws::{identifier_may_replace_identifier, renaming_keeps_spelling};
 use ob0_edits_tokens::replacement_edits;
 use ob0_language_field_laws::laws::free_field_renaming_keeps_typing_and_runs;
 use ob0_scan::is_identifier;
 use ob0_text::{Edit, EditRefusal, TextStore};
 use ob0_tree::token_text_at;
 use ob0_types::{WellTyped, field_declaring_token, field_tokens};
-use ob0_types_fields::laws::{duplicate_has_declaring_token, renaming_changes_field_tokens};
+use ob0_types_fields::laws::{
+    duplicate_field_name_has_declaring_token, renaming_changes_field_tokens,
+};
 use std::alloc::{AllocError, Global};
 
 /// Returns the edits that rename a field to `new`, in text order, or the first refusal that
@@ -37,7 +39,7 @@ pub(crate) fn rename_field<T: TextStore>(
 ) -> Result<Vec<Edit>, EditRefusal>
     requires { T.content store.now ≡ chars well_typed.now.module_read.source.text }
     ensures answers { (place : positions.Position)
-        → AnswersForField (record {
+        → AnswersRenamingOfField (record {
           unit = T.unit_of store.now;
           text = T.content store.now;
           names = well_typed.now;
@@ -50,11 +52,11 @@ pub(crate) fn rename_field<T: TextStore>(
         → new.now ≡ token_text_at well_typed.now.module_read.source token
         → FailsOnlyForMemory result }
 {
-    names_replace_names();
+    identifier_may_replace_identifier();
     renaming_keeps_spelling();
     free_field_renaming_keeps_typing_and_runs();
     renaming_changes_field_tokens();
-    duplicate_has_declaring_token();
+    duplicate_field_name_has_declaring_token();
     let names = well_typed.resolved();
     // The proof needs the contract of this call.
     let _text = names.tokens().text();
@@ -62,7 +64,7 @@ pub(crate) fn rename_field<T: TextStore>(
         return Err(EditRefusal::BadName);
     }
     let old = token_text_at(names.tokens(), token);
-    match conflicting_field(well_typed, owner, old, new) {
+    match conflicting_field_token(well_typed, owner, old, new) {
         Some(other) => Err(EditRefusal::Duplicate {
             range: token_range(store, names.tokens(), Some(other)),
         }),
@@ -76,7 +78,7 @@ pub(crate) fn rename_field<T: TextStore>(
 /// Returns the index of the token that declares another field of the record `owner` with the name
 /// `new`. Returns None if no field of that record has the name `new`, or if `new` is the present
 /// name `old`. `owner` is the record's ordinal.
-fn conflicting_field(
+fn conflicting_field_token(
     well_typed: &WellTyped<'_>,
     owner: usize,
     old: &str,

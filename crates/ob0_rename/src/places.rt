@@ -8,7 +8,7 @@ ghost use Rattle.ob0_text.specs.Units.{width_of};
 ghost use Rattle.ob0_tree.specs.Places.{token_text_at};
 ghost use Rattle.ob0_edits_tokens.specs.Ranges.{range_of};
 ghost use Rattle.ob0_edits_tokens.specs.Replaced.{AreIdentifierIndexes};
-ghost use Rattle.ob0_types.specs.IdentifierMeanings.{IsField, identifier_meaning_at};
+ghost use Rattle.ob0_types.specs.IdentifierMeanings.{MeansField, identifier_meaning_at};
 ghost use Rattle.ob0_rename.specs.Renaming.{is_declared_as, tokens_to_rename};
 
 use ob0_edits_tokens::range_of;
@@ -22,12 +22,12 @@ use std::alloc::{AllocError, Global};
 /// Returns the identifier at a byte offset with its meaning: a declared name or a field. Returns
 /// None if the offset is on neither. The contract also promises that a field's name is an
 /// identifier by the scanner's rules.
-pub(crate) fn identifier_with_meaning(
+pub(crate) fn resolved_identifier_at(
     well_typed: &WellTyped<'_>,
     offset: usize,
 ) -> Option<ResolvedIdentifier>
     ensures found { result ≡ identifier_meaning_at well_typed.now offset }
-    ensures spelled { IfSome result (λ x. IsField x.means
+    ensures spelled { IfSome result (λ x. MeansField x.means
         → IsIdentifier (token_text_at well_typed.now.module_read.source x.token)) }
 {
     // The proof needs the contract of this call.

@@ -9,7 +9,7 @@ use Rattle.std.proofs.lemmas.Str.{IsUtf8-from_ascii}
 use Rattle.std.proofs.lemmas.Str.Ascii.{IsAscii-from_reads}
 use Rattle.ob0_scan.specs.declared.lexeme.Token.{Token}
 use Rattle.ob0_scan.specs.Classes.{IsIdentifier}
-use Rattle.ob0_scan.specs.TextWithTokens.{IsScan, TextWithTokens, max_text}
+use Rattle.ob0_scan.specs.TextWithTokens.{IsScan, TextWithTokens, max_text_length}
 use Rattle.ob0_scan.proofs.Runs.{ascii_letter_or_digit}
 use Rattle.ob0_text.specs.declared.edits.Edit.{Edit}
 use Rattle.ob0_text.specs.declared.position_types.Unit.{Unit}
@@ -20,7 +20,7 @@ use Rattle.ob0_text.specs.Units.{width_of}
 use Rattle.ob0_tree_values.proofs.TreeValues.{vec_of}
 use Rattle.ob0_edits_tokens.specs.Changed.{changes_at, changed_words, words_of}
 use Rattle.ob0_edits_tokens.specs.Ranges.{range_of}
-use Rattle.ob0_edits_tokens.specs.Replaced.{AreIdentifierIndexes, LeavesWords, MayReplaceName, replacement_cut, replacement_at_token, range_and_text, span_at, text_after_replacement}
+use Rattle.ob0_edits_tokens.specs.Replaced.{AreIdentifierIndexes, EditsGiveWords, MayReplaceIdentifier, replacement_cut, replacement_at_token, range_and_text, span_at, text_after_replacement}
 use Rattle.ob0_edits_tokens.specs.Written.{name_word}
 use Rattle.ob0_edits_tokens.proofs.Made.{leaves_words}
 use Rattle.ob0_rename.proofs.Outcomes.{Edited}
@@ -72,15 +72,15 @@ pub record Outcome (unit : Unit) (text new : List ℕ) (s : TextWithTokens) (pla
   pub settles : NoMemory result
   pub edited : Edited unit text new s places result
 
-module _ (unit : Unit) (text new : List ℕ) (s : TextWithTokens) (scan : IsScan s) (held : text ≡ chars s.text) (id : IsIdentifier new) (replaces : MayReplaceName new (name_word new ∷ [])) (places : List ℕ) (names : AreIdentifierIndexes s.tokens 0 places) where
-  refused : max_text < length (text_after_replacement s places new) → Outcome unit text new s places
+module _ (unit : Unit) (text new : List ℕ) (s : TextWithTokens) (scan : IsScan s) (held : text ≡ chars s.text) (id : IsIdentifier new) (replaces : MayReplaceIdentifier new (name_word new ∷ [])) (places : List ℕ) (names : AreIdentifierIndexes s.tokens 0 places) where
+  refused : max_text_length < length (text_after_replacement s places new) → Outcome unit text new s places
   refused long = record {
     result = Err refusal.TooLong;
     settles = too_long_other;
     edited = record { edits = tt; short = tt; leaves = λ ws h. tt; too_long = λ e. long; refusals = inl refl };
   }
 
-  made : length (text_after_replacement s places new) ≤ max_text → Outcome unit text new s places
+  made : length (text_after_replacement s places new) ≤ max_text_length → Outcome unit text new s places
   made short =
       let u = identifier_utf8 new id in
       let found = name_edits unit text s.text s.tokens new u 0 places short in
@@ -96,15 +96,15 @@ module _ (unit : Unit) (text new : List ℕ) (s : TextWithTokens) (scan : IsScan
         edited = record {
           edits = e;
           short = short;
-          leaves = λ ws h. subst (λ (t : List ℕ). LeavesWords unit t edits (changed_words (changes_at places ws) 0 (words_of s))) (sym held) (leaves_words unit s scan new ws h u places names edits same short);
+          leaves = λ ws h. subst (λ (t : List ℕ). EditsGiveWords unit t edits (changed_words (changes_at places ws) 0 (words_of s))) (sym held) (leaves_words unit s scan new ws h u places names edits same short);
           too_long = λ h. absurd (not_too_long given h);
           refusals = tt;
         };
       }
 
   pub outcome : Outcome unit text new s places
-  outcome = by_length (nat_lt max_text (length (text_after_replacement s places new))) refl
+  outcome = by_length (nat_lt max_text_length (length (text_after_replacement s places new))) refl
     where
-      by_length : (b : Bool) → nat_lt max_text (length (text_after_replacement s places new)) ≡ b → Outcome unit text new s places
-      by_length true long = refused (ltb-true max_text (length (text_after_replacement s places new)) long)
-      by_length false fits = made (ltb-false max_text (length (text_after_replacement s places new)) fits)
+      by_length : (b : Bool) → nat_lt max_text_length (length (text_after_replacement s places new)) ≡ b → Outcome unit text new s places
+      by_length true long = refused (ltb-true max_text_length (length (text_after_replacement s places new)) long)
+      by_length false fits = made (ltb-false max_text_length (length (text_after_replacement s places new)) fits)

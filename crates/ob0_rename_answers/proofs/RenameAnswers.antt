@@ -15,7 +15,7 @@ use Rattle.ob0_text.specs.declared.refusals.EditRefusal.TheVariants as refusal
 use Rattle.ob0_tree.specs.ParsedModule.{ParsedModule, named_tree_of}
 use Rattle.ob0_tree.specs.Tree.{Tree, module_text}
 use Rattle.ob0_language_names.specs.Names.{Name, same_name}
-use Rattle.ob0_language_names.specs.Occurrences.{Free, bindings, first_difference}
+use Rattle.ob0_language_names.specs.Occurrences.{IsFreeName, bindings, first_difference}
 use Rattle.ob0_language_names.specs.Scopes.{renamed}
 use Rattle.ob0_language_fields.specs.Renaming.{IsFreeFieldName}
 use Rattle.ob0_language_field_laws.specs.FieldLaws.{FreeFieldRenamingKeepsTypingAndRuns}
@@ -26,10 +26,10 @@ use Rattle.ob0_scope.specs.declared.name_conflicts.FirstConflict.TheVariants as 
 use Rattle.ob0_scope.proofs.Captured.{captured_later, captured_there, free_where_none}
 use Rattle.ob0_scope.proofs.Written.{bound_are_identifiers, bound_ascend}
 use Rattle.ob0_scope_table.specs.Resolution.{Resolution}
-use Rattle.ob0_types_fields.specs.Identifiers.{DuplicateHasDeclaringToken, RenamingChangesFieldTokens, field_declaring_token, field_identifiers, field_tokens}
+use Rattle.ob0_types_fields.specs.Identifiers.{DuplicateFieldNameHasDeclaringToken, RenamingChangesFieldTokens, field_declaring_token, field_identifiers, field_tokens}
 use Rattle.ob0_types_fields.proofs.FieldNameList.{fields_are_identifiers, fields_ascend, kept_are_identifiers, kept_ascend}
 use Rattle.ob0_edits_tokens.specs.OfTrees.{RenamingKeepsSpelling}
-use Rattle.ob0_edits_tokens.specs.Replaced.{AreIdentifierIndexes, MayReplaceName}
+use Rattle.ob0_edits_tokens.specs.Replaced.{AreIdentifierIndexes, MayReplaceIdentifier}
 use Rattle.ob0_edits_tokens.specs.Written.{name_word}
 use Rattle.ob0_rename.specs.Answers.{RenameAnswers}
 use Rattle.ob0_rename.specs.Renaming.{TargetsField, TargetsDeclaration, Renaming, RenameTarget, declaration, declaring_token, field_of, field_tokens_to_rename, is_declared_as, renaming_target, nothing, conflicting_declaration_range, predeclared, renaming_of, token_range, tokens_to_rename}
@@ -40,18 +40,18 @@ use Rattle.ob0_rename.proofs.Outcomes.{answered, answered_there}
 use Rattle.ob0_rename.proofs.Owned.{other_is_declared}
 use Rattle.ob0_analysis.specs.Analysed.{IsResolvedWellTypedModule}
 use Rattle.ob0_analysis.specs.Texts.{utf8}
-use Rattle.ob0_edits.specs.Renamings.{FindsRenameResult}
+use Rattle.ob0_edits.specs.Renamings.{IsOptionalRenameResult}
 use Rattle.ob0_edits.proofs.Renamings.{new_name_found, settled}
 use Rattle.ob0_world_rules.specs.Asks.{rename}
 use Rattle.ob0_world_rules.specs.Answers.{IsAnswerForText}
 use Rattle.ob0_world_rules.specs.Edited.{Replacement, replacements}
 use Rattle.ob0_world_rules.specs.Language.{WellTypedText}
-use Rattle.ob0_world_rules.specs.Laws.{HasAnswers}
-use Rattle.ob0_rename_answers.specs.RenameAnswers.{WellTypedTextsHaveNames}
+use Rattle.ob0_world_rules.specs.Laws.{AlwaysHasAnswer}
+use Rattle.ob0_rename_answers.specs.RenameAnswers.{WellTypedTextsCanBeResolved}
 use Rattle.ob0_rename_answers.proofs.NewNameEdits.{NoMemory, Outcome, outcome}
 
 abbrev pub NamesReplaceNames : Type 0
-NamesReplaceNames = (new : List ℕ) → IsIdentifier new → MayReplaceName new (name_word new ∷ [])
+NamesReplaceNames = (new : List ℕ) → IsIdentifier new → MayReplaceIdentifier new (name_word new ∷ [])
 
 -- ---- no refusal is a failed allocation
 
@@ -76,7 +76,7 @@ names_or_none : (tokens : List Token) (places : List ℕ) (own : Bool) → AreId
 names_or_none tokens places true h = tt
 names_or_none tokens places false h = h
 
-module _ (keeps : FreeRenamingKeepsTypingAndRuns) (field_keeps : FreeFieldRenamingKeepsTypingAndRuns) (by_tokens : RenamingChangesFieldTokens) (by_token : DuplicateHasDeclaringToken) (spells : RenamingKeepsSpelling) (identified : NamesReplaceNames) where
+module _ (keeps : FreeRenamingKeepsTypingAndRuns) (field_keeps : FreeFieldRenamingKeepsTypingAndRuns) (by_tokens : RenamingChangesFieldTokens) (by_token : DuplicateFieldNameHasDeclaringToken) (spells : RenamingKeepsSpelling) (identified : NamesReplaceNames) where
   module _ (unit : Unit) (text : List ℕ) (place : Position) (new : List ℕ) (names : Resolution) (read : IsResolvedWellTypedModule (utf8 text) names) (none : (given : List Replacement) → IsAnswerForText unit text (rename place new) given → ⊥) where
     abbrev asked : Renaming
     asked = renaming_of unit text names place new
@@ -93,7 +93,7 @@ module _ (keeps : FreeRenamingKeepsTypingAndRuns) (field_keeps : FreeFieldRenami
     held : text ≡ chars source.text
     held = chars_from_encodes text source.text read.scan.scan.utf8 (sym read.scan.of)
 
-    found : (result : Result (Vec Edit Global) EditRefusal) → NoMemory result → RenameAnswers asked result → FindsRenameResult unit text place new (Some result)
+    found : (result : Result (Vec Edit Global) EditRefusal) → NoMemory result → RenameAnswers asked result → IsOptionalRenameResult unit text place new (Some result)
     found result other h =
         new_name_found unit source.text text place new (Some result) read.scan.scan.utf8 (sym held)
         (names, record { scan = record { of = refl; scan = read.scan.scan }; well_typed = read.well_typed }, settled asked result result h refl other)
@@ -110,7 +110,7 @@ module _ (keeps : FreeRenamingKeepsTypingAndRuns) (field_keeps : FreeFieldRenami
           names_or_none source.tokens (tokens_bound_to m d true) (is_declared_as m d new)
           (are_names source.tokens 0 (tokens_bound_to m d true) (length source.tokens) (bound_ascend names d true read.well_typed.resolved) (bound_are_identifiers names d true read.well_typed.resolved))
 
-      free : IsIdentifier new → Free tree d new → ⊥
+      free : IsIdentifier new → IsFreeName tree d new → ⊥
       free id is_free =
           let made : Outcome unit text new source (tokens_to_rename m d new) =
           outcome unit text new source read.scan.scan held id (identified new id) (tokens_to_rename m d new) declaration_names in
@@ -176,8 +176,8 @@ module _ (keeps : FreeRenamingKeepsTypingAndRuns) (field_keeps : FreeFieldRenami
     by_target (declaration d) e = declared d e
     by_target (field_of k f) e = named_field k f e
 
-pub renaming_has_answers : FreeRenamingKeepsTypingAndRuns → FreeFieldRenamingKeepsTypingAndRuns → RenamingChangesFieldTokens → DuplicateHasDeclaringToken → RenamingKeepsSpelling → NamesReplaceNames → WellTypedTextsHaveNames → (position : Position) (name : List ℕ) → HasAnswers (rename position name)
-renaming_has_answers keeps field_keeps by_tokens by_token spells identified each position name unit text none = none [] (inr (inr unfit, refl))
+pub renaming_always_has_answer : FreeRenamingKeepsTypingAndRuns → FreeFieldRenamingKeepsTypingAndRuns → RenamingChangesFieldTokens → DuplicateFieldNameHasDeclaringToken → RenamingKeepsSpelling → NamesReplaceNames → WellTypedTextsCanBeResolved → (position : Position) (name : List ℕ) → AlwaysHasAnswer (rename position name)
+renaming_always_has_answer keeps field_keeps by_tokens by_token spells identified each position name unit text none = none [] (inr (inr unfit, refl))
   where
     unfit : WellTypedText text → ⊥
     unfit h =

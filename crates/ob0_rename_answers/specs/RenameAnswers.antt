@@ -1,5 +1,6 @@
 -- States that a request for a rename always has an answer: for each text, some list of edits is
--- right. The statement rests on an assumption about well-typed texts (`WellTypedTextsHaveNames`).
+-- right. The statement rests on an assumption about well-typed texts
+-- (`WellTypedTextsCanBeResolved`).
 -- Rule: docs/PROTOCOL.md, Requests on documents 6.
 use Rattle.std.specs.Prelude.{ℕ, List}
 use Rattle.ob0_text.specs.declared.position_types.Position.{Position}
@@ -8,16 +9,16 @@ use Rattle.ob0_analysis.specs.Analysed.{IsResolvedWellTypedModule}
 use Rattle.ob0_analysis.specs.Texts.{utf8}
 use Rattle.ob0_world_rules.specs.Asks.{rename}
 use Rattle.ob0_world_rules.specs.Language.{WellTypedText}
-use Rattle.ob0_world_rules.specs.Laws.{HasAnswers}
+use Rattle.ob0_world_rules.specs.Laws.{AlwaysHasAnswer}
 
 -- States that each well-typed text has a module in which each name is bound to its declaration.
-abbrev pub WellTypedTextsHaveNames : Type 0
-WellTypedTextsHaveNames =
+abbrev pub WellTypedTextsCanBeResolved : Type 0
+WellTypedTextsCanBeResolved =
     (text : List ℕ) → WellTypedText text → (names : Resolution) × IsResolvedWellTypedModule (utf8 text) names
 
--- States that a request for a rename has an answer for each text, unit, position and new name, on
--- the assumption (`WellTypedTextsHaveNames`) that each well-typed text has a module whose names are bound to
--- declarations. `HasAnswers` is a double negation: it says that an answer can't be missing.
-abbrev pub RenamingHasAnswers : Type 0
-RenamingHasAnswers =
-    WellTypedTextsHaveNames → (position : Position) (name : List ℕ) → HasAnswers (rename position name)
+-- States that a request for a rename has an answer for each text, unit, position and new name, if
+-- each well-typed text has a module whose names are bound (`WellTypedTextsCanBeResolved`).
+-- `AlwaysHasAnswer` is a double negation: it says that an answer can't be missing.
+abbrev pub RenamingAlwaysHasAnswer : Type 0
+RenamingAlwaysHasAnswer =
+    WellTypedTextsCanBeResolved → (position : Position) (name : List ℕ) → AlwaysHasAnswer (rename position name)

@@ -1,22 +1,25 @@
 //! Proves that a request for a rename always has an answer: for each text, some list of edits is
 //! right.
 
-ghost use Rattle.ob0_rename_answers.specs.RenameAnswers.{RenamingHasAnswers};
+ghost use Rattle.ob0_rename_answers.specs.RenameAnswers.{RenamingAlwaysHasAnswer};
 
-use ob0_edits_tokens::laws::{names_replace_names, renaming_keeps_spelling};
+use ob0_edits_tokens::laws::{identifier_may_replace_identifier, renaming_keeps_spelling};
 use ob0_language_field_laws::laws::free_field_renaming_keeps_typing_and_runs;
 use ob0_language_runs::laws::free_renaming_keeps_typing_and_runs;
-use ob0_types_fields::laws::{duplicate_has_declaring_token, renaming_changes_field_tokens};
+use ob0_types_fields::laws::{
+    duplicate_field_name_has_declaring_token, renaming_changes_field_tokens,
+};
 
 /// Proves that a request for a rename has an answer for each text. The proof assumes that each
-/// well-typed text has a module whose names are bound to declarations (`WellTypedTextsHaveNames`).
-pub fn renaming_has_answers()
-    ensures { RenamingHasAnswers }
+/// well-typed text has a module whose names are bound to declarations
+/// (`WellTypedTextsCanBeResolved`).
+pub fn renaming_always_has_answer()
+    ensures { RenamingAlwaysHasAnswer }
 {
     free_renaming_keeps_typing_and_runs();
     free_field_renaming_keeps_typing_and_runs();
     renaming_changes_field_tokens();
-    duplicate_has_declaring_token();
+    duplicate_field_name_has_declaring_token();
     renaming_keeps_spelling();
-    names_replace_names();
+    identifier_may_replace_identifier();
 }

@@ -4,11 +4,11 @@ use Rattle.std.proofs.Common.{◌≡◌, ◌≤◌, ℤ, pos, negsuc, List, fals
 use Rattle.serde_json.specs.Data.{Data, depth}
 use Rattle.serde_json.specs.Written.{has_float}
 use Rattle.ob0_rpc.specs.MessageViews.{id_data}
-use Rattle.ob0_rpc.specs.Shapes.{result_message, notification_message, whole_number}
+use Rattle.ob0_rpc.specs.Shapes.{result_message, notification_message, whole_number_value}
 use Rattle.ob0_rpc.specs.declared.incoming.Id.{Id}
 use Rattle.ob0_rpc.specs.declared.incoming.Id.TheVariants.{Signed, Unsigned, Text}
 
-whole_is_plain : (z : ℤ) → has_float (whole_number z) ≡ false
+whole_is_plain : (z : ℤ) → has_float (whole_number_value z) ≡ false
 whole_is_plain (pos n) = refl
 whole_is_plain (negsuc n) = refl
 
@@ -17,7 +17,7 @@ id_is_plain (Signed z) = whole_is_plain z
 id_is_plain (Unsigned n) = refl
 id_is_plain (Text t) = refl
 
-pub whole_is_flat : (z : ℤ) → depth (whole_number z) ≡ 0
+pub whole_is_flat : (z : ℤ) → depth (whole_number_value z) ≡ 0
 whole_is_flat (pos n) = refl
 whole_is_flat (negsuc n) = refl
 

@@ -38,22 +38,22 @@ pub record AppendsEach (needs_comma : Bool) (values : List Data) (old new : List
   pub text : new ≡ old ++ comma_separated_texts needs_comma values
   pub reads : AllReadBack values
 
--- States that `new` is `old` followed by the value's text, with a comma between the two if `needs_comma`
--- is true. The value's text reads back as the value.
+-- States that `new` is `old` followed by the value's text, with a comma between the two if
+-- `needs_comma` is true. The value's text reads back as the value.
 pub record AppendsItem (needs_comma : Bool) (value : Data) (old new : List ℕ) : Type 0 where
   pub text : new ≡ old ++ (comma_if needs_comma ++ compact_text value)
   pub reads : ReadsBack value
 
--- States that `new` is `old` followed by one member of an object: the byte `before` (a bracket or a
--- comma), the name in quotes, a colon and the value's text. The value's text reads back as the
--- value.
+-- States that `new` is `old` followed by one member of an object: the byte `before` (an opening
+-- brace or a comma), the name in quotes, a colon and the value's text. The value's text reads back
+-- as the value.
 pub record AppendsMember (before : ℕ) (name : List ℕ) (value : Data)
     (old new : List ℕ) : Type 0 where
   pub text : new ≡ old ++ before ∷ 34 ∷ (name ++ 34 ∷ 58 ∷ compact_text value)
   pub reads : ReadsBack value
 
--- States that `new` is `old` followed by these members of an object and the closing bracket. The
--- byte `before` precedes the first of these members, and a comma precedes each of the others. Each
+-- States that `new` is `old` followed by these members of an object and the closing brace. The byte
+-- `before` precedes the first of these members, and a comma precedes each of the others. Each
 -- value's text reads back as the value.
 abbrev pub AppendsMembers : ℕ → Members → List ℕ → List ℕ → Type 0
 AppendsMembers before no_members old new = new ≡ old ++ 125 ∷ []

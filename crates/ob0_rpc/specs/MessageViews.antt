@@ -40,7 +40,7 @@ message_view Ignored = response
 
 -- States that reading this JSON value may give this result. The result is the message that the
 -- value means, or the error `NotAMessage` if the value isn't a message. The error `Memory` (out of
--- memory) is always allowed, and any other error never.
+-- memory) is always allowed, and no other error is.
 abbrev pub HasMeaning : Data → Result Incoming RpcFault → Type 0
 HasMeaning d (Ok incoming) = meaning_of d ≡ message_view incoming
 HasMeaning d (Err NotAMessage) = meaning_of d ≡ not_a_message
@@ -81,7 +81,7 @@ request_view (called.TheVariants.CodeAction uri range only) =
 request_view (called.TheVariants.Formatting uri indent) = formatting (string_bytes uri) indent
 
 -- States that the code's result agrees with `requested`, the request or error that the specs
--- define. `Memory` is always allowed, and `NotJson` and `NotAMessage` never.
+-- define. `Memory` is always allowed, and `NotJson` and `NotAMessage` never are.
 abbrev pub ReadsClientRequest : Result ClientRequest RpcFault → Result called.ClientRequest RpcFault → Type 0
 ReadsClientRequest requested (Ok call) = requested ≡ Ok (request_view call)
 ReadsClientRequest requested (Err UnknownMethod) = requested ≡ Err UnknownMethod
@@ -103,7 +103,7 @@ notification_view (noted.TheVariants.Unreadable uri) = unreadable (option_map st
 notification_view noted.TheVariants.Other = other
 
 -- States that the code's result is the notification with this method and these params. The error
--- `Memory` (out of memory) is always allowed, and any other error never.
+-- `Memory` (out of memory) is always allowed, and no other error is.
 abbrev pub ReadsNotification : List ℕ → Data → Result noted.ClientNotification RpcFault → Type 0
 ReadsNotification method params (Ok note) = notification_by_method method params ≡ notification_view note
 ReadsNotification method params (Err Memory) = Unit {0}

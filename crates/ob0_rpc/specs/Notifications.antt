@@ -42,17 +42,17 @@ content_change entry =
 
 -- Returns the changes that the items of the list `contentChanges` describe, in order. Returns None
 -- if an item can't be read.
-abbrev pub all_changes : Items → Option (List TextChange)
-all_changes no_items = Some []
-all_changes (item entry later) =
-    option_and_then (λ change. option_map (λ changes. change ∷ changes) (all_changes later))
+abbrev pub changes_of_items : Items → Option (List TextChange)
+changes_of_items no_items = Some []
+changes_of_items (item entry later) =
+    option_and_then (λ change. option_map (λ changes. change ∷ changes) (changes_of_items later))
     (content_change entry)
 
 -- Returns the changes in the list `contentChanges` of params, in order. Returns None if the list or
 -- one of its items can't be read.
 abbrev pub changes_of : Data → Option (List TextChange)
 changes_of params =
-    option_and_then all_changes (option_and_then as_array (get (codes "contentChanges") params))
+    option_and_then changes_of_items (option_and_then as_array (get (codes "contentChanges") params))
 
 -- Returns the meaning of `textDocument/didOpen` with this uri, version and text. If one of the
 -- three is None, returns `unreadable` with the uri.

@@ -8,7 +8,7 @@ use Rattle.ob0_text.specs.declared.position_types.Position.{Position}
 use Rattle.ob0_text.specs.declared.position_types.Range.{Range}
 use Rattle.ob0_text.specs.declared.edits.Indent.{Indent}
 use Rattle.ob0_text.specs.declared.edits.Indent.TheVariants.{Tab, Spaces}
-use Rattle.ob0_text.specs.Indents.{spaces_in_level}
+use Rattle.ob0_text.specs.Indents.{indent_spaces_for_tab_size}
 use Rattle.ob0_rpc.specs.Members.{is_absent_or_null, text_member, bool_member, unsigned_member, document_uri, position_member, range_member}
 use Rattle.ob0_rpc.specs.declared.clients.ClientFeatures.{ClientFeatures}
 use Rattle.ob0_rpc.specs.declared.incoming.RpcFault.{RpcFault}
@@ -25,7 +25,7 @@ pub data ClientRequest : Type 0 where
   shutdown : ClientRequest
   hover : DocumentPlace → ClientRequest
   definition : DocumentPlace → ClientRequest
-  -- A request for references. The Bool is true if the declaration is also requested.
+  -- A request for references. The Bool is true exactly if the declaration is also requested.
   references : DocumentPlace → Bool → ClientRequest
   prepare_rename : DocumentPlace → ClientRequest
   -- A request to rename the name or field at a position, with the new name.
@@ -54,15 +54,15 @@ is_equal_text text None = false
 is_equal_text text (Some other) = bytes_eq other text
 
 -- Returns whether one of these JSON values is a JSON string that equals `text`.
-abbrev pub has_text : List ℕ → Items → Bool
-has_text text no_items = false
-has_text text (item d ds) = is_equal_text text (as_str d) || has_text text ds
+abbrev pub contains_text : List ℕ → Items → Bool
+contains_text text no_items = false
+contains_text text (item d ds) = is_equal_text text (as_str d) || contains_text text ds
 
 -- Returns whether one of these JSON values is a JSON string that equals `text`. For None (there is
 -- no list), returns false.
-abbrev pub list_has_text : List ℕ → Option Items → Bool
-list_has_text text None = false
-list_has_text text (Some items) = has_text text items
+abbrev pub optional_list_contains_text : List ℕ → Option Items → Bool
+optional_list_contains_text text None = false
+optional_list_contains_text text (Some items) = contains_text text items
 
 -- Returns the capabilities that a client announces in the params of `initialize`. A capability
 -- counts as absent if its value, or an object on the path to it, is absent or has another JSON type
@@ -70,7 +70,7 @@ list_has_text text (Some items) = has_text text items
 abbrev pub client_features : Data → ClientFeatures
 client_features params = record {
   offers_utf8 =
-      list_has_text (codes "utf-8") (option_and_then as_array
+      optional_list_contains_text (codes "utf-8") (option_and_then as_array
       (member_at_path (codes "capabilities" ∷ codes "general" ∷ codes "positionEncodings" ∷ []) params));
   prepares_renames =
       is_true (member_at_path
@@ -170,10 +170,10 @@ code_action_request_of params =
     (option_and_then requested_kinds (get (codes "context") params))
 
 -- Returns the indentation for these values of `tabSize` and `insertSpaces`, or None if either is
--- None. If `insertSpaces` is true, one level of indentation is `spaces_in_level size` spaces,
+-- None. If `insertSpaces` is true, one level of indentation is `indent_spaces_for_tab_size size` spaces,
 -- otherwise one tab.
 abbrev pub indent_with : Option ℕ → Option Bool → Option Indent
-indent_with (Some size) (Some spaces) = Some (if spaces then Spaces (spaces_in_level size) else Tab)
+indent_with (Some size) (Some spaces) = Some (if spaces then Spaces (indent_spaces_for_tab_size size) else Tab)
 indent_with (Some size) None = None
 indent_with None spaces = None
 

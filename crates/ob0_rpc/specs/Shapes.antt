@@ -12,8 +12,8 @@ abbrev pub text : List ℕ → Data
 text = string
 
 -- Returns the JSON value of a whole number.
-abbrev pub whole_number : ℤ → Data
-whole_number z = number (of_integer z)
+abbrev pub whole_number_value : ℤ → Data
+whole_number_value z = number (of_integer z)
 
 -- The value of the member `jsonrpc`: the version of the protocol, "2.0".
 abbrev pub jsonrpc_version : Data
@@ -30,12 +30,12 @@ result_message id value =
 abbrev pub error_value : ℤ → List ℕ → Data
 error_value code said =
     object
-    (member (codes "code") (whole_number code) (member (codes "message") (text said) no_members))
+    (member (codes "code") (whole_number_value code) (member (codes "message") (text said) no_members))
 
 -- Returns an error response, {"error":{..},"id":I,"jsonrpc":"2.0"}, from the JSON value of the id,
 -- the error code and the error's message.
-abbrev pub error_message : Data → ℤ → List ℕ → Data
-error_message id code said =
+abbrev pub error_response_message : Data → ℤ → List ℕ → Data
+error_response_message id code said =
     object (member (codes "error") (error_value code said)
     (member (codes "id") id (member (codes "jsonrpc") jsonrpc_version no_members)))
 

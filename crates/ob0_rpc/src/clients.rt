@@ -5,7 +5,7 @@
 ghost use Rattle.std.specs.Prelude.{◌≡◌, ◌∷◌, [], codes, is_some, option_map, option_and_then};
 ghost use Rattle.serde_json.specs.Find.{as_object, as_str};
 ghost use Rattle.serde_json.specs.View.{view, items_view};
-ghost use Rattle.ob0_rpc.specs.Requesting.{client_features as client_in, has_text, is_equal_text as is_that_text, is_true as truth_of, member_at_path};
+ghost use Rattle.ob0_rpc.specs.Requesting.{client_features as client_in, contains_text, is_equal_text as is_that_text, is_true as truth_of, member_at_path};
 
 use serde_json::Value;
 
@@ -35,6 +35,8 @@ pub fn client_features(params: &Value) -> ClientFeatures
     }
 }
 
+/// Returns the value at the path `capabilities.textDocument.rename.prepareSupport` in params, or
+/// None if it is absent.
 fn prepare_support(params: &Value) -> Option<&Value>
     ensures { option_map (λ v. view v.now) result
         ≡ member_at_path
@@ -45,6 +47,8 @@ fn prepare_support(params: &Value) -> Option<&Value>
     document.get("rename")?.get("prepareSupport")
 }
 
+/// Returns the value at the path `capabilities.textDocument.codeAction.codeActionLiteralSupport` in
+/// params, or None if it is absent.
 fn action_literal_support(params: &Value) -> Option<&Value>
     ensures { option_map (λ v. view v.now) result
         ≡ member_at_path (codes "capabilities"
@@ -57,6 +61,8 @@ fn action_literal_support(params: &Value) -> Option<&Value>
     document.get("codeAction")?.get("codeActionLiteralSupport")
 }
 
+/// Returns the value at the path `capabilities.workspace.workspaceEdit.documentChanges` in params,
+/// or None if it is absent.
 fn document_changes(params: &Value) -> Option<&Value>
     ensures { option_map (λ v. view v.now) result
         ≡ member_at_path (codes "capabilities"
@@ -69,6 +75,8 @@ fn document_changes(params: &Value) -> Option<&Value>
     workspace.get("workspaceEdit")?.get("documentChanges")
 }
 
+/// Returns the value at the path `capabilities.general.positionEncodings` in params, or None if it
+/// is absent.
 fn position_encodings(params: &Value) -> Option<&Value>
     ensures { option_map (λ v. view v.now) result
         ≡ member_at_path (codes "capabilities" ∷ codes "general" ∷ codes "positionEncodings" ∷ [])
@@ -102,6 +110,8 @@ fn is_object(member: Option<&Value>) -> bool
     }
 }
 
+/// Returns whether the client offers positions in bytes of UTF-8: whether
+/// `capabilities.general.positionEncodings` is a list that contains `utf-8`.
 fn offers_utf8(params: &Value) -> bool
     ensures { result ≡ (client_in (view params.now)).offers_utf8 }
 {
@@ -109,14 +119,14 @@ fn offers_utf8(params: &Value) -> bool
         return false;
     };
     match encodings.as_array() {
-        Some(items) => has_text(items, "utf-8"),
+        Some(items) => contains_text(items, "utf-8"),
         None => false,
     }
 }
 
 /// Returns whether one of these JSON values is a JSON string that equals `text`.
-fn has_text(items: &[Value], text: &str) -> bool
-    ensures { result ≡ has_text text.now (items_view items.now) }
+fn contains_text(items: &[Value], text: &str) -> bool
+    ensures { result ≡ contains_text text.now (items_view items.now) }
 {
     for item in items {
         if is_equal_text(item, text) {

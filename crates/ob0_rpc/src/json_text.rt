@@ -114,8 +114,8 @@ fn write_list_items<W: WriteJson>(out: &mut Vec<u8>, values: &[W]) -> Result<(),
 }
 
 /// Writes one item of a list of `count` items. If `needs_comma` is true, a comma is written before
-/// the item. If `needs_comma` is false, the item is the first, and capacity is reserved for the
-/// other items, as if each were about as long as the first.
+/// the item. Otherwise the item is the first, and capacity is reserved for the other items, as if
+/// each were about as long as the first.
 fn write_item_and_reserve<W: WriteJson>(
     out: &mut Vec<u8>,
     count: usize,
@@ -127,14 +127,14 @@ fn write_item_and_reserve<W: WriteJson>(
     let before = out.len();
     write_item(out, needs_comma, value)?;
     if !needs_comma {
-        out.reserve(capacity_for_rest(count, out.len().saturating_sub(before)))?;
+        out.reserve(capacity_for_other_items(count, out.len().saturating_sub(before)))?;
     }
     Ok(())
 }
 
-/// Returns the capacity in bytes to reserve for all but one of `count` items, if each is about
-/// `len` bytes long. The result is at most 2^26.
-fn capacity_for_rest(count: usize, len: usize) -> usize
+/// Returns the capacity in bytes to reserve for all but one of the `count` items of a list, if each
+/// is about `len` bytes long. The result is at most 2^26.
+fn capacity_for_other_items(count: usize, len: usize) -> usize
     ensures { result ≤ 2 ^ 26 }
 {
     let others = count.saturating_sub(1);
@@ -173,8 +173,8 @@ pub fn end_list(out: &mut Vec<u8>) -> Result<(), AllocError>
     write_piece(out, b"]")
 }
 
-/// Writes a piece of text unchanged, without escapes: for example a bracket, a comma, digits or the
-/// name of a member.
+/// Writes a piece of text unchanged, without escapes: for example a bracket, a brace, a comma,
+/// digits or the name of a member.
 pub(crate) fn write_piece(out: &mut Vec<u8>, piece: &[u8]) -> Result<(), AllocError>
     ensures { OnOk result (out.new.items ≡ out.old.items ++ piece.now) }
 {
@@ -186,13 +186,13 @@ fn write_json_string(out: &mut Vec<u8>, text: &str) -> Result<(), AllocError>
     ensures { OnOk result (Appends (string text.now) out.old.items out.new.items) }
 {
     write_piece(out, b"\"")?;
-    write_escaped(out, text.as_bytes())?;
+    write_escaped_text(out, text.as_bytes())?;
     write_piece(out, b"\"")
 }
 
 /// Writes a text as it stands in a JSON string, but without the quotes around it. Characters that
 /// need an escape are escaped.
-pub(crate) fn write_escaped(out: &mut Vec<u8>, text: &[u8]) -> Result<(), AllocError>
+pub(crate) fn write_escaped_text(out: &mut Vec<u8>, text: &[u8]) -> Result<(), AllocError>
     ensures { OnOk result (out.new.items ≡ out.old.items ++ escape text.now) }
 {
     if needs_no_escape(text) {

@@ -24,9 +24,9 @@ pub use notifications::ClientNotification as Note;
 pub use objects::{OneMemberObject, end_object, write_first_member, write_next_member};
 pub use outgoing::{
     ErrorResponse, Notification, Response, ResponseError, answer_text, content_of, error,
-    notification_of,
+    notification_text,
 };
-pub use ranges::{write_piece_before, write_range_before};
+pub use ranges::{write_piece_ending_at, write_range_ending_at};
 pub use requests::{ClientRequest, DocumentPosition, request};
 /// A short name for `ClientRequest`.
 pub use requests::ClientRequest as Call;

@@ -12,7 +12,7 @@ use ob0_text::Change;
 use serde_json::Value;
 use std::alloc::{AllocError, Global};
 
-/// A notification that the client has sent. `Other` is any method that the server ignores.
+/// A notification that the client has sent. `Other` is a notification that the server ignores.
 #[derive(Drop)]
 pub enum ClientNotification {
     Exit,
@@ -56,6 +56,7 @@ pub fn notice(alloc: Global, method: &str, params: Value) -> Result<ClientNotifi
     }
 }
 
+/// Reads the params of `textDocument/didOpen`. If they can't be read, returns `Unreadable`.
 fn read_open(alloc: Global, params: Value) -> Result<ClientNotification, AllocError>
     ensures { IfOk result (λ note. notification_view note
         ≡ open_or_unreadable (document_uri (view params)) (document_version (view params))
@@ -71,6 +72,7 @@ fn read_open(alloc: Global, params: Value) -> Result<ClientNotification, AllocEr
     }
 }
 
+/// Reads the params of `textDocument/didChange`. If they can't be read, returns `Unreadable`.
 fn read_change(alloc: Global, params: Value) -> Result<ClientNotification, AllocError>
     ensures { IfOk result (λ note. notification_view note
         ≡ change_or_unreadable (document_uri (view params)) (document_version (view params))
@@ -90,6 +92,7 @@ fn read_change(alloc: Global, params: Value) -> Result<ClientNotification, Alloc
     }
 }
 
+/// Reads the params of `textDocument/didClose`. If they can't be read, returns `Unreadable`.
 fn read_close(alloc: Global, params: &Value) -> Result<ClientNotification, AllocError>
     ensures { IfOk result (λ note. notification_view note ≡ close_or_unreadable (document_uri (view params.now))) }
 {

@@ -1,5 +1,5 @@
 //! Writes JSON objects member by member. `write_first_member` and `write_next_member` write a
-//! member's name unchanged, so the name must not need escapes.
+//! member's name unchanged, so no character of the name may need an escape.
 ghost use Rattle.std.specs.Prelude.{◌≡◌, ◌++◌, [], ◌∷◌, OnOk};
 ghost use Rattle.serde_json.specs.Data.{member, no_members, object};
 ghost use Rattle.ob0_rpc.specs.Appending.{AppendsMember};
@@ -7,8 +7,8 @@ ghost use Rattle.ob0_rpc.specs.Appending.{AppendsMember};
 use crate::json_text::{WriteJson, write_piece};
 use std::alloc::AllocError;
 
-/// Writes an object's opening bracket and its first member. `name` is written unchanged, so it must
-/// not need escapes.
+/// Writes an object's opening brace and its first member. `name` is written unchanged, so none of
+/// its characters may need an escape.
 #[inline(always)]
 pub fn write_first_member<W: WriteJson>(
     out: &mut Vec<u8>,
@@ -24,8 +24,8 @@ pub fn write_first_member<W: WriteJson>(
     value.write(out)
 }
 
-/// Writes a comma and another member of an object. `name` is written unchanged, so it must not need
-/// escapes.
+/// Writes a comma and another member of an object. `name` is written unchanged, so none of its
+/// characters may need an escape.
 #[inline(always)]
 pub fn write_next_member<W: WriteJson>(
     out: &mut Vec<u8>,
@@ -41,7 +41,7 @@ pub fn write_next_member<W: WriteJson>(
     value.write(out)
 }
 
-/// Writes the bracket that closes an object.
+/// Writes the brace that closes an object.
 #[inline(always)]
 pub fn end_object(out: &mut Vec<u8>) -> Result<(), AllocError>
     ensures { OnOk result (out.new.items ≡ out.old.items ++ 125 ∷ []) }

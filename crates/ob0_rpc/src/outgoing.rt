@@ -1,7 +1,7 @@
 //! Defines the messages that a server sends (JSON-RPC 2.0), as types.
 ghost use Rattle.std.specs.Prelude.{◌≤◌, IfOk, option_map};
 ghost use Rattle.serde_json.specs.Data.{depth};
-ghost use Rattle.ob0_rpc.specs.Shapes.{result_message, error_message, notification_message, error_value};
+ghost use Rattle.ob0_rpc.specs.Shapes.{result_message, error_response_message, notification_message, error_value};
 ghost use Rattle.ob0_rpc.specs.MessageViews.{id_data, id_or_null};
 ghost use Rattle.ob0_rpc.specs.Writing.{FitsInMessage, Writes};
 
@@ -54,7 +54,7 @@ pub struct ErrorResponse<'a> {
 }
 
 impl<'a> WriteJson for ErrorResponse<'a> {
-    ghost value = { λ r. error_message (id_or_null (option_map (λ i. i.now) r.id))
+    ghost value = { λ r. error_response_message (id_or_null (option_map (λ i. i.now) r.id))
         r.error.code r.error.message.now };
 
     fn write(&self, out: &mut Vec<u8>) -> Result<(), AllocError> {
@@ -132,7 +132,7 @@ pub fn error(
     message: &str,
 ) -> Result<Vec<u8>, AllocError>
     ensures { IfOk result (λ bytes. Writes
-        (error_message (id_or_null (option_map (λ i. i.now) id.entry)) code message.now)
+        (error_response_message (id_or_null (option_map (λ i. i.now) id.entry)) code message.now)
         bytes.items) }
 {
     let error = ResponseError { code, message };
@@ -141,7 +141,7 @@ pub fn error(
 
 /// Returns the JSON text of a notification. If the params are nested at most 126 deep, the text
 /// reads back as that notification.
-pub fn notification_of<W: WriteJson>(
+pub fn notification_text<W: WriteJson>(
     alloc: Global,
     method: &str,
     params: &W,

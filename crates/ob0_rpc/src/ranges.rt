@@ -1,6 +1,6 @@
 //! Writes positions, ranges and edits as JSON. The text of a range is built backwards, from its
-//! last byte to its first. A number yields its last digit first, so each digit is written directly
-//! into its final place.
+//! last byte to its first. A number's digits are computed from the last to the first, so each digit
+//! is written directly to its final position in the buffer.
 //!
 //! The text of a range is built in a fixed array on the stack and copied once. If it were appended
 //! piece by piece, each piece would cost a capacity check and a copy.
@@ -10,7 +10,7 @@ ghost use Rattle.serde_json.specs.Written.{compact_text};
 ghost use Rattle.ob0_rpc.specs.Appending.{Appends, ReadsBack};
 ghost use Rattle.ob0_rpc.specs.Shapes.{edit_value, position_value, range_value};
 
-use crate::json_text::{WriteJson, write_escaped, write_piece};
+use crate::json_text::{WriteJson, write_escaped_text, write_piece};
 use crate::objects::{end_object, write_first_member, write_next_member};
 use itoa::write_digits;
 use ob0_text::{Edit, Position, Range};
@@ -19,7 +19,7 @@ use std::alloc::AllocError;
 /// The size in bytes of the buffer in which the text of a range is built. The range takes at most
 /// 160 bytes. The other 16 bytes are for the text of an edit around its range: `","range":` before
 /// the range, and `}` after it.
-const RANGE_CAPACITY: usize = 176;
+const RANGE_BUFFER_SIZE: usize = 176;
 
 impl WriteJson for Position {
     ghost value = { λ p. position_value p };
@@ -44,22 +44,22 @@ impl WriteJson for Edit {
 
     fn write(&self, out: &mut Vec<u8>) -> Result<(), AllocError> {
         write_piece(out, b"{\"newText\":\"")?;
-        write_escaped(out, self.text.as_str().as_bytes())?;
+        write_escaped_text(out, self.text.as_str().as_bytes())?;
         write_edit_range(out, self.range.start, self.range.end)
     }
 }
 
 /// Writes the part of an edit that follows its new text: the closing quote of the new text, the
-/// member `range`, and the closing bracket of the edit.
+/// member `range`, and the closing brace of the edit.
 fn write_edit_range(out: &mut Vec<u8>, start: Position, end: Position) -> Result<(), AllocError>
     ensures text { OnOk result (out.new.items ≡ out.old.items
         ++ (codes "\",\"range\":" ++ (compact_text (range_value start end) ++ 125 ∷ []))) }
     ensures reads { ReadsBack (range_value start end) }
 {
-    let mut buffer = [0; RANGE_CAPACITY];
-    let following = write_piece_before(&mut buffer, RANGE_CAPACITY, b"}");
-    let at_range = write_range_before(&mut buffer, following, start, end);
-    let at = write_piece_before(&mut buffer, at_range, b"\",\"range\":");
+    let mut buffer = [0; RANGE_BUFFER_SIZE];
+    let following = write_piece_ending_at(&mut buffer, RANGE_BUFFER_SIZE, b"}");
+    let at_range = write_range_ending_at(&mut buffer, following, start, end);
+    let at = write_piece_ending_at(&mut buffer, at_range, b"\",\"range\":");
     write_piece(out, &buffer[at..])
 }
 
@@ -67,47 +67,47 @@ fn write_edit_range(out: &mut Vec<u8>, start: Position, end: Position) -> Result
 fn write_range(out: &mut Vec<u8>, start: Position, end: Position) -> Result<(), AllocError>
     ensures { OnOk result (Appends (range_value start end) out.old.items out.new.items) }
 {
-    let mut buffer = [0; RANGE_CAPACITY];
-    let at = write_range_before(&mut buffer, RANGE_CAPACITY, start, end);
+    let mut buffer = [0; RANGE_BUFFER_SIZE];
+    let at = write_range_ending_at(&mut buffer, RANGE_BUFFER_SIZE, start, end);
     write_piece(out, &buffer[at..])
 }
 
 /// Writes the JSON text of the range from `start` to `end` into the buffer. The text takes at most
 /// 160 bytes, and ends right before the index `at`. Returns the index of the first byte written.
-pub fn write_range_before(buffer: &mut [u8], at: usize, start: Position, end: Position) -> usize
+pub fn write_range_ending_at(buffer: &mut [u8], at: usize, start: Position, end: Position) -> usize
     requires { (160 ≤ at) × (at ≤ length buffer.old) }
     ensures within { (at ≤ result + 160) × (result ≤ at) }
     ensures text { drop result buffer.new
         ≡ compact_text (range_value start end) ++ drop at buffer.old }
     ensures reads { ReadsBack (range_value start end) }
 {
-    let index_after_start = write_piece_before(buffer, at, b"}");
-    let at_start = write_position_before(buffer, index_after_start, start);
-    let index_after_end = write_piece_before(buffer, at_start, b",\"start\":");
-    let at_end = write_position_before(buffer, index_after_end, end);
-    write_piece_before(buffer, at_end, b"{\"end\":")
+    let index_after_start = write_piece_ending_at(buffer, at, b"}");
+    let at_start = write_position_ending_at(buffer, index_after_start, start);
+    let index_after_end = write_piece_ending_at(buffer, at_start, b",\"start\":");
+    let at_end = write_position_ending_at(buffer, index_after_end, end);
+    write_piece_ending_at(buffer, at_end, b"{\"end\":")
 }
 
 /// Writes a position's JSON text into the buffer. The text takes at most 62 bytes, and ends right
 /// before the index `at`. Returns the index of the first byte written.
-fn write_position_before(buffer: &mut [u8], at: usize, position: Position) -> usize
+fn write_position_ending_at(buffer: &mut [u8], at: usize, position: Position) -> usize
     requires { (62 ≤ at) × (at ≤ length buffer.old) }
     ensures within { (at ≤ result + 62) × (result ≤ at) }
     ensures text { drop result buffer.new
         ≡ compact_text (position_value position) ++ drop at buffer.old }
     ensures reads { ReadsBack (position_value position) }
 {
-    let index_after_line = write_piece_before(buffer, at, b"}");
-    let at_line = write_digits_before(buffer, index_after_line, position.line);
-    let index_after_character = write_piece_before(buffer, at_line, b",\"line\":");
-    let at_character = write_digits_before(buffer, index_after_character, position.character);
-    write_piece_before(buffer, at_character, b"{\"character\":")
+    let index_after_line = write_piece_ending_at(buffer, at, b"}");
+    let at_line = write_digits_ending_at(buffer, index_after_line, position.line);
+    let index_after_character = write_piece_ending_at(buffer, at_line, b",\"line\":");
+    let at_character = write_digits_ending_at(buffer, index_after_character, position.character);
+    write_piece_ending_at(buffer, at_character, b"{\"character\":")
 }
 
 /// Writes the decimal digits of `count` into the buffer. The digits end right before the index
 /// `at`. Returns the index of the first digit.
 #[inline(always)]
-fn write_digits_before(buffer: &mut [u8], at: usize, count: u64) -> usize
+fn write_digits_ending_at(buffer: &mut [u8], at: usize, count: u64) -> usize
     requires { (20 ≤ at) × (at ≤ length buffer.old) }
     ensures within { (at ≤ result + 20) × (result ≤ at) }
     ensures text { drop result buffer.new ≡ decimal count ++ drop at buffer.old }
@@ -119,7 +119,7 @@ fn write_digits_before(buffer: &mut [u8], at: usize, count: u64) -> usize
 /// Writes a piece of text into the buffer. The piece ends right before the index `at`. Returns the
 /// index at which the piece begins.
 #[inline(always)]
-pub fn write_piece_before(buffer: &mut [u8], at: usize, piece: &[u8]) -> usize
+pub fn write_piece_ending_at(buffer: &mut [u8], at: usize, piece: &[u8]) -> usize
     requires { (length piece.now ≤ at) × (at ≤ length buffer.old) }
     ensures start { result + length piece.now ≡ at }
     ensures text { drop result buffer.new ≡ piece.now ++ drop at buffer.old }

@@ -2,7 +2,7 @@
 ghost use Rattle.std.specs.Prelude.{◌≡◌, IfOk, option_map, option_and_then, map, string_bytes, codes};
 ghost use Rattle.serde_json.specs.Find.{get};
 ghost use Rattle.serde_json.specs.View.{view, items_view};
-ghost use Rattle.ob0_text.specs.Indents.{spaces_in_level};
+ghost use Rattle.ob0_text.specs.Indents.{indent_spaces_for_tab_size};
 ghost use Rattle.ob0_rpc.specs.Requesting as asks;
 ghost use Rattle.ob0_rpc.specs.Requesting.{document_place_of, request_by_method, references_request_of, rename_request_of, code_action_request_of, formatting_request_of, document_request_by_method, optional_texts, requested_kinds, texts_of as texts_in, indent_of as indent_in, or_bad_params, initialize_request_of};
 ghost use Rattle.ob0_rpc.specs.Members.{bool_member};
@@ -93,6 +93,7 @@ fn read_document_request(
     }
 }
 
+/// Reads the params of `initialize`. If they aren't an object, the fault is `BadParams`.
 fn read_initialize(params: &Value) -> Result<ClientRequest, RpcFault>
     ensures { ReadsClientRequest (or_bad_params (initialize_request_of (view params.now))) result }
 {
@@ -103,37 +104,42 @@ fn read_initialize(params: &Value) -> Result<ClientRequest, RpcFault>
     }
 }
 
+/// Reads the params of `textDocument/hover`. If they can't be read, the fault is `BadParams`.
 fn read_hover(alloc: Global, params: &Value) -> Result<ClientRequest, RpcFault>
     ensures { ReadsClientRequest (or_bad_params (option_map asks.hover (document_place_of (view params.now)))) result }
 {
-    let Some(place) = read_uri_position(alloc, params)? else {
+    let Some(place) = read_document_position(alloc, params)? else {
         return Err(RpcFault::BadParams);
     };
     Ok(ClientRequest::Hover(place))
 }
 
+/// Reads the params of `textDocument/definition`. If they can't be read, the fault is `BadParams`.
 fn read_definition(alloc: Global, params: &Value) -> Result<ClientRequest, RpcFault>
     ensures { ReadsClientRequest (or_bad_params (option_map asks.definition (document_place_of (view params.now)))) result }
 {
-    let Some(place) = read_uri_position(alloc, params)? else {
+    let Some(place) = read_document_position(alloc, params)? else {
         return Err(RpcFault::BadParams);
     };
     Ok(ClientRequest::Definition(place))
 }
 
+/// Reads the params of `textDocument/prepareRename`. If they can't be read, the fault is
+/// `BadParams`.
 fn read_prepare_rename(alloc: Global, params: &Value) -> Result<ClientRequest, RpcFault>
     ensures { ReadsClientRequest (or_bad_params (option_map asks.prepare_rename (document_place_of (view params.now)))) result }
 {
-    let Some(place) = read_uri_position(alloc, params)? else {
+    let Some(place) = read_document_position(alloc, params)? else {
         return Err(RpcFault::BadParams);
     };
     Ok(ClientRequest::PrepareRename(place))
 }
 
+/// Reads the params of `textDocument/references`. If they can't be read, the fault is `BadParams`.
 fn read_references(alloc: Global, params: &Value) -> Result<ClientRequest, RpcFault>
     ensures { ReadsClientRequest (or_bad_params (references_request_of (view params.now))) result }
 {
-    let Some(place) = read_uri_position(alloc, params)? else {
+    let Some(place) = read_document_position(alloc, params)? else {
         return Err(RpcFault::BadParams);
     };
     let Some(include_declaration) = includes_declaration(params) else {
@@ -145,10 +151,11 @@ fn read_references(alloc: Global, params: &Value) -> Result<ClientRequest, RpcFa
     })
 }
 
+/// Reads the params of `textDocument/rename`. If they can't be read, the fault is `BadParams`.
 fn read_rename(alloc: Global, params: &Value) -> Result<ClientRequest, RpcFault>
     ensures { ReadsClientRequest (or_bad_params (rename_request_of (view params.now))) result }
 {
-    let Some(place) = read_uri_position(alloc, params)? else {
+    let Some(place) = read_document_position(alloc, params)? else {
         return Err(RpcFault::BadParams);
     };
     let Some(new_name) = text_in(params, "newName") else {
@@ -158,6 +165,7 @@ fn read_rename(alloc: Global, params: &Value) -> Result<ClientRequest, RpcFault>
     Ok(ClientRequest::Rename { place, new_name })
 }
 
+/// Reads the params of `textDocument/codeAction`. If they can't be read, the fault is `BadParams`.
 fn read_code_action(alloc: Global, params: &Value) -> Result<ClientRequest, RpcFault>
     ensures { ReadsClientRequest (or_bad_params (code_action_request_of (view params.now))) result }
 {
@@ -174,6 +182,7 @@ fn read_code_action(alloc: Global, params: &Value) -> Result<ClientRequest, RpcF
     Ok(ClientRequest::CodeAction { uri, range, only })
 }
 
+/// Reads the params of `textDocument/formatting`. If they can't be read, the fault is `BadParams`.
 fn read_formatting(alloc: Global, params: &Value) -> Result<ClientRequest, RpcFault>
     ensures { ReadsClientRequest (or_bad_params (formatting_request_of (view params.now))) result }
 {
@@ -189,7 +198,10 @@ fn read_formatting(alloc: Global, params: &Value) -> Result<ClientRequest, RpcFa
 
 /// Reads the uri of a document (`textDocument.uri`) and the member `position` from params. Returns
 /// None if either can't be read.
-fn read_uri_position(alloc: Global, params: &Value) -> Result<Option<DocumentPosition>, AllocError>
+fn read_document_position(
+    alloc: Global,
+    params: &Value,
+) -> Result<Option<DocumentPosition>, AllocError>
     ensures { IfOk result (λ found. option_map document_place_view found ≡ document_place_of (view params.now)) }
 {
     let Some(uri) = uri_of(params) else {
@@ -203,7 +215,7 @@ fn read_uri_position(alloc: Global, params: &Value) -> Result<Option<DocumentPos
 }
 
 /// Returns the member `includeDeclaration` of the object `context` in params. Returns None if the
-/// object is missing or the member isn't a boolean.
+/// object is missing, or if the member is missing or isn't a boolean.
 fn includes_declaration(params: &Value) -> Option<bool>
     ensures { result
         ≡ option_and_then (bool_member (codes "includeDeclaration"))
@@ -230,7 +242,7 @@ fn indent_of(params: &Value) -> Option<Indent>
 /// Returns the number of spaces for one level of indentation. That is the requested number `size`,
 /// raised to 1 or lowered to [`MAX_INDENT`] if it lies outside that range.
 fn spaces_per_level(size: u64) -> u8
-    ensures { result ≡ spaces_in_level size }
+    ensures { result ≡ indent_spaces_for_tab_size size }
 {
     size.min(MAX_INDENT as u64).max(1) as u8
 }

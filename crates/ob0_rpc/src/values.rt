@@ -18,7 +18,7 @@ pub fn result(alloc: Global, id: &Id, value: Value) -> Result<Vec<u8>, AllocErro
         → FitsInMessage (view value)
         → Writes (result_message (id_data id.now) (view value)) bytes.items) }
 {
-    let message = result_value(alloc, id, value)?;
+    let message = response_value(alloc, id, value)?;
     text_of(alloc, &message)
 }
 
@@ -34,7 +34,7 @@ pub fn notification(alloc: Global, method: &str, params: Value) -> Result<Vec<u8
 }
 
 /// Returns the JSON value of the answer to a request, with `value` as its result.
-fn result_value(alloc: Global, id: &Id, value: Value) -> Result<Value, AllocError>
+fn response_value(alloc: Global, id: &Id, value: Value) -> Result<Value, AllocError>
     ensures { IfOk result (λ v. view v ≡ result_message (id_data id.now) (view value)) }
 {
     let id = id_value(alloc, id)?;

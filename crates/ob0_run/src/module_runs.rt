@@ -1,9 +1,10 @@
 //! Lowers and runs well-typed modules.
 //!
 //! The contract of `lower` follows from two facts. First, the lowered program is correct code for
-//! the module (`ProgramMeans`). Second, a correct program for a well-typed module has the module's
-//! run, if the machine has room for the run's cells (`lowering_keeps_runs`). So `lower` ensures
-//! `RunsAs`. `execute` returns the run of each module for which the program has `RunsAs`.
+//! the module (`ProgramMeansModule`). Second, a correct program for a well-typed module has the
+//! module's run, if the machine has room for the run's cells (`lowering_keeps_runs`). So `lower`
+//! ensures `RunsAs`. If `RunsAs` holds for a module and a program, `execute` returns the module's
+//! run.
 
 ghost use Rattle.std.specs.Prelude.{◌≡◌, IfOk};
 ghost use Rattle.ob0_tree.specs.ParsedModule.{named_tree_of};
@@ -12,7 +13,7 @@ ghost use Rattle.ob0_language_names.specs.Names.{Name, naming_by_label};
 ghost use Rattle.ob0_language_names.specs.Scopes.{numbered};
 ghost use Rattle.ob0_language_runs.specs.Runs.{run};
 ghost use Rattle.ob0_run_machine.specs.View.{program_of};
-ghost use Rattle.ob0_run_cells.specs.Activations.{ProgramMeans};
+ghost use Rattle.ob0_run_cells.specs.Activations.{ProgramMeansModule};
 ghost use Rattle.ob0_run.specs.Outcomes.{run_of};
 ghost use Rattle.ob0_run.specs.Programs.{RunsAs};
 
@@ -29,7 +30,7 @@ use std::alloc::{AllocError, Global};
 /// An allocation failed, or a count, for example of cells, has more than 64 bits.
 pub fn lower(alloc: Global, checked: &WellTyped<'_>) -> Result<Program, AllocError>
     ensures runs { IfOk result (RunsAs (named_tree_of checked.now.module_read)) }
-    ensures means { IfOk result (λ made. ProgramMeans naming_by_label
+    ensures means { IfOk result (λ made. ProgramMeansModule naming_by_label
         (numbered (named_tree_of checked.now.module_read)) (program_of made.code)) }
 {
     lowering_keeps_runs();

@@ -9,7 +9,7 @@ use Rattle.ob0_language_types.specs.WellTyped.{TypeMeanings}
 use Rattle.ob0_language_values.specs.Values.{Outcome, Value, add, add_short_circuits, ends_run_with, succeeds_with, multiply, multiply_short_circuits, number, apply_sign, ◌>>=◌}
 use Rattle.ob0_run_machine.specs.Evaluation as machine
 use Rattle.ob0_run_machine.specs.Lowered as lowered
-use Rattle.ob0_run_cells.specs.Lowering.{OutcomeByMoment, Moment, NumberStartsChain, NumberMeans, RestOfChain, Slot, remaining_addends, cells_in, remaining_multipliers, value_of_factor, value_of_simple, value_of_term}
+use Rattle.ob0_run_cells.specs.Lowering.{OutcomeByMoment, Moment, NumberStartsChain, NumberMeans, RestOfChain, Slot, outcome_of_remaining_addends, cells_at_moment, outcome_of_remaining_multipliers, value_of_factor, value_of_simple, value_of_term}
 use Rattle.ob0_run_cells.proofs.LoweredOutcomes.{Operates, gives-then, grouped-then, checked_number-same, outcome-then, plus-same, followed_by}
 
 pub each-then : {A B : Type 0} (o : Outcome A) (f g : A → Outcome B) → ((a : A) → f a ≡ g a) → (o >>= f) ≡ (o >>= g)
@@ -26,14 +26,14 @@ module _ {N : Type 0} (checked : TypeMeanings N) (slots : N → Slot) where
   pub operation-means : (o : lowered.Operator) (op : Value → Value → Outcome Value) → Operates o op → (m n : lowered.Number) (v w : OutcomeByMoment N Value) → NumberMeans checked slots m v → NumberMeans checked slots n w
       → NumberMeans checked slots (lowered.operation o m n) (λ z. v z >>= (λ x. w z >>= op x))
   operation-means o op operates m n v w hm hn z shown =
-      outcome-then number number (machine.number z.levels (cells_in z) m) (v z) (λ a. followed_by (machine.number z.levels (cells_in z) n) (machine.operate o a)) (λ x. w z >>= op x) (hm z shown)
-      (λ a. outcome-then number number (machine.number z.levels (cells_in z) n) (w z) (machine.operate o a) (op (number a)) (hn z shown) (operates a))
+      outcome-then number number (machine.number z.levels (cells_at_moment z) m) (v z) (λ a. followed_by (machine.number z.levels (cells_at_moment z) n) (machine.apply_operator o a)) (λ x. w z >>= op x) (hm z shown)
+      (λ a. outcome-then number number (machine.number z.levels (cells_at_moment z) n) (w z) (machine.apply_operator o a) (op (number a)) (hn z shown) (operates a))
 
   pub plus-means : (n : lowered.Number) (v : OutcomeByMoment N Value) → NumberMeans checked slots n v → NumberMeans checked slots (lowered.operation lowered.sum n (lowered.literal (pos 0))) (λ z. v z >>= apply_sign (Some sign.Plus))
-  plus-means n v hn z shown = outcome-then number number (machine.number z.levels (cells_in z) n) (v z) (λ a. machine.operate lowered.sum a (pos 0)) (apply_sign (Some sign.Plus)) (hn z shown) plus-same
+  plus-means n v hn z shown = outcome-then number number (machine.number z.levels (cells_at_moment z) n) (v z) (λ a. machine.apply_operator lowered.sum a (pos 0)) (apply_sign (Some sign.Plus)) (hn z shown) plus-same
 
   pub negative-means : (n : lowered.Number) (v : OutcomeByMoment N Value) → NumberMeans checked slots n v → NumberMeans checked slots (lowered.negative n) (λ z. v z >>= apply_sign (Some sign.Minus))
-  negative-means n v hn z shown = outcome-then number number (machine.number z.levels (cells_in z) n) (v z) (λ a. machine.checked_number (neg_ℤ a)) (apply_sign (Some sign.Minus)) (hn z shown) (λ a. checked_number-same (neg_ℤ a))
+  negative-means n v hn z shown = outcome-then number number (machine.number z.levels (cells_at_moment z) n) (v z) (λ a. machine.checked_number (neg_ℤ a)) (apply_sign (Some sign.Minus)) (hn z shown) (λ a. checked_number-same (neg_ℤ a))
 
   -- where nothing is left
   pub number-whole : (n : lowered.Number) (rest : RestOfChain N Value) (whole : OutcomeByMoment N Value) → ((z : Moment N) (v : Value) → rest z v ≡ succeeds_with v) → NumberStartsChain checked slots n rest whole → NumberMeans checked slots n whole
@@ -43,48 +43,48 @@ module _ {N : Type 0} (checked : TypeMeanings N) (slots : N → Slot) where
       hv z shown ∙ same
 
   pub addend-leads : (o : AddOperator) (op : lowered.Operator) → Operates op (add o) → ((x : Value) → add_short_circuits o x ≡ false) → (m n : lowered.Number) (e : Tree N term) (rest : Tree N (items addend)) (whole : OutcomeByMoment N Value)
-      → NumberMeans checked slots n (value_of_term e) → NumberStartsChain checked slots m (remaining_addends (more (adds o e) rest)) whole → NumberStartsChain checked slots (lowered.operation op m n) (remaining_addends rest) whole
+      → NumberMeans checked slots n (value_of_term e) → NumberStartsChain checked slots m (outcome_of_remaining_addends (more (adds o e) rest)) whole → NumberStartsChain checked slots (lowered.operation op m n) (outcome_of_remaining_addends rest) whole
   unfolding evaluate
   addend-leads o op operates never m n e rest whole hn h =
       let (v, hv, ev) = h in (
         (λ z. v z >>= (λ x. value_of_term e z >>= add o x)),
         operation-means op (add o) operates m n v (value_of_term e) hv hn,
-        λ z shown. unsettled (v z) (add_short_circuits o) (λ x. value_of_term e z >>= add o x) (remaining_addends rest z) never ∙ ev z shown,
+        λ z shown. unsettled (v z) (add_short_circuits o) (λ x. value_of_term e z >>= add o x) (outcome_of_remaining_addends rest z) never ∙ ev z shown,
       )
 
   pub multiplier-leads : (o : MultiplyOperator) (op : lowered.Operator) → Operates op (multiply o) → ((x : Value) → multiply_short_circuits o x ≡ false) → (m n : lowered.Number) (f : Tree N factor) (rest : Tree N (items multiplier)) (whole : OutcomeByMoment N Value)
-      → NumberMeans checked slots n (value_of_factor f) → NumberStartsChain checked slots m (remaining_multipliers (more (multiplies o f) rest)) whole → NumberStartsChain checked slots (lowered.operation op m n) (remaining_multipliers rest) whole
+      → NumberMeans checked slots n (value_of_factor f) → NumberStartsChain checked slots m (outcome_of_remaining_multipliers (more (multiplies o f) rest)) whole → NumberStartsChain checked slots (lowered.operation op m n) (outcome_of_remaining_multipliers rest) whole
   unfolding evaluate
   multiplier-leads o op operates never m n f rest whole hn h =
       let (v, hv, ev) = h in (
         (λ z. v z >>= (λ x. value_of_factor f z >>= multiply o x)),
         operation-means op (multiply o) operates m n v (value_of_factor f) hv hn,
-        λ z shown. unsettled (v z) (multiply_short_circuits o) (λ x. value_of_factor f z >>= multiply o x) (remaining_multipliers rest z) never ∙ ev z shown,
+        λ z shown. unsettled (v z) (multiply_short_circuits o) (λ x. value_of_factor f z >>= multiply o x) (outcome_of_remaining_multipliers rest z) never ∙ ev z shown,
       )
 
-  pub product-begins : (f : Tree N factor) (rest : Tree N (items multiplier)) (n : lowered.Number) → NumberMeans checked slots n (value_of_factor f) → NumberStartsChain checked slots n (remaining_multipliers rest) (value_of_term (product f rest))
+  pub product-begins : (f : Tree N factor) (rest : Tree N (items multiplier)) (n : lowered.Number) → NumberMeans checked slots n (value_of_factor f) → NumberStartsChain checked slots n (outcome_of_remaining_multipliers rest) (value_of_term (product f rest))
   unfolding evaluate
   product-begins f rest n hn = (value_of_factor f, hn, λ z shown. refl)
 
-  pub sum-begins : (e : Tree N term) (rest : Tree N (items addend)) (n : lowered.Number) → NumberMeans checked slots n (value_of_term e) → NumberStartsChain checked slots n (remaining_addends rest) (value_of_simple (sum None e rest))
+  pub sum-begins : (e : Tree N term) (rest : Tree N (items addend)) (n : lowered.Number) → NumberMeans checked slots n (value_of_term e) → NumberStartsChain checked slots n (outcome_of_remaining_addends rest) (value_of_simple (sum None e rest))
   unfolding evaluate
   sum-begins e rest n hn = (value_of_term e, hn, λ z shown. refl)
 
   pub plus-begins : (e : Tree N term) (rest : Tree N (items addend)) (n : lowered.Number) → NumberMeans checked slots n (value_of_term e)
-      → NumberStartsChain checked slots (lowered.operation lowered.sum n (lowered.literal (pos 0))) (remaining_addends rest) (value_of_simple (sum (Some sign.Plus) e rest))
+      → NumberStartsChain checked slots (lowered.operation lowered.sum n (lowered.literal (pos 0))) (outcome_of_remaining_addends rest) (value_of_simple (sum (Some sign.Plus) e rest))
   unfolding evaluate
   plus-begins e rest n hn = (
     (λ z. value_of_term e z >>= apply_sign (Some sign.Plus)),
     plus-means n (value_of_term e) hn,
-    λ z shown. grouped-then (value_of_term e z) (apply_sign (Some sign.Plus)) (remaining_addends rest z),
+    λ z shown. grouped-then (value_of_term e z) (apply_sign (Some sign.Plus)) (outcome_of_remaining_addends rest z),
   )
 
-  pub minus-begins : (e : Tree N term) (rest : Tree N (items addend)) (n : lowered.Number) → NumberMeans checked slots n (value_of_term e) → NumberStartsChain checked slots (lowered.negative n) (remaining_addends rest) (value_of_simple (sum (Some sign.Minus) e rest))
+  pub minus-begins : (e : Tree N term) (rest : Tree N (items addend)) (n : lowered.Number) → NumberMeans checked slots n (value_of_term e) → NumberStartsChain checked slots (lowered.negative n) (outcome_of_remaining_addends rest) (value_of_simple (sum (Some sign.Minus) e rest))
   unfolding evaluate
   minus-begins e rest n hn = (
     (λ z. value_of_term e z >>= apply_sign (Some sign.Minus)),
     negative-means n (value_of_term e) hn,
-    λ z shown. grouped-then (value_of_term e z) (apply_sign (Some sign.Minus)) (remaining_addends rest z),
+    λ z shown. grouped-then (value_of_term e z) (apply_sign (Some sign.Minus)) (outcome_of_remaining_addends rest z),
   )
 
   pub integer-means : (n : ℕ) → NumberMeans checked slots (lowered.literal (pos n)) (value_of_factor (integer n))

@@ -12,7 +12,7 @@ use Rattle.ob0_language_runs.specs.TypeAgreement.{PlaceHasType, StoreTyping}
 use Rattle.ob0_run_machine.specs.Evaluation as machine
 use Rattle.ob0_run_machine.specs.Lowered as lowered
 use Rattle.ob0_run_cells.specs.Cells.{address}
-use Rattle.ob0_run_cells.specs.Lowering.{PlaceOutcomeFits, outcome_of, relation_of}
+use Rattle.ob0_run_cells.specs.Lowering.{PlaceOutcomeHasType, outcome_of, relation_of}
 
 abbrev pub followed_by : {A B : Type 0} → machine.StepResult A → (A → machine.StepResult B) → machine.StepResult B
 followed_by = machine.◌>>=◌
@@ -50,7 +50,7 @@ checked_division-same (Some n) = checked_number-same n
 
 -- operators between values, by those of lowered code
 abbrev pub Operates : lowered.Operator → (Value → Value → Outcome Value) → Type 0
-Operates o op = (a b : ℤ) → outcome_of number (machine.operate o a b) ≡ op (number a) (number b)
+Operates o op = (a b : ℤ) → outcome_of number (machine.apply_operator o a b) ≡ op (number a) (number b)
 
 pub sum-operates : Operates lowered.sum (add add_operator.Add)
 sum-operates a b = checked_number-same (a +ℤ b)
@@ -68,7 +68,7 @@ pub remainder-operates : Operates lowered.remainder (multiply multiply_operator.
 remainder-operates a b = checked_division-same (checked_division remainder a b)
 
 -- a sign `+`, as the sum with 0
-pub plus-same : (a : ℤ) → outcome_of number (machine.operate lowered.sum a (pos 0)) ≡ apply_sign (Some sign.Plus) (number a)
+pub plus-same : (a : ℤ) → outcome_of number (machine.apply_operator lowered.sum a (pos 0)) ≡ apply_sign (Some sign.Plus) (number a)
 plus-same a = let same : a +ℤ pos 0 ≡ a = omega (arith, ints) in checked_number-same (a +ℤ pos 0) ∙ ap checked_number same
 
 pub compare-same : (r : Relation) (a b : ℤ) → succeeds_with (truth (machine.compare (relation_of r) a b)) ≡ apply_relation r (number a) (number b)
@@ -89,7 +89,7 @@ same a = a
 -- what a place of lowered code is, and what the definition's is
 pub record Led (typing : StoreTyping) (s : Shape) (o : machine.StepResult ℕ) (w : Outcome Place) : Type 0 where
   pub is_same : outcome_of same o ≡ addresses typing w
-  pub is_place : PlaceOutcomeFits typing s w
+  pub is_place : PlaceOutcomeHasType typing s w
 
 pub given-same : {A : Type 0} (a b : A) → succeeds_with a ≡ succeeds_with b → a ≡ b
 given-same {A} a b e = ap (λ o. elim o [ succeeds_with x ↦ x | ends_run_with x ↦ a ]) e

@@ -6,15 +6,15 @@ use Rattle.ob0_tree.specs.Tree.{Tree, designator, end, expression, field, index,
 use Rattle.ob0_language_types.specs.Expressions.{Meanings, Object, a_constant, a_variable, designated_place, element_step, evaluate, evaluate_selectors, object_place, object_value}
 use Rattle.ob0_language_types.specs.Typing.{shape_of_field}
 use Rattle.ob0_language_types.specs.WellTyped.{Mode, TypeMeanings}
-use Rattle.ob0_language_values.specs.Values.{FieldShapes, Index, Outcome, Place, Shape, Step, Store, Value, Values, array_shape, at_field, at_index, value_at_path, boolean_shape, count_values, elements, ends_run_with, succeeds_with, integer_shape, number, or_stuck, part, read_place, record_shape, truth, ◌>>=◌}
-use Rattle.ob0_language_runs.specs.TypeAgreement.{HasShape, RunObjectAgrees, PlaceHasType, StoreHasTypes, StoreTyping, part_shape, shape_at_path}
+use Rattle.ob0_language_values.specs.Values.{FieldShapes, Index, Outcome, Place, Shape, Step, Store, Value, Values, array_shape, at_field, at_index, value_at_path, boolean_shape, count_values, elements, ends_run_with, succeeds_with, integer_shape, number, or_stuck, value_at_step, read_place, record_shape, truth, ◌>>=◌}
+use Rattle.ob0_language_runs.specs.TypeAgreement.{HasShape, RunObjectAgrees, PlaceHasType, StoreHasTypes, StoreTyping, shape_at_step, shape_at_path}
 use Rattle.ob0_language_runs.proofs.Sound.{is_elements}
 use Rattle.ob0_language_runs.proofs.SoundStatements.{slice_get-grows}
 use Rattle.ob0_run_machine.specs.Evaluation as machine
 use Rattle.ob0_run_machine.specs.Evaluation.{Levels}
 use Rattle.ob0_run_machine.specs.Lowered as lowered
-use Rattle.ob0_run_cells.specs.Cells.{address, all_cells, field_offset, offset, size, store_size, step_offset, truth_cell}
-use Rattle.ob0_run_cells.specs.Lowering.{OutcomeByMoment, PlaceOutcomeFits, Moment, NumberMeans, PlaceStartsChain, PlaceMeans, IsMomentOfModule, Slot, TruthMeans, HoldsValue, cells_in, extended_place, in_activation, by_reference, of_module, outcome_of, part_at, place_of_designator, remaining_selectors, slot_address, slot_place, value_of_expression, value_of_factor}
+use Rattle.ob0_run_cells.specs.Cells.{address, cells_of_store, field_offset, offset, size, store_size, step_offset, truth_cell}
+use Rattle.ob0_run_cells.specs.Lowering.{OutcomeByMoment, PlaceOutcomeHasType, Moment, NumberMeans, PlaceStartsChain, PlaceMeans, IsMomentOfModule, Slot, TruthMeans, PlaceHoldsValue, cells_at_moment, extended_place, in_activation, by_reference, of_module, outcome_of, place_at_offset, place_of_designator, outcome_of_remaining_selectors, slot_address, slot_place, value_of_expression, value_of_factor}
 use Rattle.ob0_run_cells.proofs.LoweredNumbers.{each-then}
 use Rattle.ob0_run_cells.proofs.LoweredOutcomes.{Led, addresses, add_offset-same, given-same, gives-then, grouped-then, led-then, same, stuck-then, followed_by}
 use Rattle.ob0_run_cells.proofs.Places.{numbers_are_cells, parts_have_addresses, place-lies, places_are_slices, truths_are_cells}
@@ -37,7 +37,7 @@ and-then-twice (Some a) f g h each = each a
 
 pub value_at_path-append : (path others : List Step) (v : Value) → value_at_path (path ++ others) v ≡ option_and_then (value_at_path others) (value_at_path path v)
 value_at_path-append [] others v = refl
-value_at_path-append (s ∷ path) others v = and-then-twice (part v s) (value_at_path (path ++ others)) (value_at_path others) (value_at_path path) (λ u. value_at_path-append path others u)
+value_at_path-append (s ∷ path) others v = and-then-twice (value_at_step v s) (value_at_path (path ++ others)) (value_at_path others) (value_at_path path) (λ u. value_at_path-append path others u)
 
 pub read-extended_place : (store : Store) (p : Place) (steps : List Step) → read_place store (extended_place p steps) ≡ option_and_then (value_at_path steps) (read_place store p)
 read-extended_place store p steps = and-then-twice (slice_get store p.variable) (value_at_path (p.path ++ steps)) (value_at_path steps) (value_at_path p.path) (λ v. value_at_path-append p.path steps v)
@@ -51,11 +51,11 @@ then-some (Some a) = refl
 
 -- selectors that are left, one step further
 pub left-extended_place : {N : Type 0} (z : Moment N) (p : Place) (s : Step) (rest : Tree N (items selector))
-    → remaining_selectors rest z (extended_place p (s ∷ [])) ≡ (or_stuck (read_place z.store p) >>= (λ u. or_stuck (part u s) >>= (λ w. evaluate_selectors z.active z.store w rest >>= (λ steps. succeeds_with (extended_place p (s ∷ steps))))))
+    → outcome_of_remaining_selectors rest z (extended_place p (s ∷ [])) ≡ (or_stuck (read_place z.store p) >>= (λ u. or_stuck (value_at_step u s) >>= (λ w. evaluate_selectors z.active z.store w rest >>= (λ steps. succeeds_with (extended_place p (s ∷ steps))))))
 left-extended_place z p s rest =
     ap (λ o. or_stuck o >>= (λ w. evaluate_selectors z.active z.store w rest >>= (λ steps. succeeds_with (extended_place (extended_place p (s ∷ [])) steps)))) (read-extended_place z.store p (s ∷ []))
     ∙ (stuck-then (read_place z.store p) (value_at_path (s ∷ [])) (λ w. evaluate_selectors z.active z.store w rest >>= (λ steps. succeeds_with (extended_place (extended_place p (s ∷ [])) steps)))
-    ∙ (λ i. or_stuck (read_place z.store p) >>= (λ u. or_stuck (then-some (part u s) i) >>= (λ w. evaluate_selectors z.active z.store w rest >>= (λ steps. succeeds_with (extended_place-extended_place p s steps i))))))
+    ∙ (λ i. or_stuck (read_place z.store p) >>= (λ u. or_stuck (then-some (value_at_step u s) i) >>= (λ w. evaluate_selectors z.active z.store w rest >>= (λ steps. succeeds_with (extended_place-extended_place p s steps i))))))
 
 -- the steps that a selector and the others make are those of the others after it
 pub step-first : (o : Outcome Value) (others : Value → Outcome (List Step)) (s : Step) (p : Place)
@@ -63,7 +63,7 @@ pub step-first : (o : Outcome Value) (others : Value → Outcome (List Step)) (s
 step-first (succeeds_with w) others s p = grouped-then (others w) (λ steps. succeeds_with (s ∷ steps)) (λ steps. succeeds_with (extended_place p steps))
 step-first (ends_run_with e) others s p = refl
 
-pub each-place : {B : Type 0} (typing : StoreTyping) (s : Shape) (w : Outcome Place) (f g : Place → Outcome B) → PlaceOutcomeFits typing s w → ((p : Place) → PlaceHasType typing p s → f p ≡ g p) → (w >>= f) ≡ (w >>= g)
+pub each-place : {B : Type 0} (typing : StoreTyping) (s : Shape) (w : Outcome Place) (f g : Place → Outcome B) → PlaceOutcomeHasType typing s w → ((p : Place) → PlaceHasType typing p s → f p ≡ g p) → (w >>= f) ≡ (w >>= g)
 each-place typing s (succeeds_with p) f g h each = each p h
 each-place typing s (ends_run_with e) f g h each = refl
 
@@ -97,13 +97,13 @@ extended_place-element (machine.gives a) (machine.gives (pos j)) n s at k = chos
     chosen false = refl
 extended_place-element _ _ n s at k = refl
 
--- a part is as much further on as its offset says
-pub part-address : (ls : Levels) (cells : List ℤ) (q : lowered.Place) (k : ℕ) → machine.address ls cells (part_at q k) ≡ followed_by (machine.address ls cells q) (λ a. machine.gives (machine.add_offset a k))
-part-address ls cells (lowered.in_module at) k = refl
-part-address ls cells (lowered.in_own_activation at) k = ap machine.gives (add_offset-twice (machine.innermost_level ls).base at k)
-part-address ls cells (lowered.outside up at) k = ap machine.gives (add_offset-twice (machine.level_at ls up).base at k)
-part-address ls cells (lowered.passed up i at) k = ap machine.gives (add_offset-twice (slot_address ls (by_reference up i)) at k)
-part-address ls cells (lowered.element q i n s at) k = extended_place-element (machine.address ls cells q) (machine.number ls cells i) n s at k
+-- the address of a place with an added offset is larger by this offset
+pub value_at_step-address : (ls : Levels) (cells : List ℤ) (q : lowered.Place) (k : ℕ) → machine.address ls cells (place_at_offset q k) ≡ followed_by (machine.address ls cells q) (λ a. machine.gives (machine.add_offset a k))
+value_at_step-address ls cells (lowered.in_module at) k = refl
+value_at_step-address ls cells (lowered.in_own_activation at) k = ap machine.gives (add_offset-twice (machine.innermost_level ls).base at k)
+value_at_step-address ls cells (lowered.outside up at) k = ap machine.gives (add_offset-twice (machine.level_at ls up).base at k)
+value_at_step-address ls cells (lowered.passed up i at) k = ap machine.gives (add_offset-twice (slot_address ls (by_reference up i)) at k)
+value_at_step-address ls cells (lowered.element q i n s at) k = extended_place-element (machine.address ls cells q) (machine.number ls cells i) n s at k
 
 -- an element without an offset
 from-start : (a : ℕ) (y : machine.StepResult ℤ) (n s : ℕ) → followed_by y (machine.element_address (machine.add_offset a 0) n s) ≡ followed_by y (machine.element_address a n s)
@@ -120,11 +120,11 @@ element-address ls cells q i n s = go (machine.address ls cells q)
 
 -- one step further, at a moment
 
-pub step-alone : (s t : Shape) (step : Step) → part_shape s step ≡ Some t → offset (step ∷ []) s ≡ step_offset s step
+pub step-alone : (s t : Shape) (step : Step) → shape_at_step s step ≡ Some t → offset (step ∷ []) s ≡ step_offset s step
 step-alone s t step e =
-    let h : unwrap_or (option_map (offset []) (part_shape s step)) 0 ≡ 0 = ap (λ o. unwrap_or (option_map (offset []) o) 0) e in omega (arith, h)
+    let h : unwrap_or (option_map (offset []) (shape_at_step s step)) 0 ≡ 0 = ap (λ o. unwrap_or (option_map (offset []) o) 0) e in omega (arith, h)
 
-pub step-led : (typing : StoreTyping) (store : Store) → StoreHasTypes typing store → store_size typing < 2 ^ 64 → (p : Place) (s t : Shape) (step : Step) → PlaceHasType typing p s → part_shape s step ≡ Some t
+pub step-led : (typing : StoreTyping) (store : Store) → StoreHasTypes typing store → store_size typing < 2 ^ 64 → (p : Place) (s t : Shape) (step : Step) → PlaceHasType typing p s → shape_at_step s step ≡ Some t
     → Led typing t (machine.gives (machine.add_offset (address typing p) (step_offset s step))) (succeeds_with (extended_place p (step ∷ [])))
 step-led typing store fits few p s t step fit e =
     let (is, there) = parts_have_addresses typing p (step ∷ []) s t fit (ap (option_and_then (shape_at_path [])) e) in
@@ -172,12 +172,12 @@ value-there {N} active store x path p e =
         ∙ sym (grouped-then (evaluate_selectors active store v path) (λ steps. succeeds_with (extended_place p steps)) (λ p. or_stuck (read_place store p)))
 
 pub number-there : (typing : StoreTyping) (store : Store) (passed : List ℤ) → StoreHasTypes typing store → (o : machine.StepResult ℕ) (w : Outcome Place) → Led typing integer_shape o w
-    → outcome_of number (followed_by o (λ a. machine.gives (machine.cell_at (all_cells store ++ passed) a))) ≡ (w >>= (λ p. or_stuck (read_place store p)))
+    → outcome_of number (followed_by o (λ a. machine.gives (machine.cell_at (cells_of_store store ++ passed) a))) ≡ (w >>= (λ p. or_stuck (read_place store p)))
 number-there typing store passed fits (machine.gives a) (succeeds_with p) h =
     let (found, writes) = numbers_are_cells typing store p fits h.is_place in
     let (n, read, cell) = found in
     let e : a ≡ address typing p = given-same a (address typing p) h.is_same in
-    ap (λ n. succeeds_with (number n)) (get_or_from_slice_get (all_cells store ++ passed) a n (pos 0) (ap (slice_get (all_cells store ++ passed)) e ∙ slice_get-grows (all_cells store) passed (address typing p) n cell)) ∙ sym (ap or_stuck read)
+    ap (λ n. succeeds_with (number n)) (get_or_from_slice_get (cells_of_store store ++ passed) a n (pos 0) (ap (slice_get (cells_of_store store ++ passed)) e ∙ slice_get-grows (cells_of_store store) passed (address typing p) n cell)) ∙ sym (ap or_stuck read)
 number-there typing store passed fits (machine.ends x) (ends_run_with y) h = ap (λ w. w >>= (λ a. ends_run_with y)) (h.is_same)
 number-there typing store passed fits _ _ h = let e = h.is_same in absurd (cc)
 
@@ -186,32 +186,32 @@ is_true-cell true = refl
 is_true-cell false = refl
 
 pub truth-there : (typing : StoreTyping) (store : Store) (passed : List ℤ) → StoreHasTypes typing store → (o : machine.StepResult ℕ) (w : Outcome Place) → Led typing boolean_shape o w
-    → outcome_of truth (followed_by o (λ a. machine.gives (machine.is_true (machine.cell_at (all_cells store ++ passed) a)))) ≡ (w >>= (λ p. or_stuck (read_place store p)))
+    → outcome_of truth (followed_by o (λ a. machine.gives (machine.is_true (machine.cell_at (cells_of_store store ++ passed) a)))) ≡ (w >>= (λ p. or_stuck (read_place store p)))
 truth-there typing store passed fits (machine.gives a) (succeeds_with p) h =
     let (found, writes) = truths_are_cells typing store p fits h.is_place in
     let (b, read, cell) = found in
     let e : a ≡ address typing p = given-same a (address typing p) h.is_same in
-    ap (λ n. succeeds_with (truth (machine.is_true n))) (get_or_from_slice_get (all_cells store ++ passed) a (truth_cell b) (pos 0) (ap (slice_get (all_cells store ++ passed)) e ∙ slice_get-grows (all_cells store) passed (address typing p) (truth_cell b) cell)) ∙ (ap (λ b. succeeds_with (truth b)) (is_true-cell b) ∙ sym (ap or_stuck read))
+    ap (λ n. succeeds_with (truth (machine.is_true n))) (get_or_from_slice_get (cells_of_store store ++ passed) a (truth_cell b) (pos 0) (ap (slice_get (cells_of_store store ++ passed)) e ∙ slice_get-grows (cells_of_store store) passed (address typing p) (truth_cell b) cell)) ∙ (ap (λ b. succeeds_with (truth b)) (is_true-cell b) ∙ sym (ap or_stuck read))
 truth-there typing store passed fits (machine.ends x) (ends_run_with y) h = ap (λ w. w >>= (λ a. ends_run_with y)) (h.is_same)
 truth-there typing store passed fits _ _ h = let e = h.is_same in absurd (cc)
 
 -- an index and the selectors after it, from a place that holds something
 pub index-left : {N : Type 0} (z : Moment N) (p : Place) (e : Tree N expression) (rest : Tree N (items selector)) (u : Value) → read_place z.store p ≡ Some u
-    → ((value_of_expression e z >>= (λ x. or_stuck (read_place z.store p) >>= (λ u. element_step u x >>= (λ s. succeeds_with (extended_place p (s ∷ [])))))) >>= remaining_selectors rest z) ≡ remaining_selectors (more (index e) rest) z p
+    → ((value_of_expression e z >>= (λ x. or_stuck (read_place z.store p) >>= (λ u. element_step u x >>= (λ s. succeeds_with (extended_place p (s ∷ [])))))) >>= outcome_of_remaining_selectors rest z) ≡ outcome_of_remaining_selectors (more (index e) rest) z p
 unfolding evaluate
 index-left z p e rest u eu =
-    ap (λ o. (value_of_expression e z >>= (λ x. or_stuck o >>= (λ u. element_step u x >>= (λ s. succeeds_with (extended_place p (s ∷ [])))))) >>= remaining_selectors rest z) eu
-    ∙ (grouped-then (value_of_expression e z) (λ x. element_step u x >>= (λ s. succeeds_with (extended_place p (s ∷ [])))) (remaining_selectors rest z)
-    ∙ (each-then (value_of_expression e z) (λ x. (element_step u x >>= (λ s. succeeds_with (extended_place p (s ∷ [])))) >>= remaining_selectors rest z) (λ x. (element_step u x >>= (λ s. or_stuck (part u s) >>= (λ w. evaluate_selectors z.active z.store w rest >>= (λ steps. succeeds_with (s ∷ steps))))) >>= (λ steps. succeeds_with (extended_place p steps)))
-    (λ x. grouped-then (element_step u x) (λ s. succeeds_with (extended_place p (s ∷ []))) (remaining_selectors rest z)
-    ∙ (each-then (element_step u x) (λ s. remaining_selectors rest z (extended_place p (s ∷ []))) (λ s. (or_stuck (part u s) >>= (λ w. evaluate_selectors z.active z.store w rest >>= (λ steps. succeeds_with (s ∷ steps)))) >>= (λ steps. succeeds_with (extended_place p steps)))
-    (λ s. left-extended_place z p s rest ∙ (ap (λ o. or_stuck o >>= (λ u. or_stuck (part u s) >>= (λ w. evaluate_selectors z.active z.store w rest >>= (λ steps. succeeds_with (extended_place p (s ∷ steps)))))) eu ∙ sym (step-first (or_stuck (part u s)) (λ w. evaluate_selectors z.active z.store w rest) s p)))
-    ∙ sym (grouped-then (element_step u x) (λ s. or_stuck (part u s) >>= (λ w. evaluate_selectors z.active z.store w rest >>= (λ steps. succeeds_with (s ∷ steps)))) (λ steps. succeeds_with (extended_place p steps)))))
-    ∙ (sym (grouped-then (value_of_expression e z) (λ x. element_step u x >>= (λ s. or_stuck (part u s) >>= (λ w. evaluate_selectors z.active z.store w rest >>= (λ steps. succeeds_with (s ∷ steps))))) (λ steps. succeeds_with (extended_place p steps)))
-    ∙ sym (ap (λ o. or_stuck o >>= (λ u. (value_of_expression e z >>= (λ x. element_step u x >>= (λ s. or_stuck (part u s) >>= (λ w. evaluate_selectors z.active z.store w rest >>= (λ steps. succeeds_with (s ∷ steps)))))) >>= (λ steps. succeeds_with (extended_place p steps)))) eu))))
+    ap (λ o. (value_of_expression e z >>= (λ x. or_stuck o >>= (λ u. element_step u x >>= (λ s. succeeds_with (extended_place p (s ∷ [])))))) >>= outcome_of_remaining_selectors rest z) eu
+    ∙ (grouped-then (value_of_expression e z) (λ x. element_step u x >>= (λ s. succeeds_with (extended_place p (s ∷ [])))) (outcome_of_remaining_selectors rest z)
+    ∙ (each-then (value_of_expression e z) (λ x. (element_step u x >>= (λ s. succeeds_with (extended_place p (s ∷ [])))) >>= outcome_of_remaining_selectors rest z) (λ x. (element_step u x >>= (λ s. or_stuck (value_at_step u s) >>= (λ w. evaluate_selectors z.active z.store w rest >>= (λ steps. succeeds_with (s ∷ steps))))) >>= (λ steps. succeeds_with (extended_place p steps)))
+    (λ x. grouped-then (element_step u x) (λ s. succeeds_with (extended_place p (s ∷ []))) (outcome_of_remaining_selectors rest z)
+    ∙ (each-then (element_step u x) (λ s. outcome_of_remaining_selectors rest z (extended_place p (s ∷ []))) (λ s. (or_stuck (value_at_step u s) >>= (λ w. evaluate_selectors z.active z.store w rest >>= (λ steps. succeeds_with (s ∷ steps)))) >>= (λ steps. succeeds_with (extended_place p steps)))
+    (λ s. left-extended_place z p s rest ∙ (ap (λ o. or_stuck o >>= (λ u. or_stuck (value_at_step u s) >>= (λ w. evaluate_selectors z.active z.store w rest >>= (λ steps. succeeds_with (extended_place p (s ∷ steps)))))) eu ∙ sym (step-first (or_stuck (value_at_step u s)) (λ w. evaluate_selectors z.active z.store w rest) s p)))
+    ∙ sym (grouped-then (element_step u x) (λ s. or_stuck (value_at_step u s) >>= (λ w. evaluate_selectors z.active z.store w rest >>= (λ steps. succeeds_with (s ∷ steps)))) (λ steps. succeeds_with (extended_place p steps)))))
+    ∙ (sym (grouped-then (value_of_expression e z) (λ x. element_step u x >>= (λ s. or_stuck (value_at_step u s) >>= (λ w. evaluate_selectors z.active z.store w rest >>= (λ steps. succeeds_with (s ∷ steps))))) (λ steps. succeeds_with (extended_place p steps)))
+    ∙ sym (ap (λ o. or_stuck o >>= (λ u. (value_of_expression e z >>= (λ x. element_step u x >>= (λ s. or_stuck (value_at_step u s) >>= (λ w. evaluate_selectors z.active z.store w rest >>= (λ steps. succeeds_with (s ∷ steps)))))) >>= (λ steps. succeeds_with (extended_place p steps)))) eu))))
 
 module _ {N : Type 0} (checked : TypeMeanings N) (slots : N → Slot) where
-  pub led-at : (q : lowered.Place) (s : Shape) (v : OutcomeByMoment N Place) → PlaceMeans checked slots q s v → (z : Moment N) → IsMomentOfModule checked slots z → Led z.typing s (machine.address z.levels (cells_in z) q) (v z)
+  pub led-at : (q : lowered.Place) (s : Shape) (v : OutcomeByMoment N Place) → PlaceMeans checked slots q s v → (z : Moment N) → IsMomentOfModule checked slots z → Led z.typing s (machine.address z.levels (cells_at_moment z) q) (v z)
   led-at q s v h z shown = record { is_same = (h z shown).0; is_place = (h z shown).1 }
 
   pub variable-leads : (x : N) (s : Shape) (path : Tree N (items selector)) → checked.object_for x ≡ Some (a_variable s) → PlaceStartsChain checked slots (slot_place (slots x)) s path (place_of_designator x path)
@@ -223,27 +223,27 @@ module _ {N : Type 0} (checked : TypeMeanings N) (slots : N → Slot) where
         let within = (places_are_slices z.typing z.store p s shown.store_fits fit).within in
         let few : store_size z.typing < 2 ^ 64 = shown.store_is_addressable in
         let bound : slot_address z.levels (slots x) < 2 ^ 64 = omega (arith, within, there, few) in (
-          ap (outcome_of same) (slot-found z.levels (cells_in z) (slots x) bound) ∙ (ap succeeds_with there ∙ sym (ap (λ o. addresses z.typing (object_place {P = List Mode} o)) ep)),
-          subst (λ o. PlaceOutcomeFits z.typing s (object_place {P = List Mode} o)) (sym ep) fit,
+          ap (outcome_of same) (slot-found z.levels (cells_at_moment z) (slots x) bound) ∙ (ap succeeds_with there ∙ sym (ap (λ o. addresses z.typing (object_place {P = List Mode} o)) ep)),
+          subst (λ o. PlaceOutcomeHasType z.typing s (object_place {P = List Mode} o)) (sym ep) fit,
         )),
     λ z shown. refl,
   )
 
   pub field-leads : (q : lowered.Place) (k : ℕ) (fs : FieldShapes) (x : N) (t : Shape) (rest : Tree N (items selector)) (whole : OutcomeByMoment N Place)
-      → PlaceStartsChain checked slots q (record_shape k fs) (more (field x) rest) whole → shape_of_field fs (checked.written x) ≡ Some t → PlaceStartsChain checked slots (part_at q (field_offset fs (checked.written x))) t rest whole
+      → PlaceStartsChain checked slots q (record_shape k fs) (more (field x) rest) whole → shape_of_field fs (checked.written x) ≡ Some t → PlaceStartsChain checked slots (place_at_offset q (field_offset fs (checked.written x))) t rest whole
   unfolding evaluate
   field-leads q k fs x t rest whole h e =
       let (v, hv, ev) = h in (
         (λ z. v z >>= (λ p. succeeds_with (extended_place p (at_field (checked.written x) ∷ [])))),
-        (λ z shown. let l = led-then z.typing (record_shape k fs) t (machine.address z.levels (cells_in z) q) (v z) (λ a. machine.gives (machine.add_offset a (field_offset fs (checked.written x)))) (λ p. succeeds_with (extended_place p (at_field (checked.written x) ∷ [])))
+        (λ z shown. let l = led-then z.typing (record_shape k fs) t (machine.address z.levels (cells_at_moment z) q) (v z) (λ a. machine.gives (machine.add_offset a (field_offset fs (checked.written x)))) (λ p. succeeds_with (extended_place p (at_field (checked.written x) ∷ [])))
             (led-at q (record_shape k fs) v hv z shown) (λ p fit. step-led z.typing z.store shown.store_fits shown.store_is_addressable p (record_shape k fs) t (at_field (checked.written x)) fit e) in
-            (ap (outcome_of same) (part-address z.levels (cells_in z) q (field_offset fs (checked.written x))) ∙ l.is_same, l.is_place)),
-        λ z shown. grouped-then (v z) (λ p. succeeds_with (extended_place p (at_field (checked.written x) ∷ []))) (remaining_selectors rest z)
-            ∙ (each-then (v z) (λ p. remaining_selectors rest z (extended_place p (at_field (checked.written x) ∷ []))) (remaining_selectors (more (field x) rest) z)
+            (ap (outcome_of same) (value_at_step-address z.levels (cells_at_moment z) q (field_offset fs (checked.written x))) ∙ l.is_same, l.is_place)),
+        λ z shown. grouped-then (v z) (λ p. succeeds_with (extended_place p (at_field (checked.written x) ∷ []))) (outcome_of_remaining_selectors rest z)
+            ∙ (each-then (v z) (λ p. outcome_of_remaining_selectors rest z (extended_place p (at_field (checked.written x) ∷ []))) (outcome_of_remaining_selectors (more (field x) rest) z)
             (λ p. left-extended_place z p (at_field (checked.written x)) rest
-            ∙ subst (λ y. (or_stuck (read_place z.store p) >>= (λ u. or_stuck (part u (at_field (checked.written x))) >>= (λ w. evaluate_selectors z.active z.store w rest >>= (λ steps. succeeds_with (extended_place p (at_field (checked.written x) ∷ steps))))))
-            ≡ (or_stuck (read_place z.store p) >>= (λ u. (or_stuck (part u (at_field y)) >>= (λ w. evaluate_selectors z.active z.store w rest >>= (λ steps. succeeds_with (at_field y ∷ steps)))) >>= (λ steps. succeeds_with (extended_place p steps))))) (shown.names_fit.1 x)
-            (sym (λ i. or_stuck (read_place z.store p) >>= (λ u. step-first (or_stuck (part u (at_field (checked.written x)))) (λ w. evaluate_selectors z.active z.store w rest) (at_field (checked.written x)) p i)))) ∙ ev z shown),
+            ∙ subst (λ y. (or_stuck (read_place z.store p) >>= (λ u. or_stuck (value_at_step u (at_field (checked.written x))) >>= (λ w. evaluate_selectors z.active z.store w rest >>= (λ steps. succeeds_with (extended_place p (at_field (checked.written x) ∷ steps))))))
+            ≡ (or_stuck (read_place z.store p) >>= (λ u. (or_stuck (value_at_step u (at_field y)) >>= (λ w. evaluate_selectors z.active z.store w rest >>= (λ steps. succeeds_with (at_field y ∷ steps)))) >>= (λ steps. succeeds_with (extended_place p steps))))) (shown.names_fit.1 x)
+            (sym (λ i. or_stuck (read_place z.store p) >>= (λ u. step-first (or_stuck (value_at_step u (at_field (checked.written x)))) (λ w. evaluate_selectors z.active z.store w rest) (at_field (checked.written x)) p i)))) ∙ ev z shown),
       )
 
   pub index-leads : (q : lowered.Place) (k n : ℕ) (t : Shape) (e : Tree N expression) (i : lowered.Number) (rest : Tree N (items selector)) (whole : OutcomeByMoment N Place)
@@ -252,11 +252,11 @@ module _ {N : Type 0} (checked : TypeMeanings N) (slots : N → Slot) where
   index-leads q k n t e i rest whole h hi =
       let (v, hv, ev) = h in (
         (λ z. v z >>= (λ p. value_of_expression e z >>= (λ x. or_stuck (read_place z.store p) >>= (λ u. element_step u x >>= (λ s. succeeds_with (extended_place p (s ∷ []))))))),
-        (λ z shown. let l = led-then z.typing (array_shape k n t) t (machine.address z.levels (cells_in z) q) (v z) (λ a. followed_by (machine.number z.levels (cells_in z) i) (machine.element_address a n (size t))) (λ p. value_of_expression e z >>= (λ x. or_stuck (read_place z.store p) >>= (λ u. element_step u x >>= (λ s. succeeds_with (extended_place p (s ∷ []))))))
-            (led-at q (array_shape k n t) v hv z shown) (λ p fit. index-led z.typing z.store shown.store_fits shown.store_is_addressable p k n t fit (machine.number z.levels (cells_in z) i) (value_of_expression e z) (hi z shown)) in
-            (ap (outcome_of same) (element-address z.levels (cells_in z) q i n (size t)) ∙ l.is_same, l.is_place)),
-        λ z shown. grouped-then (v z) (λ p. value_of_expression e z >>= (λ x. or_stuck (read_place z.store p) >>= (λ u. element_step u x >>= (λ s. succeeds_with (extended_place p (s ∷ [])))))) (remaining_selectors rest z)
-            ∙ (each-place z.typing (array_shape k n t) (v z) (λ p. (value_of_expression e z >>= (λ x. or_stuck (read_place z.store p) >>= (λ u. element_step u x >>= (λ s. succeeds_with (extended_place p (s ∷ [])))))) >>= remaining_selectors rest z) (remaining_selectors (more (index e) rest) z) (hv z shown).1
+        (λ z shown. let l = led-then z.typing (array_shape k n t) t (machine.address z.levels (cells_at_moment z) q) (v z) (λ a. followed_by (machine.number z.levels (cells_at_moment z) i) (machine.element_address a n (size t))) (λ p. value_of_expression e z >>= (λ x. or_stuck (read_place z.store p) >>= (λ u. element_step u x >>= (λ s. succeeds_with (extended_place p (s ∷ []))))))
+            (led-at q (array_shape k n t) v hv z shown) (λ p fit. index-led z.typing z.store shown.store_fits shown.store_is_addressable p k n t fit (machine.number z.levels (cells_at_moment z) i) (value_of_expression e z) (hi z shown)) in
+            (ap (outcome_of same) (element-address z.levels (cells_at_moment z) q i n (size t)) ∙ l.is_same, l.is_place)),
+        λ z shown. grouped-then (v z) (λ p. value_of_expression e z >>= (λ x. or_stuck (read_place z.store p) >>= (λ u. element_step u x >>= (λ s. succeeds_with (extended_place p (s ∷ [])))))) (outcome_of_remaining_selectors rest z)
+            ∙ (each-place z.typing (array_shape k n t) (v z) (λ p. (value_of_expression e z >>= (λ x. or_stuck (read_place z.store p) >>= (λ u. element_step u x >>= (λ s. succeeds_with (extended_place p (s ∷ [])))))) >>= outcome_of_remaining_selectors rest z) (outcome_of_remaining_selectors (more (index e) rest) z) (hv z shown).1
             (λ p fit. let (u, eu, hu, write, made, keeps, lies) = place-lies z.typing z.store p (array_shape k n t) shown.store_fits fit in index-left z p e rest u eu) ∙ ev z shown),
       )
 
@@ -264,24 +264,24 @@ module _ {N : Type 0} (checked : TypeMeanings N) (slots : N → Slot) where
   unfolding evaluate
   selectors-end q s whole h z shown =
       let (v, hv, ev) = h in
-      let same_place : v z ≡ whole z = sym (gives-then (v z)) ∙ (each-place z.typing s (v z) succeeds_with (remaining_selectors end z) (hv z shown).1
+      let same_place : v z ≡ whole z = sym (gives-then (v z)) ∙ (each-place z.typing s (v z) succeeds_with (outcome_of_remaining_selectors end z) (hv z shown).1
       (λ p fit. let (u, eu, hu, write, made, keeps, lies) = place-lies z.typing z.store p s shown.store_fits fit in
       ap (λ path. succeeds_with record { variable = p.variable; path = path }) (sym (append-nil p.path)) ∙ sym (ap (λ o. or_stuck o >>= (λ v. succeeds_with (extended_place p []))) eu)) ∙ ev z shown) in (
         (hv z shown).0 ∙ ap (addresses z.typing) same_place,
-        subst (PlaceOutcomeFits z.typing s) same_place (hv z shown).1,
+        subst (PlaceOutcomeHasType z.typing s) same_place (hv z shown).1,
       )
 
   pub cell-means : (x : N) (s : Shape) (path : Tree N (items selector)) (q : lowered.Place) → checked.object_for x ≡ Some (a_variable s) → PlaceMeans checked slots q integer_shape (place_of_designator x path) → NumberMeans checked slots (lowered.cell q) (value_of_factor (designator x path))
   unfolding evaluate designated_place
   cell-means x s path q e h z shown =
       let (p, ep, fit) = variable-is z.typing s (z.active.object_for x) (subst (λ o. RunObjectAgrees z.typing o (z.active.object_for x)) e (shown.names_fit.0 x)) in
-      number-there z.typing z.store z.passed_cells shown.store_fits (machine.address z.levels (cells_in z) q) (place_of_designator x path z) (led-at q integer_shape (place_of_designator x path) h z shown) ∙ sym (value-there z.active z.store x path p ep)
+      number-there z.typing z.store z.passed_cells shown.store_fits (machine.address z.levels (cells_at_moment z) q) (place_of_designator x path z) (led-at q integer_shape (place_of_designator x path) h z shown) ∙ sym (value-there z.active z.store x path p ep)
 
   pub flag-means : (x : N) (s : Shape) (path : Tree N (items selector)) (q : lowered.Place) → checked.object_for x ≡ Some (a_variable s) → PlaceMeans checked slots q boolean_shape (place_of_designator x path) → TruthMeans checked slots (lowered.flag q) (value_of_factor (designator x path))
   unfolding evaluate designated_place
   flag-means x s path q e h z shown =
       let (p, ep, fit) = variable-is z.typing s (z.active.object_for x) (subst (λ o. RunObjectAgrees z.typing o (z.active.object_for x)) e (shown.names_fit.0 x)) in
-      truth-there z.typing z.store z.passed_cells shown.store_fits (machine.address z.levels (cells_in z) q) (place_of_designator x path z) (led-at q boolean_shape (place_of_designator x path) h z shown) ∙ sym (value-there z.active z.store x path p ep)
+      truth-there z.typing z.store z.passed_cells shown.store_fits (machine.address z.levels (cells_at_moment z) q) (place_of_designator x path z) (led-at q boolean_shape (place_of_designator x path) h z shown) ∙ sym (value-there z.active z.store x path p ep)
 
   pub number-constant : (x : N) (n : ℤ) → checked.object_for x ≡ Some (a_constant (number n)) → NumberMeans checked slots (lowered.literal n) (value_of_factor (designator x end))
   unfolding evaluate
@@ -295,7 +295,7 @@ module _ {N : Type 0} (checked : TypeMeanings N) (slots : N → Slot) where
       let is_bound : z.active.object_for x ≡ Some (a_constant (truth b)) = constant-is z.typing (truth b) (z.active.object_for x) (subst (λ o. RunObjectAgrees z.typing o (z.active.object_for x)) e (shown.names_fit.0 x)) in
       sym (ap (λ o. object_value {P = List Mode} z.store o >>= (λ v. succeeds_with [] >>= (λ steps. or_stuck (value_at_path steps v)))) is_bound)
 
-  pub block-designator : (q : lowered.Place) (s : Shape) (x : N) (v : Shape) (path : Tree N (items selector)) → checked.object_for x ≡ Some (a_variable v) → PlaceMeans checked slots q s (place_of_designator x path) → HoldsValue checked slots q s (value_of_factor (designator x path))
+  pub block-designator : (q : lowered.Place) (s : Shape) (x : N) (v : Shape) (path : Tree N (items selector)) → checked.object_for x ≡ Some (a_variable v) → PlaceMeans checked slots q s (place_of_designator x path) → PlaceHoldsValue checked slots q s (value_of_factor (designator x path))
   unfolding evaluate designated_place
   block-designator q s x v path e hq =
       (place_of_designator x path, hq, λ z shown. let (p, ep, fit) = variable-is z.typing v (z.active.object_for x) (subst (λ o. RunObjectAgrees z.typing o (z.active.object_for x)) e (shown.names_fit.0 x)) in value-there z.active z.store x path p ep)

@@ -16,9 +16,9 @@ use Rattle.ob0_language_runs.proofs.Proved.{numbering_keeps_runs-holds}
 use Rattle.ob0_run_machine.specs.Execution as execution
 use Rattle.ob0_run_machine.specs.Lowered as lowered
 use Rattle.ob0_run_cells.specs.ActivationLaws.{LoweringKeepsRuns, run_of}
-use Rattle.ob0_run_cells.specs.Activations.{FirstBindingsAgree, PlacementState, ProgramMeans, RoutineTable, outermost_placement}
+use Rattle.ob0_run_cells.specs.Activations.{FirstBindingsAgree, PlacementState, ProgramMeansModule, RoutineTable, outermost_placement}
 use Rattle.ob0_run_cells.specs.Cells.{store_size}
-use Rattle.ob0_run_cells.specs.LoweredStatements.{ProgressRepresents, Represents}
+use Rattle.ob0_run_cells.specs.LoweredStatements.{ProgressRepresents, StateRepresents}
 use Rattle.ob0_run_cells.specs.Lowering.{of_module}
 use Rattle.ob0_run_cells.proofs.CallsLowered.{body-represents, calls-known, with-cells}
 use Rattle.ob0_run_cells.proofs.PlacedDeclarations.{FramePlaced, block-placed}
@@ -37,7 +37,7 @@ run_result-same typing (execution.running low) (running s) h = ap (λ out. recor
 run_result-same typing (execution.stopped x out) (stopped y written) h = λ i. record { output = h.1 i; ending = h.0 i }
 run_result-same typing _ _ h = absurd h
 
-run-freed : {N : Type 0} (naming : Naming N) (m : Tree N module_text) (program : lowered.LoweredCode) (c t : ℕ) (input : List ℤ) → passes_type_check naming m ≡ true → ProgramMeans naming m program → IfSome (execution.run program input c t) (λ r. run_of r ≡ run_freeing_variables naming m input c t)
+run-freed : {N : Type 0} (naming : Naming N) (m : Tree N module_text) (program : lowered.LoweredCode) (c t : ℕ) (input : List ℤ) → passes_type_check naming m ≡ true → ProgramMeansModule naming m program → IfSome (execution.run program input c t) (λ r. run_of r ≡ run_freeing_variables naming m input c t)
 unfolding execution.run run_freeing_variables passes_type_check
 run-freed {N} naming (is_module x b closing) program c t input fits means =
     let start : State = record { store = []; input = input; output = [] } in
@@ -55,7 +55,7 @@ run-freed {N} naming (is_module x b closing) program c t input fits means =
     let counted : 0 + q.cells ≡ store_size part.typing_now = part.frame.cells_counted in
     let runs_body = execution.execute_sequence (execution.call program.procedures c t) t execution.module_levels program.body in
     let statements = execute_body naming g.env (call_freeing_variables naming c t g.env) t (block_statements b) record start { store = g.store } in
-    let represents : Represents part.typing_now low record start { store = g.store } = record {
+    let represents : StateRepresents part.typing_now low record start { store = g.store } = record {
       store_fits = part.frame.store_fits;
       same_cells = sym part.cells_added;
       same_input = refl;
@@ -67,7 +67,7 @@ run-freed {N} naming (is_module x b closing) program c t input fits means =
     (body-represents table c t (calls-known table c t) part.typing_now execution.module_levels after q.placement g.env part.frame.environment_fits part.frame.placing_fits (omega (arith, counted, total, room)) program.body (block_statements b) body_means low record start { store = g.store } represents)))
 
 -- of the store that keeps every variable too: no run reads again what a call failed
-pub run-lowered : {N : Type 0} (naming : Naming N) (m : Tree N module_text) (program : lowered.LoweredCode) (c t : ℕ) (input : List ℤ) → passes_type_check naming m ≡ true → ProgramMeans naming m program → IfSome (execution.run program input c t) (λ r. run_of r ≡ run_with_naming naming m input c t)
+pub run-lowered : {N : Type 0} (naming : Naming N) (m : Tree N module_text) (program : lowered.LoweredCode) (c t : ℕ) (input : List ℤ) → passes_type_check naming m ≡ true → ProgramMeansModule naming m program → IfSome (execution.run program input c t) (λ r. run_of r ≡ run_with_naming naming m input c t)
 run-lowered naming m program c t input fits means =
     subst (λ whole. IfSome (execution.run program input c t) (λ r. run_of r ≡ whole)) (freeing-keeps naming m input c t) (run-freed naming m program c t input fits means)
 

@@ -2,8 +2,8 @@
 use Rattle.std.proofs.Common.{◌≡◌, ℕ, zero, suc, ◌+◌, ◌*◌, ◌<◌, ◌≤◌, true, false, List, [], ◌∷◌, ◌++◌, length, ℤ, if◌then◌else◌, nat_lt, Some, None, option_map, option_and_then, unwrap_or, sym, refl, ap, ◌∙◌, subst, arith, length-append}
 use Rattle.ob0_language_names.specs.Names.{Name, same_name}
 use Rattle.ob0_language_types.specs.Typing.{shape_of_field}
-use Rattle.ob0_language_values.specs.Values.{FieldShapes, Members, Shape, Step, Value, Values, array_shape, at_field, at_index, value_at_path, boolean_shape, count_values, elements, integer_shape, members, named_member, next_field_shape, next_member, next_value, no_field_shape, no_member, no_value, nth_value, number, part, record_shape, truth, with_value_at_path, with_named_member, with_nth_value, with_part}
-use Rattle.ob0_language_runs.specs.TypeAgreement.{EachElementHasShape, HasShape, MembersHaveShapes, part_shape, shape_at_path}
+use Rattle.ob0_language_values.specs.Values.{FieldShapes, Members, Shape, Step, Value, Values, array_shape, at_field, at_index, value_at_path, boolean_shape, count_values, elements, integer_shape, members, named_member, next_field_shape, next_member, next_value, no_field_shape, no_member, no_value, nth_value, number, value_at_step, record_shape, truth, with_value_at_path, with_named_member, with_nth_value, with_value_at_step}
+use Rattle.ob0_language_runs.specs.TypeAgreement.{EachElementHasShape, HasShape, MembersHaveShapes, shape_at_step, shape_at_path}
 use Rattle.ob0_language_types.proofs.Conditions.{of_some}
 use Rattle.ob0_language_types.proofs.TypedElsewhere.{then_some}
 use Rattle.ob0_language_runs.proofs.Sound.{below_of}
@@ -74,22 +74,22 @@ pub lies-as : {X : Type 0} (cells : X → List ℤ) (make : X → Value) (whole 
 lies-as cells make whole old write a same h =
     record { before = h.before; after = h.after; is_split = same whole ∙ h.is_split; begins = h.begins; is_written = λ new. same (write new) ∙ h.is_written new }
 
-pub part-lies : (v : Value) (s : Shape) (step : Step) (t : Shape) → HasShape v s → part_shape s step ≡ Some t
-    → (w : Value) × (part v step ≡ Some w) × HasShape w t × Lies cells_of v w (with_part v step) (step_offset s step)
-part-lies (elements vs) (array_shape k n s) (at_index i) t h e =
-    (elim (nat_lt i n) as (λ b. nat_lt i n ≡ b → (if b then Some s else None) ≡ Some t → (w : Value) × (nth_value vs i ≡ Some w) × HasShape w t × Lies cells_of (elements vs) w (with_part (elements vs) (at_index i)) (i * size s)) [
+pub value_at_step-lies : (v : Value) (s : Shape) (step : Step) (t : Shape) → HasShape v s → shape_at_step s step ≡ Some t
+    → (w : Value) × (value_at_step v step ≡ Some w) × HasShape w t × Lies cells_of v w (with_value_at_step v step) (step_offset s step)
+value_at_step-lies (elements vs) (array_shape k n s) (at_index i) t h e =
+    (elim (nat_lt i n) as (λ b. nat_lt i n ≡ b → (if b then Some s else None) ≡ Some t → (w : Value) × (nth_value vs i ≡ Some w) × HasShape w t × Lies cells_of (elements vs) w (with_value_at_step (elements vs) (at_index i)) (i * size s)) [
       | true ↦ λ below e. (let (w, ew, hw, l) = element-lies vs s i (below_of i (count_values vs) (ap (λ m. nat_lt i m) h.0 ∙ below)) h.1 in
           (w, ew, of_some (λ t. HasShape w t) e hw, lies-as element_cells elements vs w (with_nth_value vs i) (i * size s) (λ x. refl) l))
       | false ↦ λ below e. absurd (cc)
     ]) refl e
-part-lies (members j ms) (record_shape k fs) (at_field x) t h e =
+value_at_step-lies (members j ms) (record_shape k fs) (at_field x) t h e =
     let (w, ew, hw, l) = member-lies ms fs x t e h.1 in
     (w, ew, hw, lies-as member_cells (members j) ms w (with_named_member ms x) (field_offset fs x) (λ x. refl) l)
-part-lies (elements vs) (array_shape k n s) (at_field x) t h e = absurd (cc)
-part-lies (members j ms) (record_shape k fs) (at_index i) t h e = absurd (cc)
-part-lies (number n) integer_shape step t h e = absurd (cc)
-part-lies (truth b) boolean_shape step t h e = absurd (cc)
-part-lies _ _ step t h e = absurd h
+value_at_step-lies (elements vs) (array_shape k n s) (at_field x) t h e = absurd (cc)
+value_at_step-lies (members j ms) (record_shape k fs) (at_index i) t h e = absurd (cc)
+value_at_step-lies (number n) integer_shape step t h e = absurd (cc)
+value_at_step-lies (truth b) boolean_shape step t h e = absurd (cc)
+value_at_step-lies _ _ step t h e = absurd h
 
 -- paths
 
@@ -101,16 +101,16 @@ PathLies path v s t =
 pub path-lies : (path : List Step) (v : Value) (s t : Shape) → HasShape v s → shape_at_path path s ≡ Some t → PathLies path v s t
 path-lies [] v s t h e = (v, refl, of_some (λ t. HasShape v t) e h, (λ new. new), (λ new. refl), lies-alone v)
 path-lies (step ∷ path) v s t h e =
-    let (u, eu, e₁) = then_some (part_shape s step) (shape_at_path path) t e in
-    let (w, ew, hw, l) = part-lies v s step u h eu in
+    let (u, eu, e₁) = then_some (shape_at_step s step) (shape_at_path path) t e in
+    let (w, ew, hw, l) = value_at_step-lies v s step u h eu in
     let (z, ez, hz, write, made, k) = path-lies path w u t hw e₁ in (
       z,
       ap (option_and_then (value_at_path path)) ew ∙ ez,
       hz,
-      (λ new. with_part v step (write new)),
-      (λ new. ap (option_and_then (λ old. option_map (with_part v step) (with_value_at_path path new old))) ew ∙ ap (option_map (with_part v step)) (made new)),
-      subst (λ o. Lies cells_of v z (λ new. with_part v step (write new)) (step_offset s step + unwrap_or (option_map (offset path) o) 0)) (sym eu)
-          (lies-within cells_of v w z (with_part v step) write (step_offset s step) (offset path u) l k),
+      (λ new. with_value_at_step v step (write new)),
+      (λ new. ap (option_and_then (λ old. option_map (with_value_at_step v step) (with_value_at_path path new old))) ew ∙ ap (option_map (with_value_at_step v step)) (made new)),
+      subst (λ o. Lies cells_of v z (λ new. with_value_at_step v step (write new)) (step_offset s step + unwrap_or (option_map (offset path) o) 0)) (sym eu)
+          (lies-within cells_of v w z (with_value_at_step v step) write (step_offset s step) (offset path u) l k),
     )
 
 pub lies-inside : {X : Type 0} (cells : X → List ℤ) (whole : X) (old : Value) (write : Value → X) (a n m : ℕ) → Lies cells whole old write a → length (cells_of old) ≡ n → length (cells whole) ≡ m → a + n ≤ m

@@ -4,22 +4,22 @@ use Rattle.std.proofs.Common.{◌≡◌, ℕ, zero, suc, ◌+◌, ◌-◌, ◌�
 use Rattle.std.proofs.lemmas.Bool.{le-leb}
 use Rattle.std.proofs.lemmas.List.{drop-append-le, take-append-le}
 use Rattle.ob0_tree.specs.Tree.{Tree, arguments, calls, expression, items, maybe, selector}
-use Rattle.ob0_language_types.specs.Arguments.{arguments_listed}
+use Rattle.ob0_language_types.specs.Arguments.{call_arguments}
 use Rattle.ob0_language_types.specs.Expressions.{Object, a_procedure, designated_place, evaluate}
 use Rattle.ob0_language_types.specs.WellTyped.{FormalParameter, Mode, Signature, TypeMeanings}
 use Rattle.ob0_language_values.specs.Values.{Outcome, Place, Shape, Store, Value, ends_run_with, succeeds_with, number, or_stuck, read_place, truth, ◌>>=◌}
 use Rattle.ob0_language_runs.specs.TypeAgreement.{ArgumentsMatchSignature, HasShape, RunObjectAgrees, PlaceHasType, StoreHasTypes, StoreTyping, signature_modes}
-use Rattle.ob0_language_runs.specs.Runs.{Argument, Progress, State, evaluate_argument, evaluate_arguments, execute, modes_of, perform_call, place_argument, use_result, value_argument}
+use Rattle.ob0_language_runs.specs.Runs.{Argument, Progress, State, evaluate_argument, evaluate_arguments, execute, argument_modes_of, perform_call, place_argument, continue_with_result, value_argument}
 use Rattle.ob0_language_runs.proofs.SoundStatements.{first-argument}
 use Rattle.ob0_run_machine.specs.Evaluation as machine
 use Rattle.ob0_run_machine.specs.Execution as execution
 use Rattle.ob0_run_machine.specs.Lowered as lowered
-use Rattle.ob0_run_cells.specs.Cells.{address, all_cells, cells_of, size, store_size}
-use Rattle.ob0_run_cells.specs.LoweredStatements.{CodeMeansArgument, CodeMeansArguments, Body, ProgressRepresents, Represents, IsBodyOfModule, CodeMeansStatement, Target, argument_addresses, argument_cells}
+use Rattle.ob0_run_cells.specs.Cells.{address, cells_of_store, cells_of, size, store_size}
+use Rattle.ob0_run_cells.specs.LoweredStatements.{CodeMeansArgument, CodeMeansArguments, BodyContext, ProgressRepresents, StateRepresents, IsBodyOfModule, CodeMeansStatement, Target, place_argument_addresses, value_argument_cells}
 use Rattle.ob0_run_cells.specs.Lowering.{Slot, end_of, outcome_of, place_of_designator, value_of_expression}
 use Rattle.ob0_run_cells.proofs.LoweredOutcomes.{Led, ended-same, given-same, grouped-then}
 use Rattle.ob0_run_cells.proofs.Places.{HoldsSlice, places_are_slices, store-size}
-use Rattle.ob0_run_cells.proofs.Represented.{alone-cells, as_cell-same, moment, moment-shown, number-at, place-at, truth-at}
+use Rattle.ob0_run_cells.proofs.Represented.{alone-cells, truth_as_cell-same, moment, moment-shown, number-at, place-at, truth-at}
 
 -- both give what is related, or both end alike
 abbrev pub Both : {A B : Type 0} → (A → B → Type 0) → machine.StepResult A → Outcome B → Type 0
@@ -50,8 +50,8 @@ pub both-truth : (o : machine.StepResult Bool) (w : Outcome Value) → outcome_o
 both-truth (machine.gives b) w e = subst (λ w. Both (λ b v. truth b ≡ v) (machine.gives b) w) e refl
 both-truth (machine.ends x) w e = subst (λ w. Both (λ b v. truth b ≡ v) (machine.ends x) w) e refl
 
-pub use-both : {A B : Type 0} (typing : StoreTyping) (R : A → B → Type 0) (low : execution.MachineState) (s : State) (o : machine.StepResult A) (w : Outcome B) (k : A → execution.MachineProgress) (j : B → Progress) → Represents typing low s → Both R o w
-    → ((a : A) (b : B) → R a b → ProgressRepresents typing (k a) (j b)) → ProgressRepresents typing (execution.use_result low o k) (use_result s w j)
+pub use-both : {A B : Type 0} (typing : StoreTyping) (R : A → B → Type 0) (low : execution.MachineState) (s : State) (o : machine.StepResult A) (w : Outcome B) (k : A → execution.MachineProgress) (j : B → Progress) → StateRepresents typing low s → Both R o w
+    → ((a : A) (b : B) → R a b → ProgressRepresents typing (k a) (j b)) → ProgressRepresents typing (execution.continue_with_result low o k) (continue_with_result s w j)
 use-both typing R low s (machine.gives a) (succeeds_with b) k j h r each = each a b r
 use-both typing R low s (machine.ends x) (ends_run_with y) k j h r each = (r, h.same_output)
 use-both typing R low s _ _ k j h r each = absurd r
@@ -59,26 +59,26 @@ use-both typing R low s _ _ k j h r each = absurd r
 -- what was passed before, and what is after arguments
 pub record Passes (typing : StoreTyping) (fs : Signature) (done p : execution.CallArguments) (args : List Argument) : Type 0 where
   pub arguments_match : ArgumentsMatchSignature typing fs args
-  pub cells_passed : p.cells ≡ done.cells ++ argument_cells args
-  pub addresses_passed : p.addresses ≡ done.addresses ++ argument_addresses typing args
+  pub cells_passed : p.cells ≡ done.cells ++ value_argument_cells args
+  pub addresses_passed : p.addresses ≡ done.addresses ++ place_argument_addresses typing args
 
-pub cells-joined : (a : Argument) (args : List Argument) → argument_cells (a ∷ []) ++ argument_cells args ≡ argument_cells (a ∷ args)
+pub cells-joined : (a : Argument) (args : List Argument) → value_argument_cells (a ∷ []) ++ value_argument_cells args ≡ value_argument_cells (a ∷ args)
 cells-joined (place_argument p) args = refl
-cells-joined (value_argument v) args = ap (λ l. l ++ argument_cells args) (append-nil (cells_of v))
+cells-joined (value_argument v) args = ap (λ l. l ++ value_argument_cells args) (append-nil (cells_of v))
 
-pub addresses-joined : (typing : StoreTyping) (a : Argument) (args : List Argument) → argument_addresses typing (a ∷ []) ++ argument_addresses typing args ≡ argument_addresses typing (a ∷ args)
+pub addresses-joined : (typing : StoreTyping) (a : Argument) (args : List Argument) → place_argument_addresses typing (a ∷ []) ++ place_argument_addresses typing args ≡ place_argument_addresses typing (a ∷ args)
 addresses-joined typing (place_argument p) args = refl
 addresses-joined typing (value_argument v) args = refl
 
 pub passes-on : (typing : StoreTyping) (f : FormalParameter) (fs : Signature) (done p q : execution.CallArguments) (a : Argument) (args : List Argument) → Passes typing (f ∷ []) done p (a ∷ []) → Passes typing fs p q args → Passes typing (f ∷ fs) done q (a ∷ args)
 passes-on typing f fs done p q a args h k = record {
   arguments_match = first-argument typing f fs a args h.arguments_match k.arguments_match;
-  cells_passed = k.cells_passed ∙ (ap (λ l. l ++ argument_cells args) h.cells_passed ∙ (append_assoc done.cells (argument_cells (a ∷ [])) (argument_cells args) ∙ ap (λ l. done.cells ++ l) (cells-joined a args)));
-  addresses_passed = k.addresses_passed ∙ (ap (λ l. l ++ argument_addresses typing args) h.addresses_passed ∙ (append_assoc done.addresses (argument_addresses typing (a ∷ [])) (argument_addresses typing args) ∙ ap (λ l. done.addresses ++ l) (addresses-joined typing a args)));
+  cells_passed = k.cells_passed ∙ (ap (λ l. l ++ value_argument_cells args) h.cells_passed ∙ (append_assoc done.cells (value_argument_cells (a ∷ [])) (value_argument_cells args) ∙ ap (λ l. done.cells ++ l) (cells-joined a args)));
+  addresses_passed = k.addresses_passed ∙ (ap (λ l. l ++ place_argument_addresses typing args) h.addresses_passed ∙ (append_assoc done.addresses (place_argument_addresses typing (a ∷ [])) (place_argument_addresses typing args) ∙ ap (λ l. done.addresses ++ l) (addresses-joined typing a args)));
 }
 
 -- a block of cells of a store, with others after them
-pub block-there : (cells others : List ℤ) (from n : ℕ) → from + n ≤ length cells → execution.block_at (cells ++ others) from n ≡ take n (drop from cells)
+pub block-there : (cells others : List ℤ) (from n : ℕ) → from + n ≤ length cells → execution.block_or_zeros_at (cells ++ others) from n ≡ take n (drop from cells)
 block-there cells others from n h =
     let whole : length (cells ++ others) ≡ length cells + length others = length-append cells others in
     let dropped : length (drop from cells) ≡ length cells - from = length-drop from cells in
@@ -88,8 +88,8 @@ block-there cells others from n h =
     ap (λ b. if b then take n (drop from (cells ++ others)) else execution.zeros n) (le-leb (from + n) (length (cells ++ others)) within)
     ∙ (ap (take n) (drop-append-le from cells others start) ∙ take-append-le n (drop from cells) others left)
 
-module _ {N : Type 0} (checked : TypeMeanings N) (slots : N → Slot) (targets : N → Target) (b : Body N) (shown : IsBodyOfModule checked slots targets b) (store : Store) (fits : StoreHasTypes b.typing store) where
-  pub argument-passed : (f : FormalParameter) (c : lowered.LoweredArgument) (e : Tree N expression) → CodeMeansArgument checked slots f c e → (done : execution.CallArguments) (passed : List ℤ) → done.cells ≡ all_cells store ++ passed
+module _ {N : Type 0} (checked : TypeMeanings N) (slots : N → Slot) (targets : N → Target) (b : BodyContext N) (shown : IsBodyOfModule checked slots targets b) (store : Store) (fits : StoreHasTypes b.typing store) where
+  pub argument-passed : (f : FormalParameter) (c : lowered.LoweredArgument) (e : Tree N expression) → CodeMeansArgument checked slots f c e → (done : execution.CallArguments) (passed : List ℤ) → done.cells ≡ cells_of_store store ++ passed
       → Both (λ p a. Passes b.typing (f ∷ []) done p (a ∷ [])) (execution.pass_argument b.levels c done) (evaluate_argument b.active store f.mode e)
   unfolding evaluate_argument
   argument-passed f (lowered.by_place q) e h done passed same =
@@ -116,11 +116,11 @@ module _ {N : Type 0} (checked : TypeMeanings N) (slots : N → Slot) (targets :
       }))
   argument-passed f (lowered.by_truth t) e h done passed same =
       subst (λ m. Both (λ p a. Passes b.typing (f ∷ []) done p (a ∷ [])) (execution.pass_argument b.levels (lowered.by_truth t) done) (evaluate_argument b.active store m e)) (sym h.0)
-      (both-then (λ b v. truth b ≡ v) (λ p a. Passes b.typing (f ∷ []) done p (a ∷ [])) (machine.truth b.levels done.cells t) (evaluate b.active store e) (λ a. machine.gives (execution.pass_cells done (machine.as_cell a ∷ []))) (λ v. succeeds_with (value_argument v))
+      (both-then (λ b v. truth b ≡ v) (λ p a. Passes b.typing (f ∷ []) done p (a ∷ [])) (machine.truth b.levels done.cells t) (evaluate b.active store e) (λ a. machine.gives (execution.pass_cells done (machine.truth_as_cell a ∷ []))) (λ v. succeeds_with (value_argument v))
       (both-truth (machine.truth b.levels done.cells t) (evaluate b.active store e) (truth-at checked slots targets b shown t (value_of_expression e) h.2 store passed done.cells fits same))
       (λ a v r. record {
         arguments_match = (h.0, subst (λ v. HasShape v f.shape) r (subst (λ s. HasShape (truth a) s) (sym h.1) tt), tt);
-        cells_passed = ap (λ n. done.cells ++ n ∷ []) (as_cell-same a) ∙ ap (λ v. done.cells ++ (cells_of v ++ [])) r;
+        cells_passed = ap (λ n. done.cells ++ n ∷ []) (truth_as_cell-same a) ∙ ap (λ v. done.cells ++ (cells_of v ++ [])) r;
         addresses_passed = sym (append-nil done.addresses);
       }))
   argument-passed f (lowered.by_block q n) e h done passed same =
@@ -130,28 +130,28 @@ module _ {N : Type 0} (checked : TypeMeanings N) (slots : N → Slot) (targets :
       subst (λ m. Both (λ p a. Passes b.typing (f ∷ []) done p (a ∷ [])) (execution.pass_argument b.levels (lowered.by_block q n) done) (evaluate_argument b.active store m e)) (sym h.0)
       (subst (λ w. Both (λ p a. Passes b.typing (f ∷ []) done p (a ∷ [])) (execution.pass_argument b.levels (lowered.by_block q n) done) (w >>= (λ v. succeeds_with (value_argument v)))) (sym value)
       (subst (λ w. Both (λ p a. Passes b.typing (f ∷ []) done p (a ∷ [])) (execution.pass_argument b.levels (lowered.by_block q n) done) w) (sym (grouped-then (place here) (λ p. or_stuck (read_place store p)) (λ v. succeeds_with (value_argument v))))
-      (both-then (λ a p. (a ≡ address b.typing p) × PlaceHasType b.typing p f.shape) (λ p a. Passes b.typing (f ∷ []) done p (a ∷ [])) (machine.address b.levels done.cells q) (place here) (λ a. machine.gives (execution.pass_cells done (execution.block_at done.cells a n))) (λ p. or_stuck (read_place store p) >>= (λ v. succeeds_with (value_argument v)))
+      (both-then (λ a p. (a ≡ address b.typing p) × PlaceHasType b.typing p f.shape) (λ p a. Passes b.typing (f ∷ []) done p (a ∷ [])) (machine.address b.levels done.cells q) (place here) (λ a. machine.gives (execution.pass_cells done (execution.block_or_zeros_at done.cells a n))) (λ p. or_stuck (read_place store p) >>= (λ v. succeeds_with (value_argument v)))
       (both-led b.typing f.shape (machine.address b.levels done.cells q) (place here) (place-at checked slots targets b shown q f.shape place hq store passed done.cells fits same))
       (λ a p r. let at_p : HoldsSlice b.typing store p f.shape = places_are_slices b.typing store p f.shape fits r.1 in
       let w : Value = at_p.value in
-      let m : store_size b.typing ≡ length (all_cells store) = sym (store-size b.typing store fits) in
-      let block : execution.block_at done.cells a n ≡ cells_of w =
-      (λ i. execution.block_at (same i) (r.0 i) (h.1 i)) ∙ (block-there (all_cells store) passed (address b.typing p) (size f.shape) (subst (λ k. address b.typing p + size f.shape ≤ k) m at_p.within) ∙ sym at_p.same_cells) in
-      subst (λ o. Both (λ p a. Passes b.typing (f ∷ []) done p (a ∷ [])) (machine.gives (execution.pass_cells done (execution.block_at done.cells a n))) (or_stuck o >>= (λ v. succeeds_with (value_argument v)))) (sym at_p.is_read) record {
+      let m : store_size b.typing ≡ length (cells_of_store store) = sym (store-size b.typing store fits) in
+      let block : execution.block_or_zeros_at done.cells a n ≡ cells_of w =
+      (λ i. execution.block_or_zeros_at (same i) (r.0 i) (h.1 i)) ∙ (block-there (cells_of_store store) passed (address b.typing p) (size f.shape) (subst (λ k. address b.typing p + size f.shape ≤ k) m at_p.within) ∙ sym at_p.same_cells) in
+      subst (λ o. Both (λ p a. Passes b.typing (f ∷ []) done p (a ∷ [])) (machine.gives (execution.pass_cells done (execution.block_or_zeros_at done.cells a n))) (or_stuck o >>= (λ v. succeeds_with (value_argument v)))) (sym at_p.is_read) record {
         arguments_match = (h.0, at_p.has_shape, tt);
         cells_passed = ap (λ l. done.cells ++ l) (block ∙ sym (append-nil (cells_of w)));
         addresses_passed = sym (append-nil done.addresses);
       }))))
 
-  pub arguments-passed : (fs : Signature) (cs : List lowered.LoweredArgument) (es : List (Tree N expression)) → CodeMeansArguments checked slots fs cs es → (done : execution.CallArguments) (passed : List ℤ) → done.cells ≡ all_cells store ++ passed
-      → Both (λ p args. Passes b.typing fs done p args) (execution.pass_all b.levels cs done) (evaluate_arguments b.active store (signature_modes fs) es)
+  pub arguments-passed : (fs : Signature) (cs : List lowered.LoweredArgument) (es : List (Tree N expression)) → CodeMeansArguments checked slots fs cs es → (done : execution.CallArguments) (passed : List ℤ) → done.cells ≡ cells_of_store store ++ passed
+      → Both (λ p args. Passes b.typing fs done p args) (execution.pass_arguments b.levels cs done) (evaluate_arguments b.active store (signature_modes fs) es)
   unfolding evaluate_arguments
   arguments-passed [] [] [] h done passed same = record { arguments_match = tt; cells_passed = sym (append-nil done.cells); addresses_passed = sym (append-nil done.addresses) }
   arguments-passed (f ∷ fs) (c ∷ cs) (e ∷ es) h done passed same =
-      both-then (λ p a. Passes b.typing (f ∷ []) done p (a ∷ [])) (λ p args. Passes b.typing (f ∷ fs) done p args) (execution.pass_argument b.levels c done) (evaluate_argument b.active store f.mode e) (execution.pass_all b.levels cs) (λ a. evaluate_arguments b.active store (signature_modes fs) es >>= (λ rest. succeeds_with (a ∷ rest)))
+      both-then (λ p a. Passes b.typing (f ∷ []) done p (a ∷ [])) (λ p args. Passes b.typing (f ∷ fs) done p args) (execution.pass_argument b.levels c done) (evaluate_argument b.active store f.mode e) (execution.pass_arguments b.levels cs) (λ a. evaluate_arguments b.active store (signature_modes fs) es >>= (λ rest. succeeds_with (a ∷ rest)))
       (argument-passed f c e h.0 done passed same)
-      (λ p a one. both-made (λ q args. Passes b.typing fs p q args) (λ q args. Passes b.typing (f ∷ fs) done q args) (execution.pass_all b.levels cs p) (evaluate_arguments b.active store (signature_modes fs) es) (λ rest. a ∷ rest)
-      (arguments-passed fs cs es h.1 p (passed ++ argument_cells (a ∷ [])) (one.cells_passed ∙ (ap (λ l. l ++ argument_cells (a ∷ [])) same ∙ append_assoc (all_cells store) passed (argument_cells (a ∷ [])))))
+      (λ p a one. both-made (λ q args. Passes b.typing fs p q args) (λ q args. Passes b.typing (f ∷ fs) done q args) (execution.pass_arguments b.levels cs p) (evaluate_arguments b.active store (signature_modes fs) es) (λ rest. a ∷ rest)
+      (arguments-passed fs cs es h.1 p (passed ++ value_argument_cells (a ∷ [])) (one.cells_passed ∙ (ap (λ l. l ++ value_argument_cells (a ∷ [])) same ∙ append_assoc (cells_of_store store) passed (value_argument_cells (a ∷ [])))))
       (λ q args more_passed. passes-on b.typing f fs done p q a args one more_passed))
   arguments-passed _ _ _ h done passed same = absurd h
 
@@ -159,14 +159,14 @@ pub procedure-is : (typing : StoreTyping) (signature : Signature) (a : Option (O
 procedure-is typing signature (Some (a_procedure modes)) h = ap (λ m. Some (a_procedure m)) h
 procedure-is typing signature _ h = absurd h
 
-pub call-means : {N : Type 0} (checked : TypeMeanings N) (slots : N → Slot) (targets : N → Target) (x : N) (es : Tree N (maybe arguments)) (signature : Signature) (cs : List lowered.LoweredArgument) → checked.object_for x ≡ Some (a_procedure signature) → CodeMeansArguments checked slots signature cs (arguments_listed es)
+pub call-means : {N : Type 0} (checked : TypeMeanings N) (slots : N → Slot) (targets : N → Target) (x : N) (es : Tree N (maybe arguments)) (signature : Signature) (cs : List lowered.LoweredArgument) → checked.object_for x ≡ Some (a_procedure signature) → CodeMeansArguments checked slots signature cs (call_arguments es)
     → CodeMeansStatement checked slots targets (lowered.calls (targets x).procedure (targets x).up cs) (calls x es)
 unfolding execution.execute execute
 call-means {N} checked slots targets x es signature cs st ha b shown t low s h =
     let is_bound : b.active.object_for x ≡ Some (a_procedure (signature_modes signature)) = procedure-is b.typing signature (b.active.object_for x) (subst (λ o. RunObjectAgrees b.typing o (b.active.object_for x)) st (shown.names_fit.0 x)) in
     let enter = λ (p : execution.CallArguments). b.lowered_call_effect (targets x).procedure (execution.levels_in_call b.levels (length low.cells) (targets x).up p) (record low { cells = p.cells }) in
     let start : execution.CallArguments = record { cells = low.cells; addresses = [] } in
-    subst (λ o. ProgressRepresents b.typing (execution.use_result low (execution.pass_all b.levels cs start) enter) (use_result s (modes_of o >>= (λ modes. evaluate_arguments b.active s.store modes (arguments_listed es))) (λ args. perform_call o (b.enters x) args s))) (sym is_bound)
-    (use-both b.typing (λ p args. Passes b.typing signature start p args) low s (execution.pass_all b.levels cs start) (evaluate_arguments b.active s.store (signature_modes signature) (arguments_listed es)) enter (λ args. b.enters x args s) h
-    (arguments-passed checked slots targets b shown s.store h.store_fits signature cs (arguments_listed es) ha start [] (alone-cells checked slots targets b shown low s h))
+    subst (λ o. ProgressRepresents b.typing (execution.continue_with_result low (execution.pass_arguments b.levels cs start) enter) (continue_with_result s (argument_modes_of o >>= (λ modes. evaluate_arguments b.active s.store modes (call_arguments es))) (λ args. perform_call o (b.enters x) args s))) (sym is_bound)
+    (use-both b.typing (λ p args. Passes b.typing signature start p args) low s (execution.pass_arguments b.levels cs start) (evaluate_arguments b.active s.store (signature_modes signature) (call_arguments es)) enter (λ args. b.enters x args s) h
+    (arguments-passed checked slots targets b shown s.store h.store_fits signature cs (call_arguments es) ha start [] (alone-cells checked slots targets b shown low s h))
     (λ p args r. shown.calls_represent x signature st args low s p h r.arguments_match r.cells_passed r.addresses_passed))

@@ -19,9 +19,9 @@ use Rattle.ob0_language_types.proofs.Conditions.{both_true}
 use Rattle.ob0_language_types.proofs.TypedElsewhere.{then_some}
 use Rattle.ob0_run_machine.specs.Evaluation.{Level, Levels}
 use Rattle.ob0_run_machine.specs.Lowered as lowered
-use Rattle.ob0_run_cells.specs.Activations.{RoutineTable, CodeMeansBlock, CodeMeansBody, PlacementState, Placement, PlacementFits, RoutinesMeanProcedures, bind_without_place, in_slot, nowhere, local_target, place_names, place_name, place_parameters, place_variables}
-use Rattle.ob0_run_cells.specs.Cells.{address, all_cells, cells_of, size, store_size}
-use Rattle.ob0_run_cells.specs.LoweredStatements.{argument_addresses, argument_cells}
+use Rattle.ob0_run_cells.specs.Activations.{RoutineTable, CodeMeansBlock, CodeMeansBody, PlacementState, Placement, PlacementFitsActivation, RoutinesMeanProcedures, bind_without_place, in_slot, nowhere, local_procedure_target, add_names_to_placement, add_name_to_placement, place_parameters, place_variables}
+use Rattle.ob0_run_cells.specs.Cells.{address, cells_of_store, cells_of, size, store_size}
+use Rattle.ob0_run_cells.specs.LoweredStatements.{place_argument_addresses, value_argument_cells}
 use Rattle.ob0_run_cells.specs.Lowering.{Slot, in_activation, by_reference, slot_address}
 use Rattle.ob0_run_cells.proofs.PlacedEnvironments.{placement-grows}
 use Rattle.ob0_run_cells.proofs.Places.{addresses_stay}
@@ -35,7 +35,7 @@ store_size-append (t ∷ typing) s = let h = store_size-append typing s in omega
 pub record FramePlaced {N : Type 0} (table : RoutineTable N) (typing : StoreTyping) (ls : Levels) (base : ℕ) (checked : TypeEnvironment N) (p : PlacementState N) (f : Frame N) : Type 0 where
   pub store_fits : StoreHasTypes typing f.store
   pub environment_fits : RunEnvironmentAgrees table.naming typing checked f.env
-  pub placing_fits : PlacementFits table typing ls checked p.placement f.env
+  pub placing_fits : PlacementFitsActivation table typing ls checked p.placement f.env
   pub cells_counted : base + p.cells ≡ store_size typing
 
 -- a frame with more variables, and their cells after those before
@@ -44,20 +44,20 @@ pub record Extends {N : Type 0} (table : RoutineTable N) (typing : StoreTyping) 
   pub others : StoreTyping
   pub is_grown : typing_now ≡ typing ++ others
   pub frame : FramePlaced table typing_now ls base checked p g
-  pub cells_added : all_cells g.store ≡ all_cells before ++ added
+  pub cells_added : cells_of_store g.store ≡ cells_of_store before ++ added
 
 module _ {N : Type 0} (table : RoutineTable N) where
   pub extends-here : (typing : StoreTyping) (ls : Levels) (base : ℕ) (checked : TypeEnvironment N) (p : PlacementState N) (f : Frame N) → FramePlaced table typing ls base checked p f → Extends table typing ls base checked p f.store [] f
-  extends-here typing ls base checked p f h = record { typing_now = typing; others = []; is_grown = sym (append-nil typing); frame = h; cells_added = sym (append-nil (all_cells f.store)) }
+  extends-here typing ls base checked p f h = record { typing_now = typing; others = []; is_grown = sym (append-nil typing); frame = h; cells_added = sym (append-nil (cells_of_store f.store)) }
 
   pub extends-then : (typing middle : StoreTyping) (s : StoreTyping) (ls : Levels) (base : ℕ) (checked : TypeEnvironment N) (p : PlacementState N) (before between : Store) (first added : List ℤ) (g : Frame N)
-      → middle ≡ typing ++ s → all_cells between ≡ all_cells before ++ first → Extends table middle ls base checked p between added g → Extends table typing ls base checked p before (first ++ added) g
+      → middle ≡ typing ++ s → cells_of_store between ≡ cells_of_store before ++ first → Extends table middle ls base checked p between added g → Extends table typing ls base checked p before (first ++ added) g
   extends-then typing middle s ls base checked p before between first added g e cells h = record {
     typing_now = h.typing_now;
     others = s ++ h.others;
     is_grown = h.is_grown ∙ (ap (λ l. l ++ h.others) e ∙ append_assoc typing s h.others);
     frame = h.frame;
-    cells_added = h.cells_added ∙ (ap (λ l. l ++ added) cells ∙ append_assoc (all_cells before) first added);
+    cells_added = h.cells_added ∙ (ap (λ l. l ++ added) cells ∙ append_assoc (cells_of_store before) first added);
   }
 
   pub extends-by : (typing : StoreTyping) (ls : Levels) (base : ℕ) (checked : TypeEnvironment N) (p : PlacementState N) (before : Store) (a b : List ℤ) (g : Frame N) → a ≡ b → Extends table typing ls base checked p before a g → Extends table typing ls base checked p before b g
@@ -66,20 +66,20 @@ module _ {N : Type 0} (table : RoutineTable N) where
   -- constants and types
 
   pub constants-placed : (typing : StoreTyping) (ls : Levels) (cs : Tree N (items constant)) (checked after : TypeEnvironment N) (placement : Placement N) (active d : Activation N) → declare_constants table.naming checked cs ≡ Some after → declare_constants table.naming active cs ≡ Some d
-      → PlacementFits table typing ls checked placement active → PlacementFits table typing ls after (bind_without_place (constant_names cs) placement) d
+      → PlacementFitsActivation table typing ls checked placement active → PlacementFitsActivation table typing ls after (bind_without_place (constant_names cs) placement) d
   unfolding declare_constants
   constants-placed typing ls end checked after placement active d e e' h =
-      subst (λ a. PlacementFits table typing ls a placement d) (some_inverse {a = checked} {b = after} e) (subst (λ d. PlacementFits table typing ls checked placement d) (some_inverse {a = active} {b = d} e') h)
+      subst (λ a. PlacementFitsActivation table typing ls a placement d) (some_inverse {a = checked} {b = after} e) (subst (λ d. PlacementFitsActivation table typing ls checked placement d) (some_inverse {a = active} {b = d} e') h)
   constants-placed typing ls (more (declares_constant x c) cs) checked after placement active d e e' h =
       let (v, ev, e₁) = then_some (constant_value (meanings table.naming checked) c) (λ v. declare_constants table.naming ((x, a_constant v) ∷ checked) cs) after e in
       let (w, ew, e₂) = then_some (constant_value (meanings table.naming active) c) (λ v. declare_constants table.naming ((x, a_constant v) ∷ active) cs) d e' in
       constants-placed typing ls cs ((x, a_constant v) ∷ checked) after ((x, nowhere) ∷ placement) ((x, a_constant w) ∷ active) d e₁ e₂ record { activation_name_agrees = refl; placement_name_agrees = refl; here = tt; further = h }
 
   pub types-placed : (typing : StoreTyping) (ls : Levels) (k : ℕ) (ds : Tree N (items type_definition)) (checked after : TypeEnvironment N) (placement : Placement N) (active d : Activation N) → declare_types table.naming checked k ds ≡ Some after → declare_types table.naming active k ds ≡ Some d
-      → PlacementFits table typing ls checked placement active → PlacementFits table typing ls after (bind_without_place (declared_type_names ds) placement) d
+      → PlacementFitsActivation table typing ls checked placement active → PlacementFitsActivation table typing ls after (bind_without_place (declared_type_names ds) placement) d
   unfolding declare_types
   types-placed typing ls k end checked after placement active d e e' h =
-      subst (λ a. PlacementFits table typing ls a placement d) (some_inverse {a = checked} {b = after} e) (subst (λ d. PlacementFits table typing ls checked placement d) (some_inverse {a = active} {b = d} e') h)
+      subst (λ a. PlacementFitsActivation table typing ls a placement d) (some_inverse {a = checked} {b = after} e) (subst (λ d. PlacementFitsActivation table typing ls checked placement d) (some_inverse {a = active} {b = d} e') h)
   types-placed typing ls k (more (declares_type x u) ds) checked after placement active d e e' h =
       let (v, ev, e₁) = then_some (denoted_type (meanings table.naming checked) k u) (λ s. declare_types table.naming ((x, a_type s) ∷ checked) (k + constructor_count u) ds) after e in
       let (w, ew, e₂) = then_some (denoted_type (meanings table.naming active) k u) (λ s. declare_types table.naming ((x, a_type s) ∷ active) (k + constructor_count u) ds) d e' in
@@ -88,7 +88,7 @@ module _ {N : Type 0} (table : RoutineTable N) where
   -- one variable more, at the end of the store
   pub variable-placed : (typing : StoreTyping) (ls : Levels) (base : ℕ) (checked : TypeEnvironment N) (p : PlacementState N) (f : Frame N) (x : N) (slot : Slot) (s : Shape) (v : Value) → slot_address ls slot ≡ base + p.cells → HasShape v s → FramePlaced table typing ls base checked p f
       → FramePlaced table (typing ++ s ∷ []) ls base ((x, a_variable s) ∷ checked) (record p { placement = (x, in_slot slot) ∷ p.placement; cells = p.cells + size s }) (record { env = (x, a_variable record { variable = length f.store; path = [] }) ∷ f.env; store = f.store ++ v ∷ [] })
-      × (all_cells (f.store ++ v ∷ []) ≡ all_cells f.store ++ cells_of v)
+      × (cells_of_store (f.store ++ v ∷ []) ≡ cells_of_store f.store ++ cells_of v)
   variable-placed typing ls base checked p f x slot s v at hv h =
       let added = variables_are_added typing f.store s v h.store_fits hv in
       let counted : base + p.cells ≡ store_size typing = h.cells_counted in
@@ -103,7 +103,7 @@ module _ {N : Type 0} (table : RoutineTable N) where
       )
 
   pub names-placed : (typing : StoreTyping) (ls : Levels) (base : ℕ) (at : ℕ → Slot) → ((c : ℕ) → slot_address ls (at c) ≡ base + c) → (xs : List N) (s : Shape) (checked : TypeEnvironment N) (p : PlacementState N) (f : Frame N) → FramePlaced table typing ls base checked p f
-      → (n : ℕ) × ((place_names at xs (size s) p).cells ≡ p.cells + n) × Extends table typing ls base (bind_names xs (a_variable s) checked) (place_names at xs (size s) p) f.store (replicate n (pos 0)) (allocate xs (initial_value s) f)
+      → (n : ℕ) × ((add_names_to_placement at xs (size s) p).cells ≡ p.cells + n) × Extends table typing ls base (bind_names xs (a_variable s) checked) (add_names_to_placement at xs (size s) p) f.store (replicate n (pos 0)) (allocate xs (initial_value s) f)
   names-placed typing ls base at is [] s checked p f h = (0, omega arith, extends-here typing ls base checked p f h)
   names-placed typing ls base at is (x ∷ xs) s checked p f h =
       let (fits, zero_cells) = initial_cells_are_zero s in
@@ -111,8 +111,8 @@ module _ {N : Type 0} (table : RoutineTable N) where
       let (n, count, more_of) = names-placed (typing ++ s ∷ []) ls base at is xs s ((x, a_variable s) ∷ checked) (record p { placement = (x, in_slot (at p.cells)) ∷ p.placement; cells = p.cells + size s }) (record { env = (x, a_variable record { variable = length f.store; path = [] }) ∷ f.env; store = f.store ++ initial_value s ∷ [] }) one in (
         size s + n,
         omega (arith, count),
-        extends-by typing ls base (bind_names xs (a_variable s) ((x, a_variable s) ∷ checked)) (place_names at (x ∷ xs) (size s) p) f.store (replicate (size s) (pos 0) ++ replicate n (pos 0)) (replicate (size s + n) (pos 0)) (allocate (x ∷ xs) (initial_value s) f) (replicate-append-replicate (size s) n (pos 0))
-            (extends-then typing (typing ++ s ∷ []) (s ∷ []) ls base (bind_names xs (a_variable s) ((x, a_variable s) ∷ checked)) (place_names at (x ∷ xs) (size s) p) f.store (f.store ++ initial_value s ∷ []) (replicate (size s) (pos 0)) (replicate n (pos 0)) (allocate (x ∷ xs) (initial_value s) f) refl (cells ∙ ap (λ l. all_cells f.store ++ l) zero_cells) more_of),
+        extends-by typing ls base (bind_names xs (a_variable s) ((x, a_variable s) ∷ checked)) (add_names_to_placement at (x ∷ xs) (size s) p) f.store (replicate (size s) (pos 0) ++ replicate n (pos 0)) (replicate (size s + n) (pos 0)) (allocate (x ∷ xs) (initial_value s) f) (replicate-append-replicate (size s) n (pos 0))
+            (extends-then typing (typing ++ s ∷ []) (s ∷ []) ls base (bind_names xs (a_variable s) ((x, a_variable s) ∷ checked)) (add_names_to_placement at (x ∷ xs) (size s) p) f.store (f.store ++ initial_value s ∷ []) (replicate (size s) (pos 0)) (replicate n (pos 0)) (allocate (x ∷ xs) (initial_value s) f) refl (cells ∙ ap (λ l. cells_of_store f.store ++ l) zero_cells) more_of),
       )
 
   pub variables-placed : (typing : StoreTyping) (ls : Levels) (base : ℕ) (at : ℕ → Slot) → ((c : ℕ) → slot_address ls (at c) ≡ base + c) → (k : ℕ) (gs : Tree N (items variable)) (checked inner : TypeEnvironment N) (p q : PlacementState N) (f : Frame N) → FramePlaced table typing ls base checked p f
@@ -124,10 +124,10 @@ module _ {N : Type 0} (table : RoutineTable N) where
       (f, 0, refl, ap (λ q. q.cells) (sym same) ∙ omega arith, subst (λ q. Extends table typing ls base inner q f.store [] f) same (subst (λ c. Extends table typing ls base c p f.store [] f) (some_inverse {a = checked} {b = inner} e) (extends-here typing ls base checked p f h)))
   variables-placed typing ls base at is k (more (declares_variable ns u) gs) checked inner p q f h e e' =
       let (s, es, e₁) = then_some (denoted_type (meanings table.naming checked) k u) (λ s. declare_typed_variables table.naming (k + constructor_count u) gs (bind_names (names_in_list ns) (a_variable s) checked)) inner e in
-      let e₂ : place_variables table.naming at (bind_names (names_in_list ns) (a_variable s) checked) (k + constructor_count u) gs (place_names at (names_in_list ns) (size s) p) ≡ Some q =
-      sym (ap (option_and_then (λ s. place_variables table.naming at (bind_names (names_in_list ns) (a_variable s) checked) (k + constructor_count u) gs (place_names at (names_in_list ns) (size s) p))) es) ∙ e' in
+      let e₂ : place_variables table.naming at (bind_names (names_in_list ns) (a_variable s) checked) (k + constructor_count u) gs (add_names_to_placement at (names_in_list ns) (size s) p) ≡ Some q =
+      sym (ap (option_and_then (λ s. place_variables table.naming at (bind_names (names_in_list ns) (a_variable s) checked) (k + constructor_count u) gs (add_names_to_placement at (names_in_list ns) (size s) p))) es) ∙ e' in
       let (m, count, part) = names-placed typing ls base at is (names_in_list ns) s checked p f h in
-      let (g, n, eg, counts, rest) = variables-placed part.typing_now ls base at is (k + constructor_count u) gs (bind_names (names_in_list ns) (a_variable s) checked) inner (place_names at (names_in_list ns) (size s) p) q (allocate (names_in_list ns) (initial_value s) f) part.frame e₁ e₂ in (
+      let (g, n, eg, counts, rest) = variables-placed part.typing_now ls base at is (k + constructor_count u) gs (bind_names (names_in_list ns) (a_variable s) checked) inner (add_names_to_placement at (names_in_list ns) (size s) p) q (allocate (names_in_list ns) (initial_value s) f) part.frame e₁ e₂ in (
         g,
         m + n,
         ap (option_and_then (λ s. declare_variables table.naming (k + constructor_count u) gs (allocate (names_in_list ns) (initial_value s) f))) (denoted_type-same table.naming typing checked f.env h.environment_fits k u ∙ es) ∙ eg,
@@ -139,8 +139,8 @@ module _ {N : Type 0} (table : RoutineTable N) where
   -- procedures
 
   pub procedures-placed : (typing : StoreTyping) (ls : Levels) (k : ℕ) (code : lowered.Instructions) (statements : Tree N (maybe body)) (ps : Tree N (items procedure)) (checked : TypeEnvironment N) (placement : Placement N) (active : Activation N) → RunEnvironmentAgrees table.naming typing checked active
-      → PlacementFits table typing ls checked placement active → procedures_are_well_typed table.naming checked k statements ps ≡ true → RoutinesMeanProcedures table checked placement k code statements ps
-      → (after : TypeEnvironment N) × (placed : Placement N) × RunEnvironmentAgrees table.naming typing after (declare_procedures k ps active) × PlacementFits table typing ls after placed (declare_procedures k ps active) × CodeMeansBody table.naming after placed code statements
+      → PlacementFitsActivation table typing ls checked placement active → procedures_are_well_typed table.naming checked k statements ps ≡ true → RoutinesMeanProcedures table checked placement k code statements ps
+      → (after : TypeEnvironment N) × (placed : Placement N) × RunEnvironmentAgrees table.naming typing after (declare_procedures k ps active) × PlacementFitsActivation table typing ls after placed (declare_procedures k ps active) × CodeMeansBody table.naming after placed code statements
   unfolding block_is_well_typed
   procedures-placed typing ls k code statements end checked placement active env h e means = (checked, placement, env, h, means)
   procedures-placed typing ls k code statements (more p rest) checked placement active env h e means =
@@ -149,7 +149,7 @@ module _ {N : Type 0} (table : RoutineTable N) where
       let fits : (procedure_is_well_typed table.naming (bind_typed_parameters ps (bind_procedure (procedure_name p) ps checked)) k p && procedures_are_well_typed table.naming (bind_procedure (procedure_name p) ps checked) (k + procedure_constructor_count p) statements rest) ≡ true =
       subst (λ o. option_satisfies o (λ ps. procedure_is_well_typed table.naming (bind_typed_parameters ps (bind_procedure (procedure_name p) ps checked)) k p && procedures_are_well_typed table.naming (bind_procedure (procedure_name p) ps checked) (k + procedure_constructor_count p) statements rest) ≡ true) first.are_typed e in
       let both = both_true (procedure_is_well_typed table.naming (bind_typed_parameters ps (bind_procedure (procedure_name p) ps checked)) k p) (procedures_are_well_typed table.naming (bind_procedure (procedure_name p) ps checked) (k + procedure_constructor_count p) statements rest) fits in
-      procedures-placed typing ls (k + procedure_constructor_count p) code statements rest (bind_procedure (procedure_name p) ps checked) ((procedure_name p, local_target i) ∷ placement) ((procedure_name p, a_procedure record { constructors_before = k; text = p }) ∷ active)
+      procedures-placed typing ls (k + procedure_constructor_count p) code statements rest (bind_procedure (procedure_name p) ps checked) ((procedure_name p, local_procedure_target i) ∷ placement) ((procedure_name p, a_procedure record { constructors_before = k; text = p }) ∷ active)
       (refl, (ps, first.are_typed, refl, both.0), env) record { activation_name_agrees = refl; placement_name_agrees = refl; here = (placement, h, first); further = h } both.1 others
 
   -- a block: its frame, and its body
@@ -187,7 +187,7 @@ module _ {N : Type 0} (table : RoutineTable N) where
           others = part.others;
           is_grown = part.is_grown;
           frame = record { store_fits = part.frame.store_fits; environment_fits = fit₄; placing_fits = placed₄; cells_counted = part.frame.cells_counted };
-          cells_added = part.cells_added ∙ ap (λ n. all_cells f.store ++ replicate n (pos 0)) n_is;
+          cells_added = part.cells_added ∙ ap (λ n. cells_of_store f.store ++ replicate n (pos 0)) n_is;
         },
       )
 
@@ -199,7 +199,7 @@ index-of_drop (x ∷ xs) (suc j) y ys e = index-of_drop xs j y ys e
 index-of_drop [] zero y ys e = absurd (cc)
 index-of_drop [] (suc j) y ys e = absurd (cc)
 
-pub arguments-stay : (typing others : StoreTyping) (fs : Signature) (args : List Argument) → ArgumentsMatchSignature typing fs args → argument_addresses (typing ++ others) args ≡ argument_addresses typing args
+pub arguments-stay : (typing others : StoreTyping) (fs : Signature) (args : List Argument) → ArgumentsMatchSignature typing fs args → place_argument_addresses (typing ++ others) args ≡ place_argument_addresses typing args
 arguments-stay typing others [] [] h = refl
 arguments-stay typing others (f ∷ fs) (place_argument p ∷ args) h =
     let (fit, stays) = addresses_stay typing others p f.shape h.1 in λ i. stays i ∷ arguments-stay typing others fs args h.2 i
@@ -208,17 +208,17 @@ arguments-stay typing others _ _ h = absurd h
 
 module _ {N : Type 0} (table : RoutineTable N) where
   pub parameters-placed : (typing : StoreTyping) (l : Level) (ls : Levels) (ps : List (TypedParameter N)) (args : List Argument) (checked : TypeEnvironment N) (p : PlacementState N) (f : Frame N) → FramePlaced table typing (l ∷ ls) l.base checked p f
-      → ArgumentsMatchSignature typing (map (λ p. p.formal) ps) args → drop p.var_parameters_so_far l.addresses ≡ argument_addresses typing args
-      → (g : Frame N) × (bind_parameters (map as_parameter ps) args f ≡ Some g) × Extends table typing (l ∷ ls) l.base (bind_typed_parameters ps checked) (place_parameters ps p) f.store (argument_cells args) g
+      → ArgumentsMatchSignature typing (map (λ p. p.formal) ps) args → drop p.var_parameters_so_far l.addresses ≡ place_argument_addresses typing args
+      → (g : Frame N) × (bind_parameters (map as_parameter ps) args f ≡ Some g) × Extends table typing (l ∷ ls) l.base (bind_typed_parameters ps checked) (place_parameters ps p) f.store (value_argument_cells args) g
   parameters-placed typing l ls [] [] checked p f h fit there = (f, refl, extends-here table typing (l ∷ ls) l.base checked p f h)
   parameters-placed typing l ls (q ∷ ps) (place_argument place ∷ args) checked p f h fit there =
-      let (first, rest) = index-of_drop l.addresses p.var_parameters_so_far (address typing place) (argument_addresses typing args) there in
+      let (first, rest) = index-of_drop l.addresses p.var_parameters_so_far (address typing place) (place_argument_addresses typing args) there in
       let p₁ : PlacementState N = record p { placement = (q.name, in_slot (by_reference 0 p.var_parameters_so_far)) ∷ p.placement; var_parameters_so_far = suc p.var_parameters_so_far } in
       let f₁ : Frame N = record { env = (q.name, a_variable place) ∷ f.env; store = f.store } in
       let (g, eg, part) = parameters-placed typing l ls ps args ((q.name, a_variable q.formal.shape) ∷ checked) p₁ f₁ record { store_fits = h.store_fits; environment_fits = (refl, fit.1, h.environment_fits); placing_fits = record { activation_name_agrees = refl; placement_name_agrees = refl; here = (fit.1, first); further = h.placing_fits }; cells_counted = h.cells_counted } fit.2 rest in (
         g,
         ap (λ m. option_and_then (bind_parameters (map as_parameter ps) args) (bind_parameter m q.name (place_argument place) f)) fit.0 ∙ eg,
-        subst (λ m. Extends table typing (l ∷ ls) l.base (bind_typed_parameters ps ((q.name, a_variable q.formal.shape) ∷ checked)) (place_parameters ps (place_name (in_activation 0) m q.name (size q.formal.shape) p)) f.store (argument_cells args) g) (sym fit.0) part,
+        subst (λ m. Extends table typing (l ∷ ls) l.base (bind_typed_parameters ps ((q.name, a_variable q.formal.shape) ∷ checked)) (place_parameters ps (add_name_to_placement (in_activation 0) m q.name (size q.formal.shape) p)) f.store (value_argument_cells args) g) (sym fit.0) part,
       )
   parameters-placed typing l ls (q ∷ ps) (value_argument v ∷ args) checked p f h fit there =
       let s = q.formal.shape in
@@ -228,7 +228,7 @@ module _ {N : Type 0} (table : RoutineTable N) where
       let (g, eg, part) = parameters-placed (typing ++ s ∷ []) l ls ps args ((q.name, a_variable s) ∷ checked) p₁ f₁ one (ArgumentsMatchSignature-grows typing (s ∷ []) (map (λ p. p.formal) ps) args fit.2) (there ∙ sym (arguments-stay typing (s ∷ []) (map (λ p. p.formal) ps) args fit.2)) in (
         g,
         ap (λ m. option_and_then (bind_parameters (map as_parameter ps) args) (bind_parameter m q.name (value_argument v) f)) fit.0 ∙ eg,
-        subst (λ m. Extends table typing (l ∷ ls) l.base (bind_typed_parameters ps ((q.name, a_variable s) ∷ checked)) (place_parameters ps (place_name (in_activation 0) m q.name (size s) p)) f.store (cells_of v ++ argument_cells args) g) (sym fit.0)
-            (extends-then table typing (typing ++ s ∷ []) (s ∷ []) (l ∷ ls) l.base (bind_typed_parameters ps ((q.name, a_variable s) ∷ checked)) (place_parameters ps p₁) f.store (f.store ++ v ∷ []) (cells_of v) (argument_cells args) g refl cells part),
+        subst (λ m. Extends table typing (l ∷ ls) l.base (bind_typed_parameters ps ((q.name, a_variable s) ∷ checked)) (place_parameters ps (add_name_to_placement (in_activation 0) m q.name (size s) p)) f.store (cells_of v ++ value_argument_cells args) g) (sym fit.0)
+            (extends-then table typing (typing ++ s ∷ []) (s ∷ []) (l ∷ ls) l.base (bind_typed_parameters ps ((q.name, a_variable s) ∷ checked)) (place_parameters ps p₁) f.store (f.store ++ v ∷ []) (cells_of v) (value_argument_cells args) g refl cells part),
       )
   parameters-placed typing l ls _ _ checked p f h fit there = absurd fit

@@ -7,25 +7,25 @@ use Rattle.ob0_language_values.specs.Values.{Place, Shape}
 use Rattle.ob0_language_runs.specs.TypeAgreement.{StoreTyping}
 use Rattle.ob0_language_runs.specs.Runs.{Activation, ProcedureText, object_for_statements}
 use Rattle.ob0_run_machine.specs.Evaluation.{Level, Levels}
-use Rattle.ob0_run_cells.specs.Activations.{BindingIsPlaced, RoutineTable, Placement, PlacementFits, BindingPlace, at_target, first_slot, suffix_from_name, in_slot, inward_placement, inward_slot, inward_binding_place, nowhere}
+use Rattle.ob0_run_cells.specs.Activations.{BindingIsPlaced, RoutineTable, Placement, PlacementFitsActivation, BindingPlace, at_target, slot_of_first_binding, placement_from_binding, in_slot, placement_seen_one_level_deeper, slot_seen_one_level_deeper, binding_place_seen_one_level_deeper, nowhere}
 use Rattle.ob0_run_cells.specs.Cells.{address}
 use Rattle.ob0_run_cells.specs.Lowering.{Slot, of_module, slot_address}
 use Rattle.ob0_run_cells.proofs.Places.{addresses_stay}
 
 module _ {N : Type 0} (table : RoutineTable N) where
   -- the bindings from a name's first on are placed too
-  pub from-placed : (typing : StoreTyping) (ls : Levels) (checked : TypeEnvironment N) (placement : Placement N) (active : Activation N) (x : N) → PlacementFits table typing ls checked placement active
-      → PlacementFits table typing ls (environment_from_binding table.naming checked x) (suffix_from_name table.naming placement x) (environment_from_binding table.naming active x)
+  pub from-placed : (typing : StoreTyping) (ls : Levels) (checked : TypeEnvironment N) (placement : Placement N) (active : Activation N) (x : N) → PlacementFitsActivation table typing ls checked placement active
+      → PlacementFitsActivation table typing ls (environment_from_binding table.naming checked x) (placement_from_binding table.naming placement x) (environment_from_binding table.naming active x)
   from-placed typing ls [] [] [] x h = tt
   from-placed typing ls (b ∷ checked) (w ∷ placement) (d ∷ active) x h =
-      subst (λ y. PlacementFits table typing ls (elim (table.naming.same x b.0) [ true ↦ b ∷ checked | false ↦ environment_from_binding table.naming checked x ]) (elim (table.naming.same x y) [ true ↦ w ∷ placement | false ↦ suffix_from_name table.naming placement x ]) (elim (table.naming.same x d.0) [ true ↦ d ∷ active | false ↦ environment_from_binding table.naming active x ])) h.placement_name_agrees
-      (subst (λ y. PlacementFits table typing ls (elim (table.naming.same x b.0) [ true ↦ b ∷ checked | false ↦ environment_from_binding table.naming checked x ]) (elim (table.naming.same x b.0) [ true ↦ w ∷ placement | false ↦ suffix_from_name table.naming placement x ]) (elim (table.naming.same x y) [ true ↦ d ∷ active | false ↦ environment_from_binding table.naming active x ])) h.activation_name_agrees
-      (elim (table.naming.same x b.0) as (λ v. PlacementFits table typing ls (elim v [ true ↦ b ∷ checked | false ↦ environment_from_binding table.naming checked x ]) (elim v [ true ↦ w ∷ placement | false ↦ suffix_from_name table.naming placement x ]) (elim v [ true ↦ d ∷ active | false ↦ environment_from_binding table.naming active x ]))
+      subst (λ y. PlacementFitsActivation table typing ls (elim (table.naming.same x b.0) [ true ↦ b ∷ checked | false ↦ environment_from_binding table.naming checked x ]) (elim (table.naming.same x y) [ true ↦ w ∷ placement | false ↦ placement_from_binding table.naming placement x ]) (elim (table.naming.same x d.0) [ true ↦ d ∷ active | false ↦ environment_from_binding table.naming active x ])) h.placement_name_agrees
+      (subst (λ y. PlacementFitsActivation table typing ls (elim (table.naming.same x b.0) [ true ↦ b ∷ checked | false ↦ environment_from_binding table.naming checked x ]) (elim (table.naming.same x b.0) [ true ↦ w ∷ placement | false ↦ placement_from_binding table.naming placement x ]) (elim (table.naming.same x y) [ true ↦ d ∷ active | false ↦ environment_from_binding table.naming active x ])) h.activation_name_agrees
+      (elim (table.naming.same x b.0) as (λ v. PlacementFitsActivation table typing ls (elim v [ true ↦ b ∷ checked | false ↦ environment_from_binding table.naming checked x ]) (elim v [ true ↦ w ∷ placement | false ↦ placement_from_binding table.naming placement x ]) (elim v [ true ↦ d ∷ active | false ↦ environment_from_binding table.naming active x ]))
       [ true ↦ h | false ↦ from-placed typing ls checked placement active x h.further ]))
   from-placed typing ls _ _ _ x h = absurd h
 
   slot-here : (typing : StoreTyping) (ls : Levels) (checked : TypeEnvironment N) (Fits : Levels → Placement N → Type 0) (x : N) (o : Object Shape Signature) (w : BindingPlace) (r : Object Place (ProcedureText N)) (p : Place)
-      → BindingIsPlaced table typing ls checked Fits x o w r → object_for_statements (Some r) ≡ Some (a_variable p) → (rest : Placement N) → slot_address ls (first_slot ((x, w) ∷ rest)) ≡ address typing p
+      → BindingIsPlaced table typing ls checked Fits x o w r → object_for_statements (Some r) ≡ Some (a_variable p) → (rest : Placement N) → slot_address ls (slot_of_first_binding ((x, w) ∷ rest)) ≡ address typing p
   slot-here typing ls checked Fits x (a_variable s) (in_slot slot) (a_variable q) p h e rest = h.1 ∙ ap (λ o. address typing (elim o [ None ↦ q | Some v ↦ elim v [ a_variable p ↦ p | _ ↦ q ] ])) e
   slot-here typing ls checked Fits x (a_procedure s) (at_target t) (a_procedure c) p h e rest = absurd (cc)
   slot-here typing ls checked Fits x (a_type s) nowhere (a_type u) p h e rest = absurd (cc)
@@ -33,9 +33,9 @@ module _ {N : Type 0} (table : RoutineTable N) where
   slot-here typing ls checked Fits x (a_standard q) nowhere (a_standard r) p h e rest = absurd (cc)
   slot-here typing ls checked Fits x _ _ _ p h e rest = absurd h
 
-  pub slots-fit : (typing : StoreTyping) (ls : Levels) (checked : TypeEnvironment N) (placement : Placement N) (active : Activation N) → PlacementFits table typing ls checked placement active → (p : Place) → object_for_statements (newest_object active) ≡ Some (a_variable p) → slot_address ls (first_slot placement) ≡ address typing p
+  pub slots-fit : (typing : StoreTyping) (ls : Levels) (checked : TypeEnvironment N) (placement : Placement N) (active : Activation N) → PlacementFitsActivation table typing ls checked placement active → (p : Place) → object_for_statements (newest_object active) ≡ Some (a_variable p) → slot_address ls (slot_of_first_binding placement) ≡ address typing p
   slots-fit typing ls [] [] [] h p e = absurd (cc)
-  slots-fit typing ls (b ∷ checked) (w ∷ placement) (d ∷ active) h p e = slot-here typing ls checked (λ ls placement. PlacementFits table typing ls checked placement active) b.0 b.1 w.1 d.1 p h.here e placement
+  slots-fit typing ls (b ∷ checked) (w ∷ placement) (d ∷ active) h p e = slot-here typing ls checked (λ ls placement. PlacementFitsActivation table typing ls checked placement active) b.0 b.1 w.1 d.1 p h.here e placement
   slots-fit typing ls _ _ _ h p e = absurd h
 
   -- stores grow
@@ -50,13 +50,13 @@ module _ {N : Type 0} (table : RoutineTable N) where
   grows-here typing others ls checked Fits Grown grow x (a_standard q) nowhere (a_standard r) h = tt
   grows-here typing others ls checked Fits Grown grow x _ _ _ h = absurd h
 
-  pub placement-grows : (typing others : StoreTyping) (checked : TypeEnvironment N) (active : Activation N) (ls : Levels) (placement : Placement N) → PlacementFits table typing ls checked placement active → PlacementFits table (typing ++ others) ls checked placement active
+  pub placement-grows : (typing others : StoreTyping) (checked : TypeEnvironment N) (active : Activation N) (ls : Levels) (placement : Placement N) → PlacementFitsActivation table typing ls checked placement active → PlacementFitsActivation table (typing ++ others) ls checked placement active
   placement-grows typing others [] [] ls [] h = tt
   placement-grows typing others (b ∷ checked) (d ∷ active) ls (w ∷ placement) h =
       record {
         activation_name_agrees = h.activation_name_agrees;
         placement_name_agrees = h.placement_name_agrees;
-        here = grows-here typing others ls checked (λ ls placement. PlacementFits table typing ls checked placement active) (λ ls placement. PlacementFits table (typing ++ others) ls checked placement active) (placement-grows typing others checked active) b.0 b.1 w.1 d.1 h.here;
+        here = grows-here typing others ls checked (λ ls placement. PlacementFitsActivation table typing ls checked placement active) (λ ls placement. PlacementFitsActivation table (typing ++ others) ls checked placement active) (placement-grows typing others checked active) b.0 b.1 w.1 d.1 h.here;
         further = placement-grows typing others checked active ls placement h.further;
       }
   placement-grows typing others [] (d ∷ active) ls [] h = absurd h
@@ -65,26 +65,26 @@ module _ {N : Type 0} (table : RoutineTable N) where
 
   -- one activation further in
 
-  slot-inward_placement : (l : Level) (ls : Levels) (s : Slot) → slot_address (l ∷ ls) (inward_slot s) ≡ slot_address ls s
-  slot-inward_placement l ls (of_module at) = refl
-  slot-inward_placement l ls _ = refl
+  slot-placement_seen_one_level_deeper : (l : Level) (ls : Levels) (s : Slot) → slot_address (l ∷ ls) (slot_seen_one_level_deeper s) ≡ slot_address ls s
+  slot-placement_seen_one_level_deeper l ls (of_module at) = refl
+  slot-placement_seen_one_level_deeper l ls _ = refl
 
-  inward_placement-here : (typing : StoreTyping) (l : Level) (ls : Levels) (checked : TypeEnvironment N) (Fits : Levels → Placement N → Type 0) (x : N) (o : Object Shape Signature) (w : BindingPlace) (r : Object Place (ProcedureText N))
-      → BindingIsPlaced table typing ls checked Fits x o w r → BindingIsPlaced table typing (l ∷ ls) checked Fits x o (inward_binding_place w) r
-  inward_placement-here typing l ls checked Fits x (a_variable s) (in_slot slot) (a_variable p) h = (h.0, slot-inward_placement l ls slot ∙ h.1)
-  inward_placement-here typing l ls checked Fits x (a_procedure s) (at_target t) (a_procedure c) h = h
-  inward_placement-here typing l ls checked Fits x (a_type s) nowhere (a_type u) h = tt
-  inward_placement-here typing l ls checked Fits x (a_constant v) nowhere (a_constant w) h = tt
-  inward_placement-here typing l ls checked Fits x (a_standard q) nowhere (a_standard r) h = tt
-  inward_placement-here typing l ls checked Fits x _ _ _ h = absurd h
+  placement_seen_one_level_deeper-here : (typing : StoreTyping) (l : Level) (ls : Levels) (checked : TypeEnvironment N) (Fits : Levels → Placement N → Type 0) (x : N) (o : Object Shape Signature) (w : BindingPlace) (r : Object Place (ProcedureText N))
+      → BindingIsPlaced table typing ls checked Fits x o w r → BindingIsPlaced table typing (l ∷ ls) checked Fits x o (binding_place_seen_one_level_deeper w) r
+  placement_seen_one_level_deeper-here typing l ls checked Fits x (a_variable s) (in_slot slot) (a_variable p) h = (h.0, slot-placement_seen_one_level_deeper l ls slot ∙ h.1)
+  placement_seen_one_level_deeper-here typing l ls checked Fits x (a_procedure s) (at_target t) (a_procedure c) h = h
+  placement_seen_one_level_deeper-here typing l ls checked Fits x (a_type s) nowhere (a_type u) h = tt
+  placement_seen_one_level_deeper-here typing l ls checked Fits x (a_constant v) nowhere (a_constant w) h = tt
+  placement_seen_one_level_deeper-here typing l ls checked Fits x (a_standard q) nowhere (a_standard r) h = tt
+  placement_seen_one_level_deeper-here typing l ls checked Fits x _ _ _ h = absurd h
 
-  pub inward_placement-fits : (typing : StoreTyping) (l : Level) (ls : Levels) (checked : TypeEnvironment N) (placement : Placement N) (active : Activation N) → PlacementFits table typing ls checked placement active → PlacementFits table typing (l ∷ ls) checked (inward_placement placement) active
-  inward_placement-fits typing l ls [] [] [] h = tt
-  inward_placement-fits typing l ls (b ∷ checked) (w ∷ placement) (d ∷ active) h =
+  pub placement_seen_one_level_deeper-fits : (typing : StoreTyping) (l : Level) (ls : Levels) (checked : TypeEnvironment N) (placement : Placement N) (active : Activation N) → PlacementFitsActivation table typing ls checked placement active → PlacementFitsActivation table typing (l ∷ ls) checked (placement_seen_one_level_deeper placement) active
+  placement_seen_one_level_deeper-fits typing l ls [] [] [] h = tt
+  placement_seen_one_level_deeper-fits typing l ls (b ∷ checked) (w ∷ placement) (d ∷ active) h =
       record {
         activation_name_agrees = h.activation_name_agrees;
         placement_name_agrees = h.placement_name_agrees;
-        here = inward_placement-here typing l ls checked (λ ls placement. PlacementFits table typing ls checked placement active) b.0 b.1 w.1 d.1 h.here;
-        further = inward_placement-fits typing l ls checked placement active h.further;
+        here = placement_seen_one_level_deeper-here typing l ls checked (λ ls placement. PlacementFitsActivation table typing ls checked placement active) b.0 b.1 w.1 d.1 h.here;
+        further = placement_seen_one_level_deeper-fits typing l ls checked placement active h.further;
       }
-  inward_placement-fits typing l ls _ _ _ h = absurd h
+  placement_seen_one_level_deeper-fits typing l ls _ _ _ h = absurd h

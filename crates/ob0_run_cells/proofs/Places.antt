@@ -1,37 +1,37 @@
 -- What places hold lies in the cells of the store.
 use Rattle.std.proofs.Common.{◌≡◌, ℕ, zero, suc, ◌+◌, ◌≤◌, Bool, List, [], ◌∷◌, ◌++◌, length, take, ℤ, slice_get, slice_set, Some, option_map, option_and_then, unwrap_or, sym, refl, ap, ◌∙◌, subst, arith, length-append}
 use Rattle.ob0_language_values.specs.Values.{Place, Shape, Step, Store, Value, value_at_path, boolean_shape, integer_shape, number, read_place, truth, with_value_at_path, write_place}
-use Rattle.ob0_language_runs.specs.TypeAgreement.{HasShape, PlaceHasType, StoreHasTypes, StoreTyping, part_shape, shape_at_path}
+use Rattle.ob0_language_runs.specs.TypeAgreement.{HasShape, PlaceHasType, StoreHasTypes, StoreTyping, shape_at_step, shape_at_path}
 use Rattle.ob0_language_types.proofs.Conditions.{of_some}
 use Rattle.ob0_language_types.proofs.TypedElsewhere.{then_some}
 use Rattle.ob0_language_runs.proofs.Sound.{is_number, is_truth}
 use Rattle.ob0_language_runs.proofs.SoundStatements.{PlaceHasType-grows, set-fits, slice_get-grows, with_path-fits}
-use Rattle.ob0_run_cells.specs.Cells.{address, all_cells, cells_at, cells_of, overwritten_cells, offset, size, store_size, truth_cell}
+use Rattle.ob0_run_cells.specs.Cells.{address, cells_of_store, cells_at, cells_of, cells_after_overwrite, offset, size, store_size, truth_cell}
 use Rattle.ob0_run_cells.proofs.Parts.{cells-size, lies-inside, path-lies}
 use Rattle.ob0_run_cells.proofs.Splits.{Lies, lies-following, lies-first, lies-within, split-at, split-get, split-set, split-with}
 
-pub store-size : (typing : StoreTyping) (store : Store) → StoreHasTypes typing store → length (all_cells store) ≡ store_size typing
+pub store-size : (typing : StoreTyping) (store : Store) → StoreHasTypes typing store → length (cells_of_store store) ≡ store_size typing
 store-size [] [] h = refl
 store-size (s ∷ typing) (v ∷ store) h =
-    length-append (cells_of v) (all_cells store) ∙ (ap (λ n. n + length (all_cells store)) (cells-size v s h.0) ∙ ap (λ n. size s + n) (store-size typing store h.1))
+    length-append (cells_of v) (cells_of_store store) ∙ (ap (λ n. n + length (cells_of_store store)) (cells-size v s h.0) ∙ ap (λ n. size s + n) (store-size typing store h.1))
 store-size _ _ h = absurd h
 
 -- a variable lies after the older ones
 pub variable-lies : (typing : StoreTyping) (store : Store) (n : ℕ) (s : Shape) → StoreHasTypes typing store → slice_get typing n ≡ Some s
-    → (v : Value) × (slice_get store n ≡ Some v) × HasShape v s × Lies all_cells store v (slice_set store n) (store_size (take n typing))
+    → (v : Value) × (slice_get store n ≡ Some v) × HasShape v s × Lies cells_of_store store v (slice_set store n) (store_size (take n typing))
 variable-lies [] [] n s h e = absurd (cc)
 variable-lies (t ∷ typing) (v ∷ store) zero s h e =
-    (v, refl, of_some (λ s. HasShape v s) e h.0, lies-first all_cells (v ∷ store) v (slice_set (v ∷ store) zero) (all_cells store) refl (λ new. refl))
+    (v, refl, of_some (λ s. HasShape v s) e h.0, lies-first cells_of_store (v ∷ store) v (slice_set (v ∷ store) zero) (cells_of_store store) refl (λ new. refl))
 variable-lies (t ∷ typing) (v ∷ store) (suc n) s h e =
     let (w, ew, hw, l) = variable-lies typing store n s h.1 e in
-    (w, ew, hw, lies-following all_cells all_cells (v ∷ store) store w (slice_set (v ∷ store) (suc n)) (slice_set store n) (cells_of v) (size t) (store_size (take n typing)) refl (λ new. refl) (cells-size v t h.0) l)
+    (w, ew, hw, lies-following cells_of_store cells_of_store (v ∷ store) store w (slice_set (v ∷ store) (suc n)) (slice_set store n) (cells_of v) (size t) (store_size (take n typing)) refl (λ new. refl) (cells-size v t h.0) l)
 variable-lies _ _ n s h e = absurd h
 
 -- what lies at a place, and what writing it makes of the store
 abbrev pub PlaceLies : StoreTyping → Store → Place → Shape → Type 0
 PlaceLies typing store p s =
     (v : Value) × (read_place store p ≡ Some v) × HasShape v s × (write : Value → Store) × ((new : Value) → write_place store p new ≡ Some (write new)) × ((new : Value) → HasShape new s → StoreHasTypes typing (write new))
-    × Lies all_cells store v write (address typing p)
+    × Lies cells_of_store store v write (address typing p)
 
 pub place-lies : (typing : StoreTyping) (store : Store) (p : Place) (s : Shape) → StoreHasTypes typing store → PlaceHasType typing p s → PlaceLies typing store p s
 place-lies typing store p s h e =
@@ -46,8 +46,8 @@ place-lies typing store p s h e =
       (λ new hn. let (u, eu, hu) = with_path-fits p.path v t s new hv e₁ hn in
           let same : u ≡ write new = ap (λ o. unwrap_or o (write new)) (sym eu ∙ made new) in
           set-fits typing store p.variable t (write new) h et (subst (λ u. HasShape u t) same hu)),
-      subst (λ o. Lies all_cells store w (λ new. slice_set store p.variable (write new)) (store_size (take p.variable typing) + unwrap_or (option_map (offset p.path) o) 0)) (sym et)
-          (lies-within all_cells store v w (slice_set store p.variable) write (store_size (take p.variable typing)) (offset p.path t) l k),
+      subst (λ o. Lies cells_of_store store w (λ new. slice_set store p.variable (write new)) (store_size (take p.variable typing) + unwrap_or (option_map (offset p.path) o) 0)) (sym et)
+          (lies-within cells_of_store store v w (slice_set store p.variable) write (store_size (take p.variable typing)) (offset p.path t) l k),
     )
 
 -- a place holds a value of a type, whose cells are those of the store from the place's address on
@@ -56,12 +56,12 @@ pub record HoldsSlice (typing : StoreTyping) (store : Store) (p : Place) (s : Sh
   pub value : Value
   pub is_read : read_place store p ≡ Some value
   pub has_shape : HasShape value s
-  pub same_cells : cells_of value ≡ cells_at (address typing p) (size s) (all_cells store)
+  pub same_cells : cells_of value ≡ cells_at (address typing p) (size s) (cells_of_store store)
 
 pub places_are_slices : (typing : StoreTyping) (store : Store) (p : Place) (s : Shape) → StoreHasTypes typing store → PlaceHasType typing p s → HoldsSlice typing store p s
 places_are_slices typing store p s h e =
     let (v, ev, hv, write, made, fits, l) = place-lies typing store p s h e in record {
-      within = lies-inside all_cells store v write (address typing p) (size s) (store_size typing) l (cells-size v s hv) (store-size typing store h);
+      within = lies-inside cells_of_store store v write (address typing p) (size s) (store_size typing) l (cells-size v s hv) (store-size typing store h);
       value = v;
       is_read = ev;
       has_shape = hv;
@@ -73,28 +73,28 @@ pub record WritesPlace (typing : StoreTyping) (store : Store) (p : Place) (new :
   pub after : Store
   pub is_written : write_place store p new ≡ Some after
   pub store_fits : StoreHasTypes typing after
-  pub same_cells : all_cells after ≡ cells
+  pub same_cells : cells_of_store after ≡ cells
 
-pub writing_places_writes_slices : (typing : StoreTyping) (store : Store) (p : Place) (s : Shape) (new : Value) → StoreHasTypes typing store → PlaceHasType typing p s → HasShape new s → WritesPlace typing store p new (overwritten_cells (address typing p) (cells_of new) (all_cells store))
+pub writing_places_writes_slices : (typing : StoreTyping) (store : Store) (p : Place) (s : Shape) (new : Value) → StoreHasTypes typing store → PlaceHasType typing p s → HasShape new s → WritesPlace typing store p new (cells_after_overwrite (address typing p) (cells_of new) (cells_of_store store))
 writing_places_writes_slices typing store p s new h e hn =
     let (v, ev, hv, write, made, fits, l) = place-lies typing store p s h e in record {
       after = write new;
       is_written = made new;
       store_fits = fits new hn;
-      same_cells = l.is_written new ∙ (split-with l.before (cells_of v) (cells_of new) l.after (address typing p) l.begins (cells-size new s hn ∙ sym (cells-size v s hv)) ∙ ap (overwritten_cells (address typing p) (cells_of new)) (sym l.is_split));
+      same_cells = l.is_written new ∙ (split-with l.before (cells_of v) (cells_of new) l.after (address typing p) l.begins (cells-size new s hn ∙ sym (cells-size v s hv)) ∙ ap (cells_after_overwrite (address typing p) (cells_of new)) (sym l.is_split));
     }
 
 -- a value of one cell is read from it, and written to it
-pub one-read : (store : Store) (v : Value) (write : Value → Store) (a : ℕ) (n : ℤ) → Lies all_cells store v write a → cells_of v ≡ n ∷ [] → slice_get (all_cells store) a ≡ Some n
+pub one-read : (store : Store) (v : Value) (write : Value → Store) (a : ℕ) (n : ℤ) → Lies cells_of_store store v write a → cells_of v ≡ n ∷ [] → slice_get (cells_of_store store) a ≡ Some n
 one-read store v write a n l e =
     ap (λ cells. slice_get cells a) (l.is_split ∙ ap (λ mine. l.before ++ (mine ++ l.after)) e) ∙ split-get l.before n l.after a l.begins
 
-pub one-written : (store : Store) (v new : Value) (write : Value → Store) (a : ℕ) (m n : ℤ) → Lies all_cells store v write a → cells_of v ≡ m ∷ [] → cells_of new ≡ n ∷ [] → all_cells (write new) ≡ slice_set (all_cells store) a n
+pub one-written : (store : Store) (v new : Value) (write : Value → Store) (a : ℕ) (m n : ℤ) → Lies cells_of_store store v write a → cells_of v ≡ m ∷ [] → cells_of new ≡ n ∷ [] → cells_of_store (write new) ≡ slice_set (cells_of_store store) a n
 one-written store v new write a m n l e en =
     l.is_written new ∙ (ap (λ mine. l.before ++ (mine ++ l.after)) en ∙ (split-set l.before m n l.after a l.begins ∙ ap (λ cells. slice_set cells a n) (sym (l.is_split ∙ ap (λ mine. l.before ++ (mine ++ l.after)) e))))
 
 pub numbers_are_cells : (typing : StoreTyping) (store : Store) (p : Place) → StoreHasTypes typing store → PlaceHasType typing p integer_shape
-    → ((n : ℤ) × (read_place store p ≡ Some (number n)) × (slice_get (all_cells store) (address typing p) ≡ Some n)) × ((n : ℤ) → WritesPlace typing store p (number n) (slice_set (all_cells store) (address typing p) n))
+    → ((n : ℤ) × (read_place store p ≡ Some (number n)) × (slice_get (cells_of_store store) (address typing p) ≡ Some n)) × ((n : ℤ) → WritesPlace typing store p (number n) (slice_set (cells_of_store store) (address typing p) n))
 numbers_are_cells typing store p h e =
     let (v, ev, hv, write, made, fits, l) = place-lies typing store p integer_shape h e in
     let (m, em) = is_number v hv in (
@@ -103,7 +103,7 @@ numbers_are_cells typing store p h e =
     )
 
 pub truths_are_cells : (typing : StoreTyping) (store : Store) (p : Place) → StoreHasTypes typing store → PlaceHasType typing p boolean_shape
-    → ((b : Bool) × (read_place store p ≡ Some (truth b)) × (slice_get (all_cells store) (address typing p) ≡ Some (truth_cell b))) × ((b : Bool) → WritesPlace typing store p (truth b) (slice_set (all_cells store) (address typing p) (truth_cell b)))
+    → ((b : Bool) × (read_place store p ≡ Some (truth b)) × (slice_get (cells_of_store store) (address typing p) ≡ Some (truth_cell b))) × ((b : Bool) → WritesPlace typing store p (truth b) (slice_set (cells_of_store store) (address typing p) (truth_cell b)))
 truths_are_cells typing store p h e =
     let (v, ev, hv, write, made, fits, l) = place-lies typing store p boolean_shape h e in
     let (b, eb) = is_truth v hv in (
@@ -119,10 +119,10 @@ shape-append [] more s t u e e' =
     let same : s ≡ t = ap (λ o. unwrap_or o s) e in
     (subst (λ t. shape_at_path more t ≡ Some u) (sym same) e', ap (offset more) same ∙ omega arith)
 shape-append (step ∷ path) more s t u e e' =
-    let (r, er, e₁) = then_some (part_shape s step) (shape_at_path path) t e in
+    let (r, er, e₁) = then_some (shape_at_step s step) (shape_at_path path) t e in
     let (is, adds) = shape-append path more r t u e₁ e' in
-    let here : unwrap_or (option_map (offset path) (part_shape s step)) 0 ≡ offset path r = ap (λ o. unwrap_or (option_map (offset path) o) 0) er in
-    let there : unwrap_or (option_map (offset (path ++ more)) (part_shape s step)) 0 ≡ offset (path ++ more) r = ap (λ o. unwrap_or (option_map (offset (path ++ more)) o) 0) er in
+    let here : unwrap_or (option_map (offset path) (shape_at_step s step)) 0 ≡ offset path r = ap (λ o. unwrap_or (option_map (offset path) o) 0) er in
+    let there : unwrap_or (option_map (offset (path ++ more)) (shape_at_step s step)) 0 ≡ offset (path ++ more) r = ap (λ o. unwrap_or (option_map (offset (path ++ more)) o) 0) er in
     (ap (option_and_then (shape_at_path (path ++ more))) er ∙ is, omega (arith, adds, here, there))
 
 -- a part of what a place holds has its offset after the place's address

@@ -4,40 +4,40 @@ use Rattle.std.proofs.lemmas.List.{map-append}
 use Rattle.ob0_language_types.specs.WellTyped.{TypeMeanings}
 use Rattle.ob0_language_values.specs.Values.{Outcome, Place, Shape, Store, TurnBound, Value, boolean_shape, ends_run_with, succeeds_with, integer_shape, number, or_stuck, truth}
 use Rattle.ob0_language_runs.specs.TypeAgreement.{PlaceHasType, StoreHasTypes, StoreTyping}
-use Rattle.ob0_language_runs.specs.Runs.{Progress, State, choose_by_truth, continue_with, append_output, read_number, running, stopped, store_at, execute_while, execute_repeat, use_result}
+use Rattle.ob0_language_runs.specs.Runs.{Progress, State, choose_by_truth, continue_with, append_output, read_number, running, stopped, store_at, execute_while, execute_repeat, continue_with_result}
 use Rattle.ob0_run_machine.specs.Evaluation as machine
 use Rattle.ob0_run_machine.specs.Execution as execution
 use Rattle.ob0_run_machine.specs.Lowered as lowered
-use Rattle.ob0_run_cells.specs.Cells.{address, all_cells, truth_cell}
-use Rattle.ob0_run_cells.specs.LoweredStatements.{Body, ProgressRepresents, Represents, IsBodyOfModule, Target, printed_item_of}
+use Rattle.ob0_run_cells.specs.Cells.{address, cells_of_store, truth_cell}
+use Rattle.ob0_run_cells.specs.LoweredStatements.{BodyContext, ProgressRepresents, StateRepresents, IsBodyOfModule, Target, printed_item_of}
 use Rattle.ob0_run_cells.specs.Lowering.{OutcomeByMoment, Moment, NumberMeans, PlaceMeans, IsMomentOfModule, Slot, TruthMeans, end_of, outcome_of}
 use Rattle.ob0_run_cells.proofs.LoweredOutcomes.{Led, ended-same, given-same}
 use Rattle.ob0_run_cells.proofs.Places.{numbers_are_cells, truths_are_cells}
 
 -- an evaluation, and what comes of what it gives
 
-pub use-represents : {A B : Type 0} (typing : StoreTyping) (f : A → B) (low : execution.MachineState) (s : State) (o : machine.StepResult A) (w : Outcome B) (k : A → execution.MachineProgress) (j : B → Progress) → Represents typing low s → outcome_of f o ≡ w
-    → ((a : A) → o ≡ machine.gives a → ProgressRepresents typing (k a) (j (f a))) → ProgressRepresents typing (execution.use_result low o k) (use_result s w j)
-use-represents typing f low s (machine.gives a) w k j h e each = subst (λ w. ProgressRepresents typing (k a) (use_result s w j)) e (each a refl)
-use-represents typing f low s (machine.ends x) w k j h e each = subst (λ w. ProgressRepresents typing (execution.stopped x low.output) (use_result s w j)) e (refl, h.same_output)
+pub use-represents : {A B : Type 0} (typing : StoreTyping) (f : A → B) (low : execution.MachineState) (s : State) (o : machine.StepResult A) (w : Outcome B) (k : A → execution.MachineProgress) (j : B → Progress) → StateRepresents typing low s → outcome_of f o ≡ w
+    → ((a : A) → o ≡ machine.gives a → ProgressRepresents typing (k a) (j (f a))) → ProgressRepresents typing (execution.continue_with_result low o k) (continue_with_result s w j)
+use-represents typing f low s (machine.gives a) w k j h e each = subst (λ w. ProgressRepresents typing (k a) (continue_with_result s w j)) e (each a refl)
+use-represents typing f low s (machine.ends x) w k j h e each = subst (λ w. ProgressRepresents typing (execution.stopped x low.output) (continue_with_result s w j)) e (refl, h.same_output)
 
-pub use-place : (typing : StoreTyping) (shape : Shape) (low : execution.MachineState) (s : State) (o : machine.StepResult ℕ) (w : Outcome Place) (k : ℕ → execution.MachineProgress) (j : Place → Progress) → Represents typing low s → Led typing shape o w
-    → ((p : Place) → PlaceHasType typing p shape → ProgressRepresents typing (k (address typing p)) (j p)) → ProgressRepresents typing (execution.use_result low o k) (use_result s w j)
+pub use-place : (typing : StoreTyping) (shape : Shape) (low : execution.MachineState) (s : State) (o : machine.StepResult ℕ) (w : Outcome Place) (k : ℕ → execution.MachineProgress) (j : Place → Progress) → StateRepresents typing low s → Led typing shape o w
+    → ((p : Place) → PlaceHasType typing p shape → ProgressRepresents typing (k (address typing p)) (j p)) → ProgressRepresents typing (execution.continue_with_result low o k) (continue_with_result s w j)
 use-place typing shape low s (machine.gives a) (succeeds_with p) k j h led each =
     let e : a ≡ address typing p = given-same a (address typing p) led.is_same in
     subst (λ a. ProgressRepresents typing (k a) (j p)) (sym e) (each p led.is_place)
 use-place typing shape low s (machine.ends x) (ends_run_with y) k j h led each = (ended-same (end_of x) y led.is_same, h.same_output)
 use-place typing shape low s _ _ k j h led each = let e = led.is_same in absurd (cc)
 
-pub choice-represents : (typing : StoreTyping) (low : execution.MachineState) (s : State) (o : machine.StepResult Bool) (w : Outcome Value) (k l : execution.MachineState → execution.MachineProgress) (i j : State → Progress) → Represents typing low s → outcome_of truth o ≡ w
-    → ProgressRepresents typing (k low) (i s) → ProgressRepresents typing (l low) (j s) → ProgressRepresents typing (execution.choose_by_truth low o k l) (use_result s w (λ v. choose_by_truth s v i j))
-choice-represents typing low s (machine.gives true) w k l i j h e on off = subst (λ w. ProgressRepresents typing (k low) (use_result s w (λ v. choose_by_truth s v i j))) e on
-choice-represents typing low s (machine.gives false) w k l i j h e on off = subst (λ w. ProgressRepresents typing (l low) (use_result s w (λ v. choose_by_truth s v i j))) e off
-choice-represents typing low s (machine.ends x) w k l i j h e on off = subst (λ w. ProgressRepresents typing (execution.stopped x low.output) (use_result s w (λ v. choose_by_truth s v i j))) e (refl, h.same_output)
+pub choice-represents : (typing : StoreTyping) (low : execution.MachineState) (s : State) (o : machine.StepResult Bool) (w : Outcome Value) (k l : execution.MachineState → execution.MachineProgress) (i j : State → Progress) → StateRepresents typing low s → outcome_of truth o ≡ w
+    → ProgressRepresents typing (k low) (i s) → ProgressRepresents typing (l low) (j s) → ProgressRepresents typing (execution.choose_by_truth low o k l) (continue_with_result s w (λ v. choose_by_truth s v i j))
+choice-represents typing low s (machine.gives true) w k l i j h e on off = subst (λ w. ProgressRepresents typing (k low) (continue_with_result s w (λ v. choose_by_truth s v i j))) e on
+choice-represents typing low s (machine.gives false) w k l i j h e on off = subst (λ w. ProgressRepresents typing (l low) (continue_with_result s w (λ v. choose_by_truth s v i j))) e off
+choice-represents typing low s (machine.ends x) w k l i j h e on off = subst (λ w. ProgressRepresents typing (execution.stopped x low.output) (continue_with_result s w (λ v. choose_by_truth s v i j))) e (refl, h.same_output)
 
 -- what follows in every state
 abbrev pub Follows : StoreTyping → (execution.MachineState → execution.MachineProgress) → (State → Progress) → Type 0
-Follows typing k j = (low : execution.MachineState) (s : State) → Represents typing low s → ProgressRepresents typing (k low) (j s)
+Follows typing k j = (low : execution.MachineState) (s : State) → StateRepresents typing low s → ProgressRepresents typing (k low) (j s)
 
 pub going-on : (typing : StoreTyping) (p : execution.MachineProgress) (q : Progress) (k : execution.MachineState → execution.MachineProgress) (j : State → Progress) → ProgressRepresents typing p q → Follows typing k j → ProgressRepresents typing (execution.continue_with p k) (continue_with q j)
 going-on typing execution.no_room q k j h follows = tt
@@ -47,7 +47,7 @@ going-on typing _ _ k j h follows = absurd h
 
 -- a condition that evaluates to the same in every state
 abbrev pub SameConditions : StoreTyping → (execution.MachineState → machine.StepResult Bool) → (State → Outcome Value) → Type 0
-SameConditions typing c d = (low : execution.MachineState) (s : State) → Represents typing low s → outcome_of truth (c low) ≡ d s
+SameConditions typing c d = (low : execution.MachineState) (s : State) → StateRepresents typing low s → outcome_of truth (c low) ≡ d s
 
 pub execute_while-represent : (t : ℕ) (typing : StoreTyping) (c : execution.MachineState → machine.StepResult Bool) (d : State → Outcome Value) (k : execution.MachineState → execution.MachineProgress) (j : State → Progress)
     → SameConditions typing c d → Follows typing k j → Follows typing (execution.execute_while t c k) (execute_while t d j)
@@ -60,50 +60,50 @@ execute_while-represent (suc t) typing c d k j same follows low s h =
 pub execute_repeat-represent : (t : ℕ) (typing : StoreTyping) (c : execution.MachineState → machine.StepResult Bool) (d : State → Outcome Value) (k : execution.MachineState → execution.MachineProgress) (j : State → Progress)
     → SameConditions typing c d → Follows typing k j → Follows typing (execution.execute_repeat t c k) (execute_repeat t d j)
 execute_repeat-represent zero typing c d k j same follows low s h =
-    going-on typing (k low) (j s) (λ s'. execution.choose_by_truth s' (c s') execution.running (λ s''. execution.stopped machine.TurnBound s''.output)) (λ s'. use_result s' (d s') (λ v. choose_by_truth s' v running (λ s''. stopped TurnBound s''.output))) (follows low s h)
+    going-on typing (k low) (j s) (λ s'. execution.choose_by_truth s' (c s') execution.running (λ s''. execution.stopped machine.TurnBound s''.output)) (λ s'. continue_with_result s' (d s') (λ v. choose_by_truth s' v running (λ s''. stopped TurnBound s''.output))) (follows low s h)
     (λ low s h. choice-represents typing low s (c low) (d s) execution.running (λ s''. execution.stopped machine.TurnBound s''.output) running (λ s''. stopped TurnBound s''.output) h (same low s h) h (refl, h.same_output))
 execute_repeat-represent (suc t) typing c d k j same follows low s h =
-    going-on typing (k low) (j s) (λ s'. execution.choose_by_truth s' (c s') execution.running (execution.execute_repeat t c k)) (λ s'. use_result s' (d s') (λ v. choose_by_truth s' v running (execute_repeat t d j))) (follows low s h)
+    going-on typing (k low) (j s) (λ s'. execution.choose_by_truth s' (c s') execution.running (execution.execute_repeat t c k)) (λ s'. continue_with_result s' (d s') (λ v. choose_by_truth s' v running (execute_repeat t d j))) (follows low s h)
     (λ low s h. choice-represents typing low s (c low) (d s) execution.running (execution.execute_repeat t c k) running (execute_repeat t d j) h (same low s h) h (execute_repeat-represent t typing c d k j same follows low s h))
 
-pub as_cell-same : (b : Bool) → machine.as_cell b ≡ truth_cell b
-as_cell-same true = refl
-as_cell-same false = refl
+pub truth_as_cell-same : (b : Bool) → machine.truth_as_cell b ≡ truth_cell b
+truth_as_cell-same true = refl
+truth_as_cell-same false = refl
 
 -- what is stored
 
-pub number-stored : (typing : StoreTyping) (low : execution.MachineState) (s : State) (p : Place) (n : ℤ) → Represents typing low s → PlaceHasType typing p integer_shape
+pub number-stored : (typing : StoreTyping) (low : execution.MachineState) (s : State) (p : Place) (n : ℤ) → StateRepresents typing low s → PlaceHasType typing p integer_shape
     → ProgressRepresents typing (execution.running (execution.store_at low (address typing p) n)) (store_at s p (number n))
 number-stored typing low s p n h fit =
     let (found, writes) = numbers_are_cells typing s.store p h.store_fits fit in
     let done = writes n in
-    subst (λ o. ProgressRepresents typing (execution.running (execution.store_at low (address typing p) n)) (use_result s (or_stuck o) (λ store. running record s { store = store }))) (sym done.is_written) record {
+    subst (λ o. ProgressRepresents typing (execution.running (execution.store_at low (address typing p) n)) (continue_with_result s (or_stuck o) (λ store. running record s { store = store }))) (sym done.is_written) record {
       store_fits = done.store_fits;
       same_cells = ap (λ l. slice_set l (address typing p) n) h.same_cells ∙ sym done.same_cells;
       same_input = h.same_input;
       same_output = h.same_output;
     }
 
-pub truth-stored : (typing : StoreTyping) (low : execution.MachineState) (s : State) (p : Place) (b : Bool) → Represents typing low s → PlaceHasType typing p boolean_shape
-    → ProgressRepresents typing (execution.running (execution.store_at low (address typing p) (machine.as_cell b))) (store_at s p (truth b))
+pub truth-stored : (typing : StoreTyping) (low : execution.MachineState) (s : State) (p : Place) (b : Bool) → StateRepresents typing low s → PlaceHasType typing p boolean_shape
+    → ProgressRepresents typing (execution.running (execution.store_at low (address typing p) (machine.truth_as_cell b))) (store_at s p (truth b))
 truth-stored typing low s p b h fit =
     let (found, writes) = truths_are_cells typing s.store p h.store_fits fit in
     let done = writes b in
-    subst (λ o. ProgressRepresents typing (execution.running (execution.store_at low (address typing p) (machine.as_cell b))) (use_result s (or_stuck o) (λ store. running record s { store = store }))) (sym done.is_written) record {
+    subst (λ o. ProgressRepresents typing (execution.running (execution.store_at low (address typing p) (machine.truth_as_cell b))) (continue_with_result s (or_stuck o) (λ store. running record s { store = store }))) (sym done.is_written) record {
       store_fits = done.store_fits;
-      same_cells = ap (λ l. slice_set l (address typing p) (machine.as_cell b)) h.same_cells ∙ (ap (slice_set (all_cells s.store) (address typing p)) (as_cell-same b) ∙ sym done.same_cells);
+      same_cells = ap (λ l. slice_set l (address typing p) (machine.truth_as_cell b)) h.same_cells ∙ (ap (slice_set (cells_of_store s.store) (address typing p)) (truth_as_cell-same b) ∙ sym done.same_cells);
       same_input = h.same_input;
       same_output = h.same_output;
     }
 
-pub number-read : (typing : StoreTyping) (low : execution.MachineState) (s : State) (p : Place) (input : List ℤ) → Represents typing low s → PlaceHasType typing p integer_shape
+pub number-read : (typing : StoreTyping) (low : execution.MachineState) (s : State) (p : Place) (input : List ℤ) → StateRepresents typing low s → PlaceHasType typing p integer_shape
     → ProgressRepresents typing (execution.read_number low (address typing p) input) (read_number s p input)
 number-read typing low s p [] h fit = (refl, h.same_output)
 number-read typing low s p (n ∷ rest) h fit =
     number-stored typing (record low { input = rest }) (record s { input = rest }) p n
     record { store_fits = h.store_fits; same_cells = h.same_cells; same_input = refl; same_output = h.same_output } fit
 
-pub put-represents : (typing : StoreTyping) (low : execution.MachineState) (s : State) (i : execution.OutputItem) → Represents typing low s → ProgressRepresents typing (execution.running (execution.append_output low i)) (running (append_output s (printed_item_of i)))
+pub put-represents : (typing : StoreTyping) (low : execution.MachineState) (s : State) (i : execution.OutputItem) → StateRepresents typing low s → ProgressRepresents typing (execution.running (execution.append_output low i)) (running (append_output s (printed_item_of i)))
 put-represents typing low s i h = record {
   store_fits = h.store_fits;
   same_cells = h.same_cells;
@@ -113,10 +113,10 @@ put-represents typing low s i h = record {
 
 -- moments of a body
 
-abbrev pub moment : {N : Type 0} → Body N → Store → List ℤ → Moment N
+abbrev pub moment : {N : Type 0} → BodyContext N → Store → List ℤ → Moment N
 moment b store passed = record { typing = b.typing; store = store; passed_cells = passed; active = b.active; levels = b.levels }
 
-module _ {N : Type 0} (checked : TypeMeanings N) (slots : N → Slot) (targets : N → Target) (b : Body N) (shown : IsBodyOfModule checked slots targets b) where
+module _ {N : Type 0} (checked : TypeMeanings N) (slots : N → Slot) (targets : N → Target) (b : BodyContext N) (shown : IsBodyOfModule checked slots targets b) where
   pub moment-shown : (store : Store) (passed : List ℤ) → StoreHasTypes b.typing store → IsMomentOfModule checked slots (moment b store passed)
   moment-shown store passed fits = record {
     store_fits = fits;
@@ -125,17 +125,17 @@ module _ {N : Type 0} (checked : TypeMeanings N) (slots : N → Slot) (targets :
     store_is_addressable = shown.store_is_addressable;
   }
 
-  pub number-at : (n : lowered.Number) (w : OutcomeByMoment N Value) → NumberMeans checked slots n w → (store : Store) (passed cells : List ℤ) → StoreHasTypes b.typing store → cells ≡ all_cells store ++ passed
+  pub number-at : (n : lowered.Number) (w : OutcomeByMoment N Value) → NumberMeans checked slots n w → (store : Store) (passed cells : List ℤ) → StoreHasTypes b.typing store → cells ≡ cells_of_store store ++ passed
       → outcome_of number (machine.number b.levels cells n) ≡ w (moment b store passed)
   number-at n w hn store passed cells fits e =
       subst (λ l. outcome_of number (machine.number b.levels l n) ≡ w (moment b store passed)) (sym e) (hn (moment b store passed) (moment-shown store passed fits))
 
-  pub truth-at : (t : lowered.Truth) (w : OutcomeByMoment N Value) → TruthMeans checked slots t w → (store : Store) (passed cells : List ℤ) → StoreHasTypes b.typing store → cells ≡ all_cells store ++ passed
+  pub truth-at : (t : lowered.Truth) (w : OutcomeByMoment N Value) → TruthMeans checked slots t w → (store : Store) (passed cells : List ℤ) → StoreHasTypes b.typing store → cells ≡ cells_of_store store ++ passed
       → outcome_of truth (machine.truth b.levels cells t) ≡ w (moment b store passed)
   truth-at t w ht store passed cells fits e =
       subst (λ l. outcome_of truth (machine.truth b.levels l t) ≡ w (moment b store passed)) (sym e) (ht (moment b store passed) (moment-shown store passed fits))
 
-  pub place-at : (q : lowered.Place) (shape : Shape) (w : OutcomeByMoment N Place) → PlaceMeans checked slots q shape w → (store : Store) (passed cells : List ℤ) → StoreHasTypes b.typing store → cells ≡ all_cells store ++ passed
+  pub place-at : (q : lowered.Place) (shape : Shape) (w : OutcomeByMoment N Place) → PlaceMeans checked slots q shape w → (store : Store) (passed cells : List ℤ) → StoreHasTypes b.typing store → cells ≡ cells_of_store store ++ passed
       → Led b.typing shape (machine.address b.levels cells q) (w (moment b store passed))
   place-at q shape w hq store passed cells fits e =
       let m = hq (moment b store passed) (moment-shown store passed fits) in
@@ -143,15 +143,15 @@ module _ {N : Type 0} (checked : TypeMeanings N) (slots : N → Slot) (targets :
 
   -- the same in a state, with nothing passed
 
-  pub alone-cells : (low : execution.MachineState) (s : State) → Represents b.typing low s → low.cells ≡ all_cells s.store ++ []
-  alone-cells low s h = h.same_cells ∙ sym (append-nil (all_cells s.store))
+  pub alone-cells : (low : execution.MachineState) (s : State) → StateRepresents b.typing low s → low.cells ≡ cells_of_store s.store ++ []
+  alone-cells low s h = h.same_cells ∙ sym (append-nil (cells_of_store s.store))
 
-  pub number-in : (n : lowered.Number) (w : OutcomeByMoment N Value) → NumberMeans checked slots n w → (low : execution.MachineState) (s : State) → Represents b.typing low s
+  pub number-in : (n : lowered.Number) (w : OutcomeByMoment N Value) → NumberMeans checked slots n w → (low : execution.MachineState) (s : State) → StateRepresents b.typing low s
       → outcome_of number (machine.number b.levels low.cells n) ≡ w (moment b s.store [])
   number-in n w hn low s h = number-at n w hn s.store [] low.cells h.store_fits (alone-cells low s h)
 
-  pub truth-in : (t : lowered.Truth) (w : OutcomeByMoment N Value) → TruthMeans checked slots t w → (low : execution.MachineState) (s : State) → Represents b.typing low s → outcome_of truth (machine.truth b.levels low.cells t) ≡ w (moment b s.store [])
+  pub truth-in : (t : lowered.Truth) (w : OutcomeByMoment N Value) → TruthMeans checked slots t w → (low : execution.MachineState) (s : State) → StateRepresents b.typing low s → outcome_of truth (machine.truth b.levels low.cells t) ≡ w (moment b s.store [])
   truth-in t w ht low s h = truth-at t w ht s.store [] low.cells h.store_fits (alone-cells low s h)
 
-  pub place-in : (q : lowered.Place) (shape : Shape) (w : OutcomeByMoment N Place) → PlaceMeans checked slots q shape w → (low : execution.MachineState) (s : State) → Represents b.typing low s → Led b.typing shape (machine.address b.levels low.cells q) (w (moment b s.store []))
+  pub place-in : (q : lowered.Place) (shape : Shape) (w : OutcomeByMoment N Place) → PlaceMeans checked slots q shape w → (low : execution.MachineState) (s : State) → StateRepresents b.typing low s → Led b.typing shape (machine.address b.levels low.cells q) (w (moment b s.store []))
   place-in q shape w hq low s h = place-at q shape w hq s.store [] low.cells h.store_fits (alone-cells low s h)

@@ -4,7 +4,7 @@ use Rattle.std.proofs.lemmas.List.{replicate-append-replicate, take_at}
 use Rattle.ob0_language_values.specs.Values.{FieldShapes, Shape, Store, Value, array_shape, copies, initial_value, initial_members, next_field_shape, no_field_shape, record_shape}
 use Rattle.ob0_language_runs.specs.TypeAgreement.{HasShape, PlaceHasType, StoreHasTypes, StoreTyping, shape_at_path}
 use Rattle.ob0_language_runs.proofs.SoundCalls.{initial-fits, last-shape, store-appends}
-use Rattle.ob0_run_cells.specs.Cells.{address, all_cells, cells_of, element_cells, total_field_size, member_cells, offset, size, store_size}
+use Rattle.ob0_run_cells.specs.Cells.{address, cells_of_store, cells_of, element_cells, total_field_size, member_cells, offset, size, store_size}
 use Rattle.ob0_run_cells.proofs.Places.{store-size}
 
 pub zeros-join : (m n : ℕ) (a b : List ℤ) → a ≡ replicate m (pos 0) → b ≡ replicate n (pos 0) → a ++ b ≡ replicate (m + n) (pos 0)
@@ -29,9 +29,9 @@ mutual
 pub initial_cells_are_zero : (s : Shape) → HasShape (initial_value s) s × (cells_of (initial_value s) ≡ replicate (size s) (pos 0))
 initial_cells_are_zero s = (initial-fits s, initial-zero s)
 
-pub cells-append : (a b : Store) → all_cells (a ++ b) ≡ all_cells a ++ all_cells b
+pub cells-append : (a b : Store) → cells_of_store (a ++ b) ≡ cells_of_store a ++ cells_of_store b
 cells-append [] b = refl
-cells-append (v ∷ a) b = ap (λ l. cells_of v ++ l) (cells-append a b) ∙ sym (append_assoc (cells_of v) (all_cells a) (all_cells b))
+cells-append (v ∷ a) b = ap (λ l. cells_of v ++ l) (cells-append a b) ∙ sym (append_assoc (cells_of v) (cells_of_store a) (cells_of_store b))
 
 -- a type added is the one at the place of a variable added
 pub taken-all : (typing : StoreTyping) (store : Store) (s : Shape) → StoreHasTypes typing store → store_size (take (length store) (typing ++ s ∷ [])) ≡ store_size typing
@@ -42,7 +42,7 @@ taken-all _ _ s h = absurd h
 -- a store with a variable more, whose cells come after those of all others, from the size of their types on
 pub record AddsVariable (typing : StoreTyping) (store : Store) (s : Shape) (v : Value) : Type 0 where
   pub store_fits : StoreHasTypes (typing ++ s ∷ []) (store ++ v ∷ [])
-  pub cells_added : all_cells (store ++ v ∷ []) ≡ all_cells store ++ cells_of v
+  pub cells_added : cells_of_store (store ++ v ∷ []) ≡ cells_of_store store ++ cells_of v
   pub place_fits : PlaceHasType (typing ++ s ∷ []) record { variable = length store; path = [] } s
   pub address_is : address (typing ++ s ∷ []) record { variable = length store; path = [] } ≡ store_size typing
 
@@ -52,7 +52,7 @@ variables_are_added typing store s v h hv =
     let b : store_size (take (length store) (typing ++ s ∷ [])) ≡ store_size typing = taken-all typing store s h in
     let o : unwrap_or (option_map (offset []) (slice_get (typing ++ s ∷ []) (length store))) 0 ≡ 0 = ap (λ o. unwrap_or (option_map (offset []) o) 0) e in record {
       store_fits = store-appends typing store s v h hv;
-      cells_added = cells-append store (v ∷ []) ∙ ap (λ l. all_cells store ++ l) (append-nil (cells_of v));
+      cells_added = cells-append store (v ∷ []) ∙ ap (λ l. cells_of_store store ++ l) (append-nil (cells_of v));
       place_fits = ap (option_and_then (shape_at_path [])) e;
       address_is = omega (arith, b, o);
     }
@@ -72,9 +72,9 @@ cut-split _ others _ new h k = absurd h
 
 -- a store cut back to the variables of an older one has as many cells as that
 pub variables_are_dropped : (typing others : StoreTyping) (old new : Store) → StoreHasTypes typing old → StoreHasTypes (typing ++ others) new
-    → StoreHasTypes typing (take (length old) new) × (all_cells (take (length old) new) ≡ take (length (all_cells old)) (all_cells new))
+    → StoreHasTypes typing (take (length old) new) × (cells_of_store (take (length old) new) ≡ take (length (cells_of_store old)) (cells_of_store new))
 variables_are_dropped typing others old new h k =
     let fit : StoreHasTypes typing (take (length old) new) = cut-fits typing others old new h k in
     let (rest, e) = cut-split typing others old new h k in
-    let n : length (all_cells (take (length old) new)) ≡ length (all_cells old) = store-size typing (take (length old) new) fit ∙ sym (store-size typing old h) in
-    (fit, sym (ap (λ l. take (length (all_cells old)) (all_cells l)) e ∙ (ap (take (length (all_cells old))) (cells-append (take (length old) new) rest) ∙ take_at (all_cells (take (length old) new)) (all_cells rest) (length (all_cells old)) n)))
+    let n : length (cells_of_store (take (length old) new)) ≡ length (cells_of_store old) = store-size typing (take (length old) new) fit ∙ sym (store-size typing old h) in
+    (fit, sym (ap (λ l. take (length (cells_of_store old)) (cells_of_store l)) e ∙ (ap (take (length (cells_of_store old))) (cells-append (take (length old) new) rest) ∙ take_at (cells_of_store (take (length old) new)) (cells_of_store rest) (length (cells_of_store old)) n)))

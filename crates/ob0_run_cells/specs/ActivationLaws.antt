@@ -9,7 +9,7 @@ use Rattle.ob0_language_types.specs.WellTyped.{WellTyped}
 use Rattle.ob0_language_runs.specs.Runs.{Run, run}
 use Rattle.ob0_run_machine.specs.Execution as execution
 use Rattle.ob0_run_machine.specs.Lowered as lowered
-use Rattle.ob0_run_cells.specs.Activations.{ProgramMeans}
+use Rattle.ob0_run_cells.specs.Activations.{ProgramMeansModule}
 use Rattle.ob0_run_cells.specs.LoweredStatements.{printed_item_of}
 use Rattle.ob0_run_cells.specs.Lowering.{end_of}
 
@@ -17,12 +17,12 @@ use Rattle.ob0_run_cells.specs.Lowering.{end_of}
 abbrev pub run_of : execution.MachineRun → Run
 run_of r = record { output = map printed_item_of r.output; ending = end_of r.ending }
 
--- States that a program that is correct code for a well-typed module (`ProgramMeans`) has the run
+-- States that a program that is correct code for a well-typed module (`ProgramMeansModule`) has the run
 -- of the module. This holds for each input and for all bounds `c` on open calls and `t` on
 -- iterations. Claims nothing if the number of cells would have more than 64 bits.
 abbrev pub LoweringKeepsRuns : Type 0
 LoweringKeepsRuns =
     (m : Tree Name module_text) (program : lowered.LoweredCode) (c t : ℕ) (input : List ℤ)
     → WellTyped m
-    → ProgramMeans naming_by_label (numbered m) program
+    → ProgramMeansModule naming_by_label (numbered m) program
     → IfSome (execution.run program input c t) (λ r. run_of r ≡ run m input c t)

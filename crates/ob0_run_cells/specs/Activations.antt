@@ -1,10 +1,10 @@
 -- States where lowered code finds the variables and procedures of a module, and when a program is
--- correct code for a module (`ProgramMeans`). A placement (`Placement`) has the place of each name
+-- correct code for a module (`ProgramMeansModule`). A placement (`Placement`) has the place of each name
 -- of an environment: a slot for a variable, a target for a procedure. Variables of the module are
 -- `of_module`, at offsets that begin with 0. Variables of a procedure are `in_activation 0`, after
 -- its value parameters. VAR parameters are `by_reference 0`, by their index among the VAR
 -- parameters. A procedure may have any index, if the entry of the routine table at this index is
--- correct code for the procedure's block. `PlacementFits` states that each binding of an activation
+-- correct code for the procedure's block. `PlacementFitsActivation` states that each binding of an activation
 -- has the right place. For a procedure, this is stated with the placement at its declaration
 -- (`BindingIsPlaced`). So no slot has to be translated back to an outer level.
 -- Rule: docs/LANGUAGE.md, Runs 1, 6.
@@ -40,10 +40,10 @@ Placement N = List (N × BindingPlace)
 
 -- Returns the suffix of a placement that begins with the latest binding of a name. The suffix is
 -- empty if the name isn't bound.
-abbrev pub suffix_from_name : {N : Type 0} → Naming N → Placement N → N → Placement N
-suffix_from_name naming [] x = []
-suffix_from_name naming (b ∷ placement) x =
-    elim (naming.same x b.0) [ true ↦ b ∷ placement | false ↦ suffix_from_name naming placement x ]
+abbrev pub placement_from_binding : {N : Type 0} → Naming N → Placement N → N → Placement N
+placement_from_binding naming [] x = []
+placement_from_binding naming (b ∷ placement) x =
+    elim (naming.same x b.0) [ true ↦ b ∷ placement | false ↦ placement_from_binding naming placement x ]
 
 -- returns the slot of a variable, or the module's first cell if the place isn't a slot
 abbrev pub slot_of : BindingPlace → Slot
@@ -59,42 +59,42 @@ target_of (at_target t) = t
 
 -- returns the slot of the first binding of a placement, or the module's first cell if this binding
 -- has no slot or the placement is empty
-abbrev pub first_slot : {N : Type 0} → Placement N → Slot
-first_slot [] = of_module 0
-first_slot (b ∷ placement) = slot_of b.1
+abbrev pub slot_of_first_binding : {N : Type 0} → Placement N → Slot
+slot_of_first_binding [] = of_module 0
+slot_of_first_binding (b ∷ placement) = slot_of b.1
 
 -- returns the target of the first binding of a placement, or index 0 and 0 levels out if this
 -- binding has no target or the placement is empty
-abbrev pub first_target : {N : Type 0} → Placement N → Target
-first_target [] = record { procedure = 0; up = 0 }
-first_target (b ∷ placement) = target_of b.1
+abbrev pub target_of_first_binding : {N : Type 0} → Placement N → Target
+target_of_first_binding [] = record { procedure = 0; up = 0 }
+target_of_first_binding (b ∷ placement) = target_of b.1
 
 -- returns the slot of a name in a placement, or the module's first cell if the name has no slot
 abbrev pub slot_in_placement : {N : Type 0} → Naming N → Placement N → N → Slot
-slot_in_placement naming placement x = first_slot (suffix_from_name naming placement x)
+slot_in_placement naming placement x = slot_of_first_binding (placement_from_binding naming placement x)
 
 -- returns the target of a name in a placement, or index 0 and 0 levels out if the name has no
 -- target
 abbrev pub target_in_placement : {N : Type 0} → Naming N → Placement N → N → Target
-target_in_placement naming placement x = first_target (suffix_from_name naming placement x)
+target_in_placement naming placement x = target_of_first_binding (placement_from_binding naming placement x)
 
 -- returns the same slot, as seen from an activation that is nested one level deeper
-abbrev pub inward_slot : Slot → Slot
-inward_slot (of_module at) = of_module at
-inward_slot (in_activation up at) = in_activation (suc up) at
-inward_slot (by_reference up at) = by_reference (suc up) at
+abbrev pub slot_seen_one_level_deeper : Slot → Slot
+slot_seen_one_level_deeper (of_module at) = of_module at
+slot_seen_one_level_deeper (in_activation up at) = in_activation (suc up) at
+slot_seen_one_level_deeper (by_reference up at) = by_reference (suc up) at
 
 -- returns the same place of a declaration, as seen from an activation that is nested one level
 -- deeper
-abbrev pub inward_binding_place : BindingPlace → BindingPlace
-inward_binding_place nowhere = nowhere
-inward_binding_place (in_slot s) = in_slot (inward_slot s)
-inward_binding_place (at_target t) = at_target record t { up = suc t.up }
+abbrev pub binding_place_seen_one_level_deeper : BindingPlace → BindingPlace
+binding_place_seen_one_level_deeper nowhere = nowhere
+binding_place_seen_one_level_deeper (in_slot s) = in_slot (slot_seen_one_level_deeper s)
+binding_place_seen_one_level_deeper (at_target t) = at_target record t { up = suc t.up }
 
 -- returns the same placement, as seen from an activation that is nested one level deeper
-abbrev pub inward_placement : {N : Type 0} → Placement N → Placement N
-inward_placement [] = []
-inward_placement (b ∷ placement) = (b.0, inward_binding_place b.1) ∷ inward_placement placement
+abbrev pub placement_seen_one_level_deeper : {N : Type 0} → Placement N → Placement N
+placement_seen_one_level_deeper [] = []
+placement_seen_one_level_deeper (b ∷ placement) = (b.0, binding_place_seen_one_level_deeper b.1) ∷ placement_seen_one_level_deeper placement
 
 -- The state while the names of an activation get their places: the placement so far, the number of
 -- cells so far, and the number of VAR parameters so far.
@@ -105,19 +105,19 @@ pub record PlacementState (N : Type 0) : Type 0 where
 
 -- Adds the name `x` to a placement. A variable or a value parameter gets the next `n` cells, and
 -- `at` converts the offset of these cells to a slot. A VAR parameter gets the next index.
-abbrev pub place_name : {N : Type 0} → (ℕ → Slot) → Mode → N → ℕ → PlacementState N → PlacementState N
-place_name at by_value x n p =
+abbrev pub add_name_to_placement : {N : Type 0} → (ℕ → Slot) → Mode → N → ℕ → PlacementState N → PlacementState N
+add_name_to_placement at by_value x n p =
     record p { placement = (x, in_slot (at p.cells)) ∷ p.placement; cells = p.cells + n }
-place_name at by_place x n p =
+add_name_to_placement at by_place x n p =
     record p {
       placement = (x, in_slot (by_reference 0 p.var_parameters_so_far)) ∷ p.placement;
       var_parameters_so_far = suc p.var_parameters_so_far;
     }
 
 -- Adds the names of variables with one type to a placement. Each variable gets `n` cells.
-abbrev pub place_names : {N : Type 0} → (ℕ → Slot) → List N → ℕ → PlacementState N → PlacementState N
-place_names at [] n p = p
-place_names at (x ∷ xs) n p = place_names at xs n (place_name at by_value x n p)
+abbrev pub add_names_to_placement : {N : Type 0} → (ℕ → Slot) → List N → ℕ → PlacementState N → PlacementState N
+add_names_to_placement at [] n p = p
+add_names_to_placement at (x ∷ xs) n p = add_names_to_placement at xs n (add_name_to_placement at by_value x n p)
 
 -- Adds the variables of a block to a placement. `k` is the number of words ARRAY and RECORD before
 -- these variables. Returns None if the type expression of a variable denotes no type.
@@ -134,13 +134,13 @@ place_variables naming at checked k end p = Some p
 place_variables naming at checked k (more (declares_variable ns u) gs) p =
     option_and_then (λ s. place_variables naming at
     (bind_names (names_in_list ns) (a_variable s) checked) (k + constructor_count u) gs
-    (place_names at (names_in_list ns) (size s) p)) (denoted_type (meanings naming checked) k u)
+    (add_names_to_placement at (names_in_list ns) (size s) p)) (denoted_type (meanings naming checked) k u)
 
 -- Adds the parameters of a procedure to a placement, one by one.
 abbrev pub place_parameters : {N : Type 0} → List (TypedParameter N) → PlacementState N → PlacementState N
 place_parameters [] p = p
 place_parameters (q ∷ ps) p =
-    place_parameters ps (place_name (in_activation 0) q.formal.mode q.name (size q.formal.shape) p)
+    place_parameters ps (add_name_to_placement (in_activation 0) q.formal.mode q.name (size q.formal.shape) p)
 
 -- Adds names to a placement that have no place in lowered code, such as the names of constants and
 -- types.
@@ -150,14 +150,14 @@ bind_without_place (x ∷ xs) placement = bind_without_place xs ((x, nowhere) �
 
 -- returns the target of the procedure with this index, as seen from the activation in which the
 -- procedure is declared
-abbrev pub local_target : ℕ → BindingPlace
-local_target i = at_target record { procedure = i; up = 0 }
+abbrev pub local_procedure_target : ℕ → BindingPlace
+local_procedure_target i = at_target record { procedure = i; up = 0 }
 
 -- returns the placement inside a procedure: the names around the procedure, as seen from one level
 -- deeper, with the procedure's parameters added
-abbrev pub parameter_placement : {N : Type 0} → List (TypedParameter N) → Placement N → PlacementState N
-parameter_placement ps placement =
-    place_parameters ps record { placement = inward_placement placement; cells = 0; var_parameters_so_far = 0 }
+abbrev pub placement_inside_procedure : {N : Type 0} → List (TypedParameter N) → Placement N → PlacementState N
+placement_inside_procedure ps placement =
+    place_parameters ps record { placement = placement_seen_one_level_deeper placement; cells = 0; var_parameters_so_far = 0 }
 
 -- States that `code` is correct code for a body, in the environment in which the body's statements
 -- are checked. If there is no body, `code` has to be empty.
@@ -179,8 +179,8 @@ pub record RoutineTable (N : Type 0) : Type 0 where
   pub naming : Naming N
 
 -- returns the routine table of a module whose names are labels, with these procedures
-abbrev pub label_table : List lowered.Routine → RoutineTable Label
-label_table routines = record { routines = routines; naming = naming_by_label }
+abbrev pub routine_table_by_label : List lowered.Routine → RoutineTable Label
+routine_table_by_label routines = record { routines = routines; naming = naming_by_label }
 
 -- Runs 6: states that the routine at an index of the table is correct code for a procedure
 -- (`text`). The procedure is declared in the environment `checked`, with the placement `placement`.
@@ -195,7 +195,7 @@ pub record HasRoutine {N : Type 0} (table : RoutineTable N) (checked : TypeEnvir
       ≡ Some parameters
   pub in_table : slice_get table.routines index ≡ Some routine
   pub means : Means (bind_typed_parameters parameters (bind_procedure x parameters checked))
-      (parameter_placement parameters ((x, local_target index) ∷ placement)) routine
+      (placement_inside_procedure parameters ((x, local_procedure_target index) ∷ placement)) routine
 
 -- Runs 1 and 6: states that the variables of a block have `cells` cells, which follow the cells of
 -- `p`. `Inside` is the fact that has to hold for the procedures and statements of the block, in the
@@ -258,7 +258,7 @@ abbrev mutual
       × (here : HasRoutine table checked placement (procedure_name p) k p index
       (λ checked placed routine. RoutineMeansProcedure table checked placed k routine p))
       × RoutinesMeanProcedures table (bind_procedure (procedure_name p) here.parameters checked)
-      ((procedure_name p, local_target index) ∷ placement) (k + procedure_constructor_count p) code
+      ((procedure_name p, local_procedure_target index) ∷ placement) (k + procedure_constructor_count p) code
       statements rest
 
   -- Runs 6: states that a routine is correct code for the block of a procedure
@@ -317,7 +317,7 @@ pub record FirstBindingsAgree {N : Type 0} (checked placed active : N) (Here Fur
 -- Runs 1 and 6: states that each binding of an activation has the right place (`BindingIsPlaced`),
 -- as seen from the activations `ls`. The environment, the placement and the activation have to bind
 -- the same names.
-abbrev pub PlacementFits : {N : Type 0}
+abbrev pub PlacementFitsActivation : {N : Type 0}
     → RoutineTable N
     → StoreTyping
     → Levels
@@ -325,13 +325,13 @@ abbrev pub PlacementFits : {N : Type 0}
     → Placement N
     → Activation N
     → Type 0
-PlacementFits table typing ls [] [] [] = Unit {0}
-PlacementFits table typing ls (b ∷ checked) (w ∷ placement) (d ∷ active) =
+PlacementFitsActivation table typing ls [] [] [] = Unit {0}
+PlacementFitsActivation table typing ls (b ∷ checked) (w ∷ placement) (d ∷ active) =
     FirstBindingsAgree b.0 w.0 d.0
     (BindingIsPlaced table typing ls checked
-    (λ ls placement. PlacementFits table typing ls checked placement active) b.0 b.1 w.1 d.1)
-    (PlacementFits table typing ls checked placement active)
-PlacementFits table typing ls _ _ _ = ⊥
+    (λ ls placement. PlacementFitsActivation table typing ls checked placement active) b.0 b.1 w.1 d.1)
+    (PlacementFitsActivation table typing ls checked placement active)
+PlacementFitsActivation table typing ls _ _ _ = ⊥
 
 -- returns the placement of the predeclared names, each with the place `nowhere`
 abbrev pub outermost_placement : {N : Type 0} → Naming N → Placement N
@@ -347,12 +347,12 @@ outermost_placement naming =
 
 -- States that a program is correct code for a module: its body for the module's body, and its
 -- procedures for the module's procedures.
-abbrev pub ProgramMeans : {N : Type 0}
+abbrev pub ProgramMeansModule : {N : Type 0}
     → Naming N
     → Tree N module_text
     → lowered.LoweredCode
     → Type 0
-ProgramMeans naming m program =
+ProgramMeansModule naming m program =
     CodeMeansBlock record { routines = program.procedures; naming = naming } of_module
     (outermost_environment naming) record
     { placement = outermost_placement naming; cells = 0; var_parameters_so_far = 0 } 0 program.cells

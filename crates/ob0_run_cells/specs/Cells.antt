@@ -4,7 +4,7 @@
 use Rattle.std.specs.Prelude.{ℕ, ◌+◌, ◌*◌, Bool, true, false, List, [], ◌∷◌, ◌++◌, length, take, drop, ℤ, pos, if◌then◌else◌, slice_get, option_map, unwrap_or}
 use Rattle.ob0_language_names.specs.Names.{Name, same_name}
 use Rattle.ob0_language_values.specs.Values.{FieldShapes, Members, Place, Shape, Step, Store, Value, Values, array_shape, at_field, at_index, boolean_shape, elements, integer_shape, members, next_field_shape, next_member, next_value, no_field_shape, no_member, no_value, number, record_shape, truth}
-use Rattle.ob0_language_runs.specs.TypeAgreement.{StoreTyping, part_shape}
+use Rattle.ob0_language_runs.specs.TypeAgreement.{StoreTyping, shape_at_step}
 
 -- returns the cell of a truth value: 0 for FALSE, 1 for TRUE
 abbrev pub truth_cell : Bool → ℤ
@@ -32,9 +32,9 @@ abbrev mutual
   member_cells (next_member x v rest) = cells_of v ++ member_cells rest
 
 -- returns the cells of all variables, the oldest variable first
-abbrev pub all_cells : Store → List ℤ
-all_cells [] = []
-all_cells (v ∷ store) = cells_of v ++ all_cells store
+abbrev pub cells_of_store : Store → List ℤ
+cells_of_store [] = []
+cells_of_store (v ∷ store) = cells_of v ++ cells_of_store store
 
 -- returns the number of cells of a type, or of the fields of a record
 abbrev mutual
@@ -75,7 +75,7 @@ step_offset _ _ = 0
 abbrev pub offset : List Step → Shape → ℕ
 offset [] s = 0
 offset (step ∷ path) s =
-    step_offset s step + unwrap_or (option_map (offset path) (part_shape s step)) 0
+    step_offset s step + unwrap_or (option_map (offset path) (shape_at_step s step)) 0
 
 -- returns the address of a place: the number of cells before the place's first cell, in a store
 -- whose variables have these types
@@ -84,11 +84,11 @@ address typing p =
     store_size (take p.variable typing)
     + unwrap_or (option_map (offset p.path) (slice_get typing p.variable)) 0
 
--- returns the `n` cells that begin at an address, or as many of them as exist
+-- returns the `n` cells that begin at an address, or fewer if the list ends earlier
 abbrev pub cells_at : ℕ → ℕ → List ℤ → List ℤ
 cells_at address n cells = take n (drop address cells)
 
--- returns the list `cells`, in which the cells `new` have replaced as many cells, beginning at an
--- address
-abbrev pub overwritten_cells : ℕ → List ℤ → List ℤ → List ℤ
-overwritten_cells address new cells = take address cells ++ (new ++ drop (address + length new) cells)
+-- returns the list `cells` after the cells `new` were written over as many of its cells, beginning
+-- at an address
+abbrev pub cells_after_overwrite : ℕ → List ℤ → List ℤ → List ℤ
+cells_after_overwrite address new cells = take address cells ++ (new ++ drop (address + length new) cells)

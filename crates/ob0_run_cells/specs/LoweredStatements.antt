@@ -13,8 +13,8 @@ use Rattle.ob0_run_machine.specs.Evaluation as machine
 use Rattle.ob0_run_machine.specs.Evaluation.{Levels}
 use Rattle.ob0_run_machine.specs.Execution as execution
 use Rattle.ob0_run_machine.specs.Lowered as lowered
-use Rattle.ob0_run_cells.specs.Cells.{address, all_cells, cells_of, size, store_size}
-use Rattle.ob0_run_cells.specs.Lowering.{NumberMeans, PlaceMeans, Slot, TruthMeans, HoldsValue, end_of, place_of_designator, slot_address, value_of_expression}
+use Rattle.ob0_run_cells.specs.Cells.{address, cells_of_store, cells_of, size, store_size}
+use Rattle.ob0_run_cells.specs.Lowering.{NumberMeans, PlaceMeans, Slot, TruthMeans, PlaceHoldsValue, end_of, place_of_designator, slot_address, value_of_expression}
 
 -- converts an item of the machine's output to an item of a module's output
 abbrev pub printed_item_of : execution.OutputItem → PrintedItem
@@ -24,10 +24,10 @@ printed_item_of execution.line_out = line_out
 -- States that the state `low` of the machine represents the state `s` of the module. `low` has the
 -- cells of the store of `s`, whose variables have these types, and the same input and output as
 -- `s`.
-pub record Represents (typing : StoreTyping) (low : execution.MachineState) (s : State)
+pub record StateRepresents (typing : StoreTyping) (low : execution.MachineState) (s : State)
     : Type 0 where
   pub store_fits : StoreHasTypes typing s.store
-  pub same_cells : low.cells ≡ all_cells s.store
+  pub same_cells : low.cells ≡ cells_of_store s.store
   pub same_input : low.input ≡ s.input
   pub same_output : map printed_item_of low.output ≡ s.output
 
@@ -36,23 +36,23 @@ pub record Represents (typing : StoreTyping) (low : execution.MachineState) (s :
 -- number of the machine's cells would have more than 64 bits (`no_room`).
 abbrev pub ProgressRepresents : StoreTyping → execution.MachineProgress → Progress → Type 0
 ProgressRepresents typing execution.no_room q = Unit {0}
-ProgressRepresents typing (execution.running low) (running s) = Represents typing low s
+ProgressRepresents typing (execution.running low) (running s) = StateRepresents typing low s
 ProgressRepresents typing (execution.stopped e out) (stopped f written) =
     (end_of e ≡ f) × (map printed_item_of out ≡ written)
 ProgressRepresents typing _ _ = ⊥
 
 -- returns the cells of the arguments that are passed by value
-abbrev pub argument_cells : List Argument → List ℤ
-argument_cells [] = []
-argument_cells (place_argument p ∷ args) = argument_cells args
-argument_cells (value_argument v ∷ args) = cells_of v ++ argument_cells args
+abbrev pub value_argument_cells : List Argument → List ℤ
+value_argument_cells [] = []
+value_argument_cells (place_argument p ∷ args) = value_argument_cells args
+value_argument_cells (value_argument v ∷ args) = cells_of v ++ value_argument_cells args
 
 -- returns the addresses of the arguments for VAR parameters, in order
-abbrev pub argument_addresses : StoreTyping → List Argument → List ℕ
-argument_addresses typing [] = []
-argument_addresses typing (place_argument p ∷ args) =
-    address typing p ∷ argument_addresses typing args
-argument_addresses typing (value_argument v ∷ args) = argument_addresses typing args
+abbrev pub place_argument_addresses : StoreTyping → List Argument → List ℕ
+place_argument_addresses typing [] = []
+place_argument_addresses typing (place_argument p ∷ args) =
+    address typing p ∷ place_argument_addresses typing args
+place_argument_addresses typing (value_argument v ∷ args) = place_argument_addresses typing args
 
 -- The procedure that a call enters. `procedure` is its index in the program. `up` is the number of
 -- levels from the caller's activation out to the activation in which the procedure is declared.
@@ -63,7 +63,7 @@ pub record Target : Type 0 where
 -- The data that is unchanged while the statements of a body run: the types of the store, the
 -- meanings of names, and the activations that the body can see. `enters` is the effect of the
 -- module's calls, and `lowered_call_effect` is the effect of lowered calls.
-pub record Body (N : Type 0) : Type 0 where
+pub record BodyContext (N : Type 0) : Type 0 where
   pub typing : StoreTyping
   pub active : Meanings N Place (List Mode)
   pub levels : Levels
@@ -72,15 +72,15 @@ pub record Body (N : Type 0) : Type 0 where
 
 -- States that each lowered call has the effect of the module's call of the same procedure, if both
 -- have the same arguments and begin in states that represent each other.
-abbrev pub CallsRepresent : {N : Type 0} → TypeMeanings N → (N → Target) → Body N → Type 0
+abbrev pub CallsRepresent : {N : Type 0} → TypeMeanings N → (N → Target) → BodyContext N → Type 0
 CallsRepresent {N} checked targets b =
     (x : N) (signature : Signature)
     → checked.object_for x ≡ Some (a_procedure signature)
     → (args : List Argument) (low : execution.MachineState) (s : State) (p : execution.CallArguments)
-    → Represents b.typing low s
+    → StateRepresents b.typing low s
     → ArgumentsMatchSignature b.typing signature args
-    → p.cells ≡ low.cells ++ argument_cells args
-    → p.addresses ≡ argument_addresses b.typing args
+    → p.cells ≡ low.cells ++ value_argument_cells args
+    → p.addresses ≡ place_argument_addresses b.typing args
     → ProgressRepresents b.typing (b.lowered_call_effect (targets x).procedure
     (execution.levels_in_call b.levels (length low.cells) (targets x).up p) record low
     { cells = p.cells }) (b.enters x args s)
@@ -89,7 +89,7 @@ CallsRepresent {N} checked targets b =
 -- has fewer than 2^64 cells. A lowered call of a procedure's target has the effect of a call of the
 -- procedure.
 pub record IsBodyOfModule {N : Type 0} (checked : TypeMeanings N) (slots : N → Slot) (targets : N → Target)
-    (b : Body N) : Type 0 where
+    (b : BodyContext N) : Type 0 where
   pub names_fit : RunMeaningsAgree b.typing checked b.active
   pub variables_in_slots : (x : N) (p : Place)
       → b.active.object_for x ≡ Some (a_variable p)
@@ -103,14 +103,14 @@ abbrev pub StepRepresents : {N : Type 0}
     → TypeMeanings N
     → (N → Slot)
     → (N → Target)
-    → (Body N → ℕ → execution.MachineState → execution.MachineProgress)
-    → (Body N → ℕ → State → Progress)
+    → (BodyContext N → ℕ → execution.MachineState → execution.MachineProgress)
+    → (BodyContext N → ℕ → State → Progress)
     → Type 0
 StepRepresents {N} checked slots targets low_step step =
-    (b : Body N)
+    (b : BodyContext N)
     → IsBodyOfModule checked slots targets b
     → (t : ℕ) (low : execution.MachineState) (s : State)
-    → Represents b.typing low s
+    → StateRepresents b.typing low s
     → ProgressRepresents b.typing (low_step b t low) (step b t s)
 
 -- states that an instruction is correct code for a statement: it has the statement's effect
@@ -212,7 +212,7 @@ CodeMeansArgument checked slots f (lowered.by_truth t) e =
 CodeMeansArgument checked slots f (lowered.by_block q n) e =
     (f.mode ≡ by_value)
     × (n ≡ size f.shape)
-    × HoldsValue checked slots q f.shape (value_of_expression e)
+    × PlaceHoldsValue checked slots q f.shape (value_of_expression e)
 
 -- States that each lowered argument is correct code for the argument at the same index. The numbers
 -- of parameters, of lowered arguments and of arguments have to be the same.

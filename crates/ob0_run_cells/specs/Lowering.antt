@@ -3,7 +3,7 @@
 -- example `NumberMeans`, relates lowered code to a function from moments to outcomes
 -- (`OutcomeByMoment`). The fact doesn't mention the tree of an expression, so operators need no
 -- types. Only places and variables need types. The value of an array or a record is in the cells at
--- a place (`HoldsValue`), even if its expression is in parentheses. A moment may be one at which
+-- a place (`PlaceHoldsValue`), even if its expression is in parentheses. A moment may be one at which
 -- arguments are passed. The cells of these arguments then follow the cells of the store
 -- (`passed_cells`).
 -- Rule: docs/LANGUAGE.md, Runs 2 to 4.
@@ -18,7 +18,7 @@ use Rattle.ob0_language_runs.specs.TypeAgreement.{RunMeaningsAgree, PlaceHasType
 use Rattle.ob0_run_machine.specs.Evaluation as machine
 use Rattle.ob0_run_machine.specs.Evaluation.{Levels, level_at}
 use Rattle.ob0_run_machine.specs.Lowered as lowered
-use Rattle.ob0_run_cells.specs.Cells.{address, all_cells, store_size}
+use Rattle.ob0_run_cells.specs.Cells.{address, cells_of_store, store_size}
 
 -- The slot of a variable: where running code finds the variable. A variable is at an offset in the
 -- cells of the module or of the activation `up` levels out. A VAR parameter is found by the number
@@ -43,12 +43,12 @@ slot_place (by_reference up index) = lowered.passed up index 0
 
 -- Returns the place that is `k` cells after the start of a place. The sum of the offsets wraps at
 -- 64 bits.
-abbrev pub part_at : lowered.Place → ℕ → lowered.Place
-part_at (lowered.in_module at) k = lowered.in_module (machine.add_offset at k)
-part_at (lowered.in_own_activation at) k = lowered.in_own_activation (machine.add_offset at k)
-part_at (lowered.outside up at) k = lowered.outside up (machine.add_offset at k)
-part_at (lowered.passed up index at) k = lowered.passed up index (machine.add_offset at k)
-part_at (lowered.element q i n s at) k = lowered.element q i n s (machine.add_offset at k)
+abbrev pub place_at_offset : lowered.Place → ℕ → lowered.Place
+place_at_offset (lowered.in_module at) k = lowered.in_module (machine.add_offset at k)
+place_at_offset (lowered.in_own_activation at) k = lowered.in_own_activation (machine.add_offset at k)
+place_at_offset (lowered.outside up at) k = lowered.outside up (machine.add_offset at k)
+place_at_offset (lowered.passed up index at) k = lowered.passed up index (machine.add_offset at k)
+place_at_offset (lowered.element q i n s at) k = lowered.element q i n s (machine.add_offset at k)
 
 -- A moment of a run: the store and its types, the cells of arguments that are being passed, the
 -- meanings of names, and the activations that lowered code can see.
@@ -61,8 +61,8 @@ pub record Moment (N : Type 0) : Type 0 where
 
 -- returns all cells at a moment: the cells of the store, then the cells of the arguments that are
 -- being passed
-abbrev pub cells_in : {N : Type 0} → Moment N → List ℤ
-cells_in m = all_cells m.store ++ m.passed_cells
+abbrev pub cells_at_moment : {N : Type 0} → Moment N → List ℤ
+cells_at_moment m = cells_of_store m.store ++ m.passed_cells
 
 -- States that a moment belongs to a run of the checked module. The values in its store have the
 -- store's types, and its names have the meanings that the checker found. Each variable is in its
@@ -105,7 +105,7 @@ abbrev pub NumberMeans : {N : Type 0}
 NumberMeans {N} checked slots n value =
     (m : Moment N)
     → IsMomentOfModule checked slots m
-    → outcome_of number (machine.number m.levels (cells_in m) n) ≡ value m
+    → outcome_of number (machine.number m.levels (cells_at_moment m) n) ≡ value m
 
 -- states that a truth of lowered code and the evaluation `value` have the same outcome, at each
 -- moment that belongs to the checked module (`IsMomentOfModule`)
@@ -118,12 +118,12 @@ abbrev pub TruthMeans : {N : Type 0}
 TruthMeans {N} checked slots t value =
     (m : Moment N)
     → IsMomentOfModule checked slots m
-    → outcome_of truth (machine.truth m.levels (cells_in m) t) ≡ value m
+    → outcome_of truth (machine.truth m.levels (cells_at_moment m) t) ≡ value m
 
 -- States that an outcome is an end of the run, or a place whose values have the type `s`.
-abbrev pub PlaceOutcomeFits : StoreTyping → Shape → Outcome Place → Type 0
-PlaceOutcomeFits typing s (succeeds_with p) = PlaceHasType typing p s
-PlaceOutcomeFits typing s (ends_run_with e) = Unit {0}
+abbrev pub PlaceOutcomeHasType : StoreTyping → Shape → Outcome Place → Type 0
+PlaceOutcomeHasType typing s (succeeds_with p) = PlaceHasType typing p s
+PlaceOutcomeHasType typing s (ends_run_with e) = Unit {0}
 
 -- States that the lowered place `q` and the evaluation `value` agree at each moment that belongs to
 -- the checked module (`IsMomentOfModule`). Both have the same address, or end the run with the same
@@ -137,21 +137,21 @@ abbrev pub PlaceMeans : {N : Type 0}
     → Type 0
 PlaceMeans {N} checked slots q s value =
     (m : Moment N) → IsMomentOfModule checked slots m
-    → (outcome_of (λ a. a) (machine.address m.levels (cells_in m) q)
+    → (outcome_of (λ a. a) (machine.address m.levels (cells_at_moment m) q)
     ≡ (value m >>= (λ p. succeeds_with (address m.typing p))))
-    × PlaceOutcomeFits m.typing s (value m)
+    × PlaceOutcomeHasType m.typing s (value m)
 
--- States that there is a place with values of the type `s` that the lowered place `q` means
--- (`PlaceMeans`), and that `value` returns the value stored there, at each moment of the checked
+-- States that the lowered place `q` means a place with values of the type `s` (`PlaceMeans`), and
+-- that `value` returns the value stored at this place. This holds at each moment of the checked
 -- module (`IsMomentOfModule`).
-abbrev pub HoldsValue : {N : Type 0}
+abbrev pub PlaceHoldsValue : {N : Type 0}
     → TypeMeanings N
     → (N → Slot)
     → lowered.Place
     → Shape
     → OutcomeByMoment N Value
     → Type 0
-HoldsValue {N} checked slots q s value =
+PlaceHoldsValue {N} checked slots q s value =
     (place : OutcomeByMoment N Place)
     × PlaceMeans checked slots q s place
     × ((m : Moment N)
@@ -184,20 +184,20 @@ abbrev pub RestOfChain : Type 0 → Type 0 → Type 0
 RestOfChain N A = Moment N → A → Outcome A
 
 -- returns the outcome of the remaining addends at a moment, given the value so far
-abbrev pub remaining_addends : {N : Type 0} → Tree N (items addend) → RestOfChain N Value
-remaining_addends rest m v = evaluate_addends m.active m.store v rest
+abbrev pub outcome_of_remaining_addends : {N : Type 0} → Tree N (items addend) → RestOfChain N Value
+outcome_of_remaining_addends rest m v = evaluate_addends m.active m.store v rest
 
 -- returns the outcome of the remaining factors at a moment, given the value so far
-abbrev pub remaining_multipliers : {N : Type 0} → Tree N (items multiplier) → RestOfChain N Value
-remaining_multipliers rest m v = evaluate_multipliers m.active m.store v rest
+abbrev pub outcome_of_remaining_multipliers : {N : Type 0} → Tree N (items multiplier) → RestOfChain N Value
+outcome_of_remaining_multipliers rest m v = evaluate_multipliers m.active m.store v rest
 
 -- returns a place with more steps at the end of its path
 abbrev pub extended_place : Place → List Step → Place
 extended_place p steps = record { variable = p.variable; path = p.path ++ steps }
 
 -- returns the outcome of the remaining selectors at a moment, given the place so far
-abbrev pub remaining_selectors : {N : Type 0} → Tree N (items selector) → RestOfChain N Place
-remaining_selectors rest m p =
+abbrev pub outcome_of_remaining_selectors : {N : Type 0} → Tree N (items selector) → RestOfChain N Place
+outcome_of_remaining_selectors rest m p =
     or_stuck (read_place m.store p) >>=
     (λ v. evaluate_selectors m.active m.store v rest >>= (λ steps. succeeds_with (extended_place p steps)))
 
@@ -226,7 +226,7 @@ abbrev pub PlaceStartsChain : {N : Type 0}
     → OutcomeByMoment N Place
     → Type 0
 PlaceStartsChain checked slots q s rest =
-    StartsChain checked slots (PlaceMeans checked slots q s) (remaining_selectors rest)
+    StartsChain checked slots (PlaceMeans checked slots q s) (outcome_of_remaining_selectors rest)
 
 -- States that the lowered number `n` is correct code for the first part of a chain. Given its
 -- value, the rest of the chain has the value of the whole chain.

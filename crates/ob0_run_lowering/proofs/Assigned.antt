@@ -16,7 +16,7 @@ use Rattle.ob0_run_machine.specs.Lowered as lowered
 use Rattle.ob0_run_machine.specs.View.{number_of, place_of, truth_of}
 use Rattle.ob0_run_cells.specs.Cells.{size}
 use Rattle.ob0_run_cells.specs.LoweredStatements.{CodeMeansStatement, Target}
-use Rattle.ob0_run_cells.specs.Lowering.{PlaceMeans, Slot, HoldsValue, place_of_designator, value_of_expression}
+use Rattle.ob0_run_cells.specs.Lowering.{PlaceMeans, Slot, PlaceHoldsValue, place_of_designator, value_of_expression}
 use Rattle.ob0_run_cells.proofs.LoweredAssignments.{block-assigned, number-assigned, truth-assigned}
 use Rattle.ob0_run_lowering.specs.LoweredMeans.{LocatesDesignator, LowersExpression, LoweredMeans}
 use Rattle.ob0_run_lowering.specs.declared.lowered.TypedPlace.{TypedPlace}
@@ -33,7 +33,7 @@ module _ (checked : TypeMeanings Label) (slots : Label → Slot) (targets : Labe
   stores_truth t boolean_shape hq ht = truth-assigned checked slots targets x path e q (truth_of t) hq ht
   stores_truth t _ hq ht = absurd ht
 
-  copied : (r : lowered.Place) (n : ℕ) (s : Shape) → PlaceMeans checked slots q s (place_of_designator x path) → (n ≡ size s) × HoldsValue checked slots r s (value_of_expression e) → CodeMeansStatement checked slots targets (lowered.copies q r n) (assigns x path e)
+  copied : (r : lowered.Place) (n : ℕ) (s : Shape) → PlaceMeans checked slots q s (place_of_designator x path) → (n ≡ size s) × PlaceHoldsValue checked slots r s (value_of_expression e) → CodeMeansStatement checked slots targets (lowered.copies q r n) (assigns x path e)
   copied r n s hq hr =
       let P : ℕ → Type 0 = λ n. CodeMeansStatement checked slots targets (lowered.copies q r n) (assigns x path e) in
       subst P (sym hr.0) (block-assigned checked slots targets x path e q r s hq hr.1)

@@ -14,7 +14,7 @@ use Rattle.ob0_types_table.specs.declared.known.FormalParameter as formal
 use Rattle.ob0_types_table.specs.Designators.{labelled_expressions}
 use Rattle.ob0_scope_table.specs.LabelledTrees.{tree_with_labels}
 use Rattle.ob0_types_table.proofs.LabelledParts.{all_listed}
-use Rattle.ob0_language_types.specs.Arguments.{arguments_listed}
+use Rattle.ob0_language_types.specs.Arguments.{call_arguments}
 use Rattle.ob0_language_types.specs.Expressions.{Object, a_procedure, a_standard, read_procedure, write_procedure, write_line_procedure}
 use Rattle.ob0_language_types.specs.Typing.{lone_designator, type_of}
 use Rattle.ob0_language_types.specs.WellTyped.{FormalParameter, Signature, TypeMeanings, argument_matches, arguments_match, by_place, by_value, call_is_well_typed, signature_of, statement_is_well_typed, variable_type}
@@ -29,7 +29,7 @@ use Rattle.ob0_run_cells.specs.Lowering.{Slot}
 use Rattle.ob0_run_cells.proofs.LoweredAssignments.{line-means, reads-mean, writes-mean}
 use Rattle.ob0_run_cells.proofs.PassedArguments.{call-means}
 use Rattle.ob0_run_lowering.specs.LoweredMeans.{LocatesLoneDesignator, LowersArgument, LowersNumber}
-use Rattle.ob0_run_lowering.specs.Scenes.{SceneAgrees, object_at, target_at}
+use Rattle.ob0_run_lowering.specs.Scenes.{SceneAgrees, object_of_label, target_of_label}
 use Rattle.ob0_run_lowering.specs.declared.lowered.TypedPlace.{TypedPlace}
 use Rattle.ob0_run_lowering.specs.declared.scene.Scene.{Scene}
 use Rattle.ob0_run_lowering.specs.LoweredBodies.{LowersArguments, LowersStatement, given_arguments}
@@ -41,15 +41,15 @@ found checked x es None e h = absurd (cc)
 found checked x es (Some p) e h = (p, e)
 
 -- so it means what its declaration is
-module _ (scene : Scene) (x : Label) (es : Tree Label (maybe arguments)) (o : Option (Object Shape Signature)) (declared : object_at scene.types.now x ≡ o) where
+module _ (scene : Scene) (x : Label) (es : Tree Label (maybe arguments)) (o : Option (Object Shape Signature)) (declared : object_of_label scene.types.now x ≡ o) where
   called_as : (checked : TypeMeanings Label) (slots : Label → Slot) (targets : Label → Target) → SceneAgrees scene checked slots targets → statement_is_well_typed checked (calls x es) ≡ true → checked.object_for x ≡ o
   unfolding statement_is_well_typed
   called_as checked slots targets sees fits =
-      let (p, e) = found checked x (arguments_listed es) (checked.object_for x) refl fits in e ∙ sym (sees.bound x p e) ∙ declared
+      let (p, e) = found checked x (call_arguments es) (checked.object_for x) refl fits in e ∙ sym (sees.bound x p e) ∙ declared
 
-  called_with : (checked : TypeMeanings Label) (slots : Label → Slot) (targets : Label → Target) → SceneAgrees scene checked slots targets → statement_is_well_typed checked (calls x es) ≡ true → call_is_well_typed checked (signature_of o) (arguments_listed es) ≡ true
+  called_with : (checked : TypeMeanings Label) (slots : Label → Slot) (targets : Label → Target) → SceneAgrees scene checked slots targets → statement_is_well_typed checked (calls x es) ≡ true → call_is_well_typed checked (signature_of o) (call_arguments es) ≡ true
   unfolding statement_is_well_typed
-  called_with checked slots targets sees fits = sym (ap (λ o. call_is_well_typed checked (signature_of o) (arguments_listed es)) (called_as checked slots targets sees fits)) ∙ fits
+  called_with checked slots targets sees fits = sym (ap (λ o. call_is_well_typed checked (signature_of o) (call_arguments es)) (called_as checked slots targets sees fits)) ∙ fits
 
 no_signature : (checked : TypeMeanings Label) (s : Option Signature) (es : List (Tree Label expression)) → s ≡ None → call_is_well_typed checked s es ≡ true → ⊥
 unfolding call_is_well_typed
@@ -57,25 +57,25 @@ no_signature checked None es e h = cc
 no_signature checked (Some s) es e h = cc
 
 -- what isn't a procedure isn't called
-pub uncallable : (scene : Scene) (x : Label) (es : Tree Label (maybe arguments)) (c : lowered.Instruction) → signature_of (object_at scene.types.now x) ≡ None → LowersStatement scene c (calls x es)
+pub uncallable : (scene : Scene) (x : Label) (es : Tree Label (maybe arguments)) (c : lowered.Instruction) → signature_of (object_of_label scene.types.now x) ≡ None → LowersStatement scene c (calls x es)
 uncallable scene x es c none_there checked slots targets sees fits =
-    absurd (no_signature checked (signature_of (object_at scene.types.now x)) (arguments_listed es) none_there (called_with scene x es (object_at scene.types.now x) refl checked slots targets sees fits))
+    absurd (no_signature checked (signature_of (object_of_label scene.types.now x)) (call_arguments es) none_there (called_with scene x es (object_of_label scene.types.now x) refl checked slots targets sees fits))
 
 signed : (checked : TypeMeanings Label) (signature : Signature) (es : List (Tree Label expression)) → call_is_well_typed checked (Some signature) es ≡ true → arguments_match checked signature es ≡ true
 unfolding call_is_well_typed
 signed checked signature es h = h
 
 -- a procedure, at its target
-pub called : (scene : Scene) (x : Label) (es : Tree Label (maybe arguments)) (signature : Signature) (cs : List lowered.LoweredArgument) (procedure up : ℕ) → object_at scene.types.now x ≡ Some (a_procedure signature) → LowersArguments scene signature cs (arguments_listed es)
-    → record { procedure = procedure; up = up } ≡ target_at scene x → LowersStatement scene (lowered.calls procedure up cs) (calls x es)
+pub called : (scene : Scene) (x : Label) (es : Tree Label (maybe arguments)) (signature : Signature) (cs : List lowered.LoweredArgument) (procedure up : ℕ) → object_of_label scene.types.now x ≡ Some (a_procedure signature) → LowersArguments scene signature cs (call_arguments es)
+    → record { procedure = procedure; up = up } ≡ target_of_label scene x → LowersStatement scene (lowered.calls procedure up cs) (calls x es)
 called scene x es signature cs procedure up declared hs there checked slots targets sees fits =
     let is_there = called_as scene x es (Some (a_procedure signature)) declared checked slots targets sees fits in
-    let args = hs checked slots targets sees (signed checked signature (arguments_listed es) (called_with scene x es (Some (a_procedure signature)) declared checked slots targets sees fits)) in
+    let args = hs checked slots targets sees (signed checked signature (call_arguments es) (called_with scene x es (Some (a_procedure signature)) declared checked slots targets sees fits)) in
     let P : Target → Type 0 = λ t. CodeMeansStatement checked slots targets (lowered.calls t.procedure t.up cs) (calls x es) in
     subst P (sees.procedures x signature is_there ∙ sym there) (call-means checked slots targets x es signature cs is_there args)
 
 -- arguments as they are written
-pub given_listed : (r : Resolution) (given : Option (Vec Expression Global)) → arguments_listed (tree_with_labels r (arguments_of given)) ≡ labelled_expressions r (given_arguments given)
+pub given_listed : (r : Resolution) (given : Option (Vec Expression Global)) → call_arguments (tree_with_labels r (arguments_of given)) ≡ labelled_expressions r (given_arguments given)
 given_listed r None = refl
 given_listed r (Some es) = all_listed r es.items
 
@@ -114,37 +114,37 @@ module _ (scene : Scene) (x : Label) (given : Option (Vec Expression Global)) wh
   abbrev written_arguments : Tree Label (maybe arguments)
   written_arguments = tree_with_labels scene.resolved.now (arguments_of given)
 
-  all_fit : (s : Object Shape Signature) (signature : Signature) → signature_of (Some s) ≡ Some signature → object_at scene.types.now x ≡ Some s → (checked : TypeMeanings Label) (slots : Label → Slot) (targets : Label → Target) → SceneAgrees scene checked slots targets → statement_is_well_typed checked (calls x written_arguments) ≡ true
+  all_fit : (s : Object Shape Signature) (signature : Signature) → signature_of (Some s) ≡ Some signature → object_of_label scene.types.now x ≡ Some s → (checked : TypeMeanings Label) (slots : Label → Slot) (targets : Label → Target) → SceneAgrees scene checked slots targets → statement_is_well_typed checked (calls x written_arguments) ≡ true
       → arguments_match checked signature (labelled_expressions scene.resolved.now (given_arguments given)) ≡ true
   all_fit s signature is declared checked slots targets sees fits =
       sym (ap (arguments_match checked signature) (given_listed scene.resolved.now given))
-      ∙ signed checked signature (arguments_listed written_arguments) (sym (ap (λ s. call_is_well_typed checked s (arguments_listed written_arguments)) is) ∙ called_with scene x written_arguments (Some s) declared checked slots targets sees fits)
+      ∙ signed checked signature (call_arguments written_arguments) (sym (ap (λ s. call_is_well_typed checked s (call_arguments written_arguments)) is) ∙ called_with scene x written_arguments (Some s) declared checked slots targets sees fits)
 
-  pub lower_read : (e : Expression) (l : TypedPlace) → slice_get (given_arguments given) 0 ≡ Some e → LocatesLoneDesignator scene (expression_of e) l → object_at scene.types.now x ≡ Some (a_standard read_procedure) → LowersStatement scene (lowered.reads (place_of l.place)) (calls x written_arguments)
+  pub lower_read : (e : Expression) (l : TypedPlace) → slice_get (given_arguments given) 0 ≡ Some e → LocatesLoneDesignator scene (expression_of e) l → object_of_label scene.types.now x ≡ Some (a_standard read_procedure) → LowersStatement scene (lowered.reads (place_of l.place)) (calls x written_arguments)
   lower_read e l here hl declared checked slots targets sees fits =
       let f : FormalParameter = record { mode = by_place; shape = integer_shape } in
       let one = one_fits checked scene.resolved.now f (given_arguments given) e here (all_fit (a_standard read_procedure) (f ∷ []) refl declared checked slots targets sees fits) in
       let at = (hl checked slots targets sees integer_shape (placed checked (tree_with_labels scene.resolved.now (expression_of e)) one.1)).1 in
       reads-mean checked slots targets x written_arguments (tree_with_labels scene.resolved.now (expression_of e)) (place_of l.place) (called_as scene x written_arguments (Some (a_standard read_procedure)) declared checked slots targets sees fits) (given_listed scene.resolved.now given ∙ one.0) at
 
-  pub written : (e : Expression) (n : Number) → slice_get (given_arguments given) 0 ≡ Some e → LowersNumber scene (expression_of e) n → object_at scene.types.now x ≡ Some (a_standard write_procedure) → LowersStatement scene (lowered.writes (number_of n)) (calls x written_arguments)
+  pub written : (e : Expression) (n : Number) → slice_get (given_arguments given) 0 ≡ Some e → LowersNumber scene (expression_of e) n → object_of_label scene.types.now x ≡ Some (a_standard write_procedure) → LowersStatement scene (lowered.writes (number_of n)) (calls x written_arguments)
   written e n here hn declared checked slots targets sees fits =
       let f : FormalParameter = record { mode = by_value; shape = integer_shape } in
       let one = one_fits checked scene.resolved.now f (given_arguments given) e here (all_fit (a_standard write_procedure) (f ∷ []) refl declared checked slots targets sees fits) in
       let has_value_one = hn checked slots targets sees (valued checked (tree_with_labels scene.resolved.now (expression_of e)) one.1) in
       writes-mean checked slots targets x written_arguments (tree_with_labels scene.resolved.now (expression_of e)) (number_of n) (called_as scene x written_arguments (Some (a_standard write_procedure)) declared checked slots targets sees fits) (given_listed scene.resolved.now given ∙ one.0) has_value_one
 
-  pub line_written : object_at scene.types.now x ≡ Some (a_standard write_line_procedure) → LowersStatement scene lowered.writes_line (calls x written_arguments)
+  pub line_written : object_of_label scene.types.now x ≡ Some (a_standard write_line_procedure) → LowersStatement scene lowered.writes_line (calls x written_arguments)
   line_written declared checked slots targets sees fits =
       let listed = no_argument_fits checked (labelled_expressions scene.resolved.now (given_arguments given)) (all_fit (a_standard write_line_procedure) [] refl declared checked slots targets sees fits) in
       line-means checked slots targets x written_arguments (called_as scene x written_arguments (Some (a_standard write_line_procedure)) declared checked slots targets sees fits) (given_listed scene.resolved.now given ∙ listed)
 
-  pub nothing_read : (c : lowered.Instruction) → slice_get (given_arguments given) 0 ≡ None → object_at scene.types.now x ≡ Some (a_standard read_procedure) → LowersStatement scene c (calls x written_arguments)
+  pub nothing_read : (c : lowered.Instruction) → slice_get (given_arguments given) 0 ≡ None → object_of_label scene.types.now x ≡ Some (a_standard read_procedure) → LowersStatement scene c (calls x written_arguments)
   nothing_read c here declared checked slots targets sees fits =
       let f : FormalParameter = record { mode = by_place; shape = integer_shape } in
       absurd (none_fits checked scene.resolved.now f (given_arguments given) here (all_fit (a_standard read_procedure) (f ∷ []) refl declared checked slots targets sees fits))
 
-  pub nothing_written : (c : lowered.Instruction) → slice_get (given_arguments given) 0 ≡ None → object_at scene.types.now x ≡ Some (a_standard write_procedure) → LowersStatement scene c (calls x written_arguments)
+  pub nothing_written : (c : lowered.Instruction) → slice_get (given_arguments given) 0 ≡ None → object_of_label scene.types.now x ≡ Some (a_standard write_procedure) → LowersStatement scene c (calls x written_arguments)
   nothing_written c here declared checked slots targets sees fits =
       let f : FormalParameter = record { mode = by_value; shape = integer_shape } in
       absurd (none_fits checked scene.resolved.now f (given_arguments given) here (all_fit (a_standard write_procedure) (f ∷ []) refl declared checked slots targets sees fits))

@@ -7,7 +7,7 @@ use Rattle.ob0_tree.specs.View.{items_of}
 use Rattle.ob0_language_names.specs.Names.{Label}
 use Rattle.ob0_scope_table.specs.Resolution.{Resolution}
 use Rattle.ob0_scope_table.specs.LabelledTrees.{tree_with_labels}
-use Rattle.ob0_run_lowering.specs.Codes.{ExpressionCode, FoundPlace, addition_code, multiplication_code}
+use Rattle.ob0_run_lowering.specs.Codes.{ExpressionCode, PlaceWithShape, addition_code, multiplication_code}
 use Rattle.ob0_run_lowering.specs.Trees.{addends_code, factor_code, multipliers_code, place_after_selector, selected_place, term_code}
 use Rattle.ob0_run_lowering.specs.declared.scene.Scene.{Scene}
 
@@ -48,7 +48,7 @@ addition_code-stepped scene c (adds o t) ts = refl
 multiplication_code-stepped : (scene : Scene) (c : ExpressionCode) (t : Tree Label (item multiplier)) (ts : Tree Label (items multiplier)) → multipliers_code scene c (more t ts) ≡ multipliers_code scene (multiplied_once scene c t) ts
 multiplication_code-stepped scene c (multiplies o f) ts = refl
 
-selected-stepped : (scene : Scene) (o : Option FoundPlace) (t : Tree Label (item selector)) (ts : Tree Label (items selector)) → selected_place scene o (more t ts) ≡ selected_place scene (place_after_selector scene o t) ts
+selected-stepped : (scene : Scene) (o : Option PlaceWithShape) (t : Tree Label (item selector)) (ts : Tree Label (items selector)) → selected_place scene o (more t ts) ≡ selected_place scene (place_after_selector scene o t) ts
 selected-stepped scene o (field x) ts = refl
 selected-stepped scene o (index e) ts = refl
 

@@ -17,7 +17,7 @@ use Rattle.ob0_language_types.proofs.Literals.{some_inverse}
 use Rattle.ob0_language_values.specs.Values.{Outcome, Shape, Value, array_shape, boolean_shape, ends_run_with, succeeds_with, integer_shape, record_shape, ◌>>=◌}
 use Rattle.ob0_run_machine.specs.Lowered as lowered
 use Rattle.ob0_run_cells.specs.Cells.{size}
-use Rattle.ob0_run_cells.specs.Lowering.{OutcomeByMoment, StartsChain, NumberStartsChain, NumberMeans, RestOfChain, Slot, TruthStartsChain, TruthMeans, HoldsValue, remaining_addends, remaining_multipliers, value_of_expression, value_of_factor, value_of_simple, value_of_term}
+use Rattle.ob0_run_cells.specs.Lowering.{OutcomeByMoment, StartsChain, NumberStartsChain, NumberMeans, RestOfChain, Slot, TruthStartsChain, TruthMeans, PlaceHoldsValue, outcome_of_remaining_addends, outcome_of_remaining_multipliers, value_of_expression, value_of_factor, value_of_simple, value_of_term}
 use Rattle.ob0_run_cells.proofs.LoweredNumbers as numbers
 use Rattle.ob0_run_cells.proofs.LoweredOutcomes.{difference-operates, product-operates, quotient-operates, remainder-operates, sum-operates}
 use Rattle.ob0_run_cells.proofs.LoweredTruths as truths
@@ -27,8 +27,8 @@ use Rattle.ob0_run_lowering.specs.Codes.{ExpressionCode, CodeMeans, a_block, a_n
 abbrev pub CodeLeads : TypeMeanings Label → (Label → Slot) → ExpressionCode → Shape → RestOfChain Label Value → OutcomeByMoment Label Value → Type 0
 CodeLeads checked slots (a_number n) integer_shape rest whole = NumberStartsChain checked slots n rest whole
 CodeLeads checked slots (a_truth t) boolean_shape rest whole = TruthStartsChain checked slots t rest whole
-CodeLeads checked slots (a_block q n) (array_shape k m s) rest whole = (n ≡ size (array_shape k m s)) × StartsChain checked slots (HoldsValue checked slots q (array_shape k m s)) rest whole
-CodeLeads checked slots (a_block q n) (record_shape k fs) rest whole = (n ≡ size (record_shape k fs)) × StartsChain checked slots (HoldsValue checked slots q (record_shape k fs)) rest whole
+CodeLeads checked slots (a_block q n) (array_shape k m s) rest whole = (n ≡ size (array_shape k m s)) × StartsChain checked slots (PlaceHoldsValue checked slots q (array_shape k m s)) rest whole
+CodeLeads checked slots (a_block q n) (record_shape k fs) rest whole = (n ≡ size (record_shape k fs)) × StartsChain checked slots (PlaceHoldsValue checked slots q (record_shape k fs)) rest whole
 CodeLeads checked slots _ _ rest whole = ⊥
 
 -- two codes with their variants, and a type
@@ -55,63 +55,63 @@ module _ (checked : TypeMeanings Label) (slots : Label → Slot) where
 
   module _ (e : Tree Label term) (rest : Tree Label (items addend)) (whole : OutcomeByMoment Label Value) where
     abbrev AddedLeads : AddOperator → ExpressionCode → ExpressionCode → Shape → Type 0
-    AddedLeads o c d z = CodeLeads checked slots (addition_code o c d) z (remaining_addends rest) whole
+    AddedLeads o c d z = CodeLeads checked slots (addition_code o c d) z (outcome_of_remaining_addends rest) whole
 
-    numbers-addition_code : (o : AddOperator) (c d : ExpressionCode) (z : Shape) → ((m n : lowered.Number) → NumberMeans checked slots n (value_of_term e) → NumberStartsChain checked slots m (remaining_addends (more (adds o e) rest)) whole → AddedLeads o (a_number m) (a_number n) integer_shape)
-        → Some integer_shape ≡ Some z → CodeLeads checked slots c integer_shape (remaining_addends (more (adds o e) rest)) whole → CodeMeans checked slots d integer_shape (value_of_term e) → AddedLeads o c d z
+    numbers-addition_code : (o : AddOperator) (c d : ExpressionCode) (z : Shape) → ((m n : lowered.Number) → NumberMeans checked slots n (value_of_term e) → NumberStartsChain checked slots m (outcome_of_remaining_addends (more (adds o e) rest)) whole → AddedLeads o (a_number m) (a_number n) integer_shape)
+        → Some integer_shape ≡ Some z → CodeLeads checked slots c integer_shape (outcome_of_remaining_addends (more (adds o e) rest)) whole → CodeMeans checked slots d integer_shape (value_of_term e) → AddedLeads o c d z
     numbers-addition_code o c d z step h hc hd =
-        let (m, em, hm) = number-leads c (remaining_addends (more (adds o e) rest)) whole hc in
+        let (m, em, hm) = number-leads c (outcome_of_remaining_addends (more (adds o e) rest)) whole hc in
         let (n, en, hn) = number-code d (value_of_term e) hd in
         two-codes (AddedLeads o) em en h (step m n hn hm)
 
-    pub addition_code-leads : (o : AddOperator) (c d : ExpressionCode) (x y z : Shape) → addition_type o x y ≡ Some z → CodeLeads checked slots c x (remaining_addends (more (adds o e) rest)) whole → CodeMeans checked slots d y (value_of_term e) → AddedLeads o c d z
+    pub addition_code-leads : (o : AddOperator) (c d : ExpressionCode) (x y z : Shape) → addition_type o x y ≡ Some z → CodeLeads checked slots c x (outcome_of_remaining_addends (more (adds o e) rest)) whole → CodeMeans checked slots d y (value_of_term e) → AddedLeads o c d z
     addition_code-leads add_operator.Add c d integer_shape integer_shape z h hc hd = numbers-addition_code add_operator.Add c d z (λ m n hn hm. numbers.addend-leads checked slots add_operator.Add lowered.sum sum-operates (λ x. refl) m n e rest whole hn hm) h hc hd
     addition_code-leads add_operator.Subtract c d integer_shape integer_shape z h hc hd = numbers-addition_code add_operator.Subtract c d z (λ m n hn hm. numbers.addend-leads checked slots add_operator.Subtract lowered.difference difference-operates (λ x. refl) m n e rest whole hn hm) h hc hd
     addition_code-leads add_operator.Or c d boolean_shape boolean_shape z h hc hd =
-        let (t, et, ht) = truth-leads c (remaining_addends (more (adds add_operator.Or e) rest)) whole hc in
+        let (t, et, ht) = truth-leads c (outcome_of_remaining_addends (more (adds add_operator.Or e) rest)) whole hc in
         let (u, eu, hu) = truth-code d (value_of_term e) hd in
         two-codes (AddedLeads add_operator.Or) et eu h (truths.either-leads checked slots t u e rest whole hu ht)
     addition_code-leads _ c d _ _ z h hc hd = absurd (cc)
 
   module _ (f : Tree Label factor) (rest : Tree Label (items multiplier)) (whole : OutcomeByMoment Label Value) where
     abbrev MultipliedLeads : MultiplyOperator → ExpressionCode → ExpressionCode → Shape → Type 0
-    MultipliedLeads o c d z = CodeLeads checked slots (multiplication_code o c d) z (remaining_multipliers rest) whole
+    MultipliedLeads o c d z = CodeLeads checked slots (multiplication_code o c d) z (outcome_of_remaining_multipliers rest) whole
 
-    numbers-multiplication_code : (o : MultiplyOperator) (c d : ExpressionCode) (z : Shape) → ((m n : lowered.Number) → NumberMeans checked slots n (value_of_factor f) → NumberStartsChain checked slots m (remaining_multipliers (more (multiplies o f) rest)) whole → MultipliedLeads o (a_number m) (a_number n) integer_shape)
-        → Some integer_shape ≡ Some z → CodeLeads checked slots c integer_shape (remaining_multipliers (more (multiplies o f) rest)) whole → CodeMeans checked slots d integer_shape (value_of_factor f) → MultipliedLeads o c d z
+    numbers-multiplication_code : (o : MultiplyOperator) (c d : ExpressionCode) (z : Shape) → ((m n : lowered.Number) → NumberMeans checked slots n (value_of_factor f) → NumberStartsChain checked slots m (outcome_of_remaining_multipliers (more (multiplies o f) rest)) whole → MultipliedLeads o (a_number m) (a_number n) integer_shape)
+        → Some integer_shape ≡ Some z → CodeLeads checked slots c integer_shape (outcome_of_remaining_multipliers (more (multiplies o f) rest)) whole → CodeMeans checked slots d integer_shape (value_of_factor f) → MultipliedLeads o c d z
     numbers-multiplication_code o c d z step h hc hd =
-        let (m, em, hm) = number-leads c (remaining_multipliers (more (multiplies o f) rest)) whole hc in
+        let (m, em, hm) = number-leads c (outcome_of_remaining_multipliers (more (multiplies o f) rest)) whole hc in
         let (n, en, hn) = number-code d (value_of_factor f) hd in
         two-codes (MultipliedLeads o) em en h (step m n hn hm)
 
-    pub multiplication_code-leads : (o : MultiplyOperator) (c d : ExpressionCode) (x y z : Shape) → multiplication_type o x y ≡ Some z → CodeLeads checked slots c x (remaining_multipliers (more (multiplies o f) rest)) whole → CodeMeans checked slots d y (value_of_factor f) → MultipliedLeads o c d z
+    pub multiplication_code-leads : (o : MultiplyOperator) (c d : ExpressionCode) (x y z : Shape) → multiplication_type o x y ≡ Some z → CodeLeads checked slots c x (outcome_of_remaining_multipliers (more (multiplies o f) rest)) whole → CodeMeans checked slots d y (value_of_factor f) → MultipliedLeads o c d z
     multiplication_code-leads multiply_operator.Multiply c d integer_shape integer_shape z h hc hd = numbers-multiplication_code multiply_operator.Multiply c d z (λ m n hn hm. numbers.multiplier-leads checked slots multiply_operator.Multiply lowered.product product-operates (λ x. refl) m n f rest whole hn hm) h hc hd
     multiplication_code-leads multiply_operator.Divide c d integer_shape integer_shape z h hc hd = numbers-multiplication_code multiply_operator.Divide c d z (λ m n hn hm. numbers.multiplier-leads checked slots multiply_operator.Divide lowered.quotient quotient-operates (λ x. refl) m n f rest whole hn hm) h hc hd
     multiplication_code-leads multiply_operator.Modulo c d integer_shape integer_shape z h hc hd = numbers-multiplication_code multiply_operator.Modulo c d z (λ m n hn hm. numbers.multiplier-leads checked slots multiply_operator.Modulo lowered.remainder remainder-operates (λ x. refl) m n f rest whole hn hm) h hc hd
     multiplication_code-leads multiply_operator.And c d boolean_shape boolean_shape z h hc hd =
-        let (t, et, ht) = truth-leads c (remaining_multipliers (more (multiplies multiply_operator.And f) rest)) whole hc in
+        let (t, et, ht) = truth-leads c (outcome_of_remaining_multipliers (more (multiplies multiply_operator.And f) rest)) whole hc in
         let (u, eu, hu) = truth-code d (value_of_factor f) hd in
         two-codes (MultipliedLeads multiply_operator.And) et eu h (truths.both-leads checked slots t u f rest whole hu ht)
     multiplication_code-leads _ c d _ _ z h hc hd = absurd (cc)
 
   -- a chain begins with its first operand
 
-  value-begins : (q : lowered.Place) (s : Shape) (f : Tree Label factor) (rest : Tree Label (items multiplier)) → HoldsValue checked slots q s (value_of_factor f) → StartsChain checked slots (HoldsValue checked slots q s) (remaining_multipliers rest) (value_of_term (product f rest))
+  value-begins : (q : lowered.Place) (s : Shape) (f : Tree Label factor) (rest : Tree Label (items multiplier)) → PlaceHoldsValue checked slots q s (value_of_factor f) → StartsChain checked slots (PlaceHoldsValue checked slots q s) (outcome_of_remaining_multipliers rest) (value_of_term (product f rest))
   unfolding evaluate
   value-begins q s f rest h = (value_of_factor f, h, λ z shown. refl)
 
-  pub term-begins : (c : ExpressionCode) (x : Shape) (f : Tree Label factor) (rest : Tree Label (items multiplier)) → CodeMeans checked slots c x (value_of_factor f) → CodeLeads checked slots c x (remaining_multipliers rest) (value_of_term (product f rest))
+  pub term-begins : (c : ExpressionCode) (x : Shape) (f : Tree Label factor) (rest : Tree Label (items multiplier)) → CodeMeans checked slots c x (value_of_factor f) → CodeLeads checked slots c x (outcome_of_remaining_multipliers rest) (value_of_term (product f rest))
   term-begins (a_number n) integer_shape f rest h = numbers.product-begins checked slots f rest n h
   term-begins (a_truth t) boolean_shape f rest h = truths.product-begins checked slots f rest t h
   term-begins (a_block q n) (array_shape k m s) f rest h = (h.0, value-begins q (array_shape k m s) f rest h.1)
   term-begins (a_block q n) (record_shape k fs) f rest h = (h.0, value-begins q (record_shape k fs) f rest h.1)
   term-begins _ _ f rest h = absurd h
 
-  value-signed_code : (q : lowered.Place) (s : Shape) (e : Tree Label term) (rest : Tree Label (items addend)) → HoldsValue checked slots q s (value_of_term e) → StartsChain checked slots (HoldsValue checked slots q s) (remaining_addends rest) (value_of_simple (sum None e rest))
+  value-signed_code : (q : lowered.Place) (s : Shape) (e : Tree Label term) (rest : Tree Label (items addend)) → PlaceHoldsValue checked slots q s (value_of_term e) → StartsChain checked slots (PlaceHoldsValue checked slots q s) (outcome_of_remaining_addends rest) (value_of_simple (sum None e rest))
   unfolding evaluate
   value-signed_code q s e rest h = (value_of_term e, h, λ z shown. refl)
 
-  unsigned-begins : (c : ExpressionCode) (x : Shape) (e : Tree Label term) (rest : Tree Label (items addend)) → CodeMeans checked slots c x (value_of_term e) → CodeLeads checked slots c x (remaining_addends rest) (value_of_simple (sum None e rest))
+  unsigned-begins : (c : ExpressionCode) (x : Shape) (e : Tree Label term) (rest : Tree Label (items addend)) → CodeMeans checked slots c x (value_of_term e) → CodeLeads checked slots c x (outcome_of_remaining_addends rest) (value_of_simple (sum None e rest))
   unsigned-begins (a_number n) integer_shape e rest h = numbers.sum-begins checked slots e rest n h
   unsigned-begins (a_truth t) boolean_shape e rest h = truths.sum-begins checked slots e rest t h
   unsigned-begins (a_block q n) (array_shape k m s) e rest h = (h.0, value-signed_code q (array_shape k m s) e rest h.1)
@@ -120,7 +120,7 @@ module _ (checked : TypeMeanings Label) (slots : Label → Slot) where
 
   module _ (e : Tree Label term) (rest : Tree Label (items addend)) where
     abbrev SignedLeads : Option Sign → ExpressionCode → Shape → Type 0
-    SignedLeads g c y = CodeLeads checked slots (signed_code g c) y (remaining_addends rest) (value_of_simple (sum g e rest))
+    SignedLeads g c y = CodeLeads checked slots (signed_code g c) y (outcome_of_remaining_addends rest) (value_of_simple (sum g e rest))
 
     one-code : (g : Option Sign) (c c' : ExpressionCode) (y y' : Shape) → c ≡ c' → Some y' ≡ Some y → SignedLeads g c' y' → SignedLeads g c y
     one-code g c c' y y' ec ey h = subst (λ y. SignedLeads g c y) (some_inverse ey) (subst (λ c. SignedLeads g c y') (sym ec) h)
@@ -133,7 +133,7 @@ module _ (checked : TypeMeanings Label) (slots : Label → Slot) where
 
   -- where nothing is left, what was found is the whole
 
-  value-whole : (q : lowered.Place) (s : Shape) (rest : RestOfChain Label Value) (whole : OutcomeByMoment Label Value) → ((z : _) (v : Value) → rest z v ≡ succeeds_with v) → StartsChain checked slots (HoldsValue checked slots q s) rest whole → HoldsValue checked slots q s whole
+  value-whole : (q : lowered.Place) (s : Shape) (rest : RestOfChain Label Value) (whole : OutcomeByMoment Label Value) → ((z : _) (v : Value) → rest z v ≡ succeeds_with v) → StartsChain checked slots (PlaceHoldsValue checked slots q s) rest whole → PlaceHoldsValue checked slots q s whole
   value-whole q s rest whole ends_here h =
       let (v, hv, ev) = h in
       (hv.0, hv.1, λ z shown. sym (ev z shown) ∙ given-end (v z) (rest z) (ends_here z) ∙ hv.2 z shown)
@@ -149,13 +149,13 @@ module _ (checked : TypeMeanings Label) (slots : Label → Slot) where
   leads-end (a_block q n) (record_shape k fs) rest whole ends_here h = (h.0, value-whole q (record_shape k fs) rest whole ends_here h.1)
   leads-end _ _ rest whole ends_here h = absurd h
 
-  pub addends-end : (c : ExpressionCode) (x : Shape) (whole : OutcomeByMoment Label Value) → CodeLeads checked slots c x (remaining_addends end) whole → CodeMeans checked slots c x whole
+  pub addends-end : (c : ExpressionCode) (x : Shape) (whole : OutcomeByMoment Label Value) → CodeLeads checked slots c x (outcome_of_remaining_addends end) whole → CodeMeans checked slots c x whole
   unfolding evaluate
-  addends-end c x whole h = leads-end c x (remaining_addends end) whole (λ z v. refl) h
+  addends-end c x whole h = leads-end c x (outcome_of_remaining_addends end) whole (λ z v. refl) h
 
-  pub multipliers-end : (c : ExpressionCode) (x : Shape) (whole : OutcomeByMoment Label Value) → CodeLeads checked slots c x (remaining_multipliers end) whole → CodeMeans checked slots c x whole
+  pub multipliers-end : (c : ExpressionCode) (x : Shape) (whole : OutcomeByMoment Label Value) → CodeLeads checked slots c x (outcome_of_remaining_multipliers end) whole → CodeMeans checked slots c x whole
   unfolding evaluate
-  multipliers-end c x whole h = leads-end c x (remaining_multipliers end) whole (λ z v. refl) h
+  multipliers-end c x whole h = leads-end c x (outcome_of_remaining_multipliers end) whole (λ z v. refl) h
 
   -- an expression without a relation is its sum, and what is in parentheses evaluates to the same
 

@@ -12,7 +12,7 @@ use Rattle.ob0_language_values.specs.Values.{Shape}
 use Rattle.ob0_language_types.proofs.Bound.{newest_object-if}
 use Rattle.ob0_language_types.proofs.DeclaredPlaces.{Includes, bound-none, module-has, noted-binds, nothing}
 use Rattle.ob0_language_types.proofs.TypesByOrdinal.{TypeNoted, TypedBelow, typed_by_ordinal}
-use Rattle.ob0_run_lowering.specs.KnownBlocks.{AreDeclared, BlockIsDeclared}
+use Rattle.ob0_run_lowering.specs.KnownBlocks.{BindingsAreDeclared, BlockBindingsAreDeclared}
 
 -- where ordinals descend, each binding is the one that is found
 tail-included : (all : TypeEnvironment Label) (i : ℕ) (o : Object Shape Signature) (noted : TypeNoted Name) → TypedBelow i noted → Includes all ((declared i, o) ∷ typed_by_ordinal noted) → Includes all (typed_by_ordinal noted)
@@ -23,7 +23,7 @@ tail-included all i o noted below st d p h = by (d == i) refl
     by false other =
         st d p (newest_object-if (d == i) (declared i) o (typed_by_ordinal noted) (environment_from_binding naming_by_label (typed_by_ordinal noted) (declared d)) ∙ ap (λ t. cond t (Some o) (object_of_ordinal (typed_by_ordinal noted) d)) other ∙ h)
 
-noted-declared : (all : TypeEnvironment Label) (n : ℕ) (noted : TypeNoted Name) → TypedBelow n noted → Includes all (typed_by_ordinal noted) → AreDeclared (object_of_ordinal all) (typed_by_ordinal noted)
+noted-declared : (all : TypeEnvironment Label) (n : ℕ) (noted : TypeNoted Name) → TypedBelow n noted → Includes all (typed_by_ordinal noted) → BindingsAreDeclared (object_of_ordinal all) (typed_by_ordinal noted)
 noted-declared all n [] below st = tt
 noted-declared all n (b ∷ noted) below st = (
   (
@@ -36,5 +36,5 @@ noted-declared all n (b ∷ noted) below st = (
 )
 
 -- all that a well-typed module binds
-pub module-declared : (m : Tree Name module_text) → WellTyped m → BlockIsDeclared (object_of_ordinal (module_bindings naming_by_label (numbered m))) (outermost_environment naming_by_label) 0 (module_block (numbered m))
-module-declared m = module-has (AreDeclared (object_of_ordinal (module_bindings naming_by_label (numbered m)))) m (noted-declared (module_bindings naming_by_label (numbered m)))
+pub module-declared : (m : Tree Name module_text) → WellTyped m → BlockBindingsAreDeclared (object_of_ordinal (module_bindings naming_by_label (numbered m))) (outermost_environment naming_by_label) 0 (module_block (numbered m))
+module-declared m = module-has (BindingsAreDeclared (object_of_ordinal (module_bindings naming_by_label (numbered m)))) m (noted-declared (module_bindings naming_by_label (numbered m)))

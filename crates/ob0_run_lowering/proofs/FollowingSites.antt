@@ -3,13 +3,13 @@ use Rattle.std.proofs.Common.{◌≡◌, ℕ, suc, ◌+◌, ◌-◌, ◌<◌, �
 use Rattle.std.proofs.Math.ListN.{set}
 use Rattle.std.proofs.lemmas.List.{append-nil, drop_all, drop_more, get_or-set_other, get_or-set_same, length-set}
 use Rattle.ob0_types_table.proofs.Sighted.{last_of}
-use Rattle.ob0_run_cells.specs.Activations.{PlacementState, in_slot, place_name}
+use Rattle.ob0_run_cells.specs.Activations.{PlacementState, in_slot, add_name_to_placement}
 use Rattle.ob0_run_cells.specs.Lowering.{Slot, by_reference}
 use Rattle.ob0_run_lowering.specs.Scenes.{place_seen_from, location_at}
 use Rattle.ob0_run_lowering.specs.declared.scene.LoweredLocation.{LoweredLocation}
 use Rattle.ob0_run_lowering.specs.declared.scene.LoweredLocation.TheVariants as site
 use Rattle.ob0_tree.specs.Tree.{Tree, further_section, items, more, then_section}
-use Rattle.ob0_tree.specs.View.{names_of, section_of}
+use Rattle.ob0_tree.specs.View.{names_of, parameter_section_of}
 use Rattle.ob0_tree.specs.declared.tree.ParameterSection.{ParameterSection}
 use Rattle.ob0_scope_table.specs.LabelledTrees.{tree_with_labels}
 use Rattle.ob0_types_table.proofs.LabelledParts.{section-mode, section-names}
@@ -19,7 +19,7 @@ use Rattle.ob0_types_table.specs.Tables.{mode_of}
 use Rattle.ob0_language_names.specs.Names.{Label, Name, naming_by_spelling}
 use Rattle.ob0_language_names.specs.Scopes.{label_from_ordinal}
 use Rattle.ob0_language_types.specs.WellTyped.{by_place, by_value}
-use Rattle.ob0_run_lowering.specs.PlacedNames.{OrdinalsAreBelow, HidesMoreLocations, IsRestored, LocationsMatchPlacement, FrameMatchesPlacement, IsLocationOfNextVariable, PlacesNames, LocationMatchesPlace, locations_before_hiding, place_each, place_sections, locations_with_binding, locations_with, variable_slot}
+use Rattle.ob0_run_lowering.specs.PlacedNames.{OrdinalsAreBelow, HidesMoreLocations, HiddenLocationsAreRestored, LocationsMatchPlacement, FrameMatchesPlacement, IsLocationOfNextVariable, PlacesNames, LocationMatchesPlace, locations_before_hiding, add_declared_names_to_placement, place_sections, locations_after_binding, locations_after_setting, variable_slot}
 use Rattle.ob0_run_lowering.specs.declared.visible_locations.Frame.{Frame}
 use Rattle.ob0_run_lowering.specs.declared.visible_locations.HiddenLocation.{HiddenLocation}
 use Rattle.ob0_run_lowering.specs.declared.visible_locations.VisibleLocations.{VisibleLocations}
@@ -43,7 +43,7 @@ within-back n (x ∷ xs) ys a = within-back n xs ys a.1
 
 locations_before_hiding-append : (xs ys : List HiddenLocation) (f : ℕ → LoweredLocation) → locations_before_hiding (xs ++ ys) f ≡ locations_before_hiding xs (locations_before_hiding ys f)
 locations_before_hiding-append [] ys f = refl
-locations_before_hiding-append (x ∷ xs) ys f = ap (locations_with x.ordinal x.earlier_location) (locations_before_hiding-append xs ys f)
+locations_before_hiding-append (x ∷ xs) ys f = ap (locations_after_setting x.ordinal x.earlier_location) (locations_before_hiding-append xs ys f)
 
 -- tables that are the same at each ordinal
 locations_before_hiding-same : (xs : List HiddenLocation) (f g : ℕ → LoweredLocation) → ((k : ℕ) → f k ≡ g k) → (k : ℕ) → locations_before_hiding xs f k ≡ locations_before_hiding xs g k
@@ -65,7 +65,7 @@ follows_then w v u a b = record {
 }
 
 -- what was bound in between is gone
-pub follows_back : (w v u after : VisibleLocations) → HidesMoreLocations w v → HidesMoreLocations v u → IsRestored v u after → HidesMoreLocations w after
+pub follows_back : (w v u after : VisibleLocations) → HidesMoreLocations w v → HidesMoreLocations v u → HiddenLocationsAreRestored v u after → HidesMoreLocations w after
 follows_back w v u after a b g = record {
   more = a.more;
   added = g.0 ∙ a.added;
@@ -113,7 +113,7 @@ nil_of : {A : Type 0} (xs ys : List A) → length (xs ++ ys) ≤ length xs → y
 nil_of xs [] h = refl
 nil_of xs (y ∷ ys) h = absurd (omega (arith, h, length-append xs (y ∷ ys)))
 
-pub back_ends : (start now : VisibleLocations) (mark : ℕ) → AllBack start mark now → length now.hidden.items ≤ mark → (w : VisibleLocations) → HidesMoreLocations w start → mark ≡ length w.hidden.items → IsRestored w start now
+pub back_ends : (start now : VisibleLocations) (mark : ℕ) → AllBack start mark now → length now.hidden.items ≤ mark → (w : VisibleLocations) → HidesMoreLocations w start → mark ≡ length w.hidden.items → HiddenLocationsAreRestored w start now
 back_ends start now mark back all w f is =
     let so_far = back w f is in
     let a : HidesMoreLocations w now = so_far.0 in
@@ -129,12 +129,12 @@ pub places_as : (w v : VisibleLocations) (f g : Frame) (first second : Placement
 places_as w v f g first second same a = subst (λ (step : PlacementState Label → PlacementState Label). PlacesNames w v f step g) (λ i p. same p i) a
 
 -- one name
-pub place-by_reference : (w v : VisibleLocations) (f g : Frame) (size_of : Label → ℕ) (o : Option ℕ) (name : Name) → ((k : ℕ) → location_at v.sites.items k ≡ locations_with_binding o (site.ByReference f.depth f.var_parameter_count) (location_at w.sites.items) k) → HidesMoreLocations w v → g ≡ record f { var_parameter_count = f.var_parameter_count + 1 }
-    → PlacesNames w v f (place_name (variable_slot f.depth) by_place (label_from_ordinal naming_by_spelling o name) (size_of (label_from_ordinal naming_by_spelling o name))) g
+pub place-by_reference : (w v : VisibleLocations) (f g : Frame) (size_of : Label → ℕ) (o : Option ℕ) (name : Name) → ((k : ℕ) → location_at v.sites.items k ≡ locations_after_binding o (site.ByReference f.depth f.var_parameter_count) (location_at w.sites.items) k) → HidesMoreLocations w v → g ≡ record f { var_parameter_count = f.var_parameter_count + 1 }
+    → PlacesNames w v f (add_name_to_placement (variable_slot f.depth) by_place (label_from_ordinal naming_by_spelling o name) (size_of (label_from_ordinal naming_by_spelling o name))) g
 place-by_reference w v f g size_of o name put follows is =
     let none : f.depth - f.depth ≡ 0 = omega arith in
     let seen : place_seen_from f.depth (site.ByReference f.depth f.var_parameter_count) ≡ in_slot (by_reference 0 f.var_parameter_count) = ap (λ up. in_slot (by_reference up f.var_parameter_count)) none in
-    subst (λ (z : Frame). PlacesNames w v f (place_name (variable_slot f.depth) by_place (label_from_ordinal naming_by_spelling o name) (size_of (label_from_ordinal naming_by_spelling o name))) z) (sym is)
+    subst (λ (z : Frame). PlacesNames w v f (add_name_to_placement (variable_slot f.depth) by_place (label_from_ordinal naming_by_spelling o name) (size_of (label_from_ordinal naming_by_spelling o name))) z) (sym is)
     record {
       placed = λ p h. record {
         holds = holds_bound w.sites.items v.sites.items f.depth p.placement o name (site.ByReference f.depth f.var_parameter_count) (in_slot (by_reference 0 p.var_parameters_so_far)) (le_refl f.depth, seen ∙ ap (λ n. in_slot (by_reference 0 n)) h.var_parameters_so_far) put h.holds;
@@ -149,8 +149,8 @@ place-by_reference w v f g size_of o name put follows is =
 next-reports : (f : Frame) (s : LoweredLocation) (n : ℕ) → IsLocationOfNextVariable f s → f.cells ≡ n → LocationMatchesPlace f.depth s (in_slot (variable_slot f.depth n))
 next-reports f s n next e = (next.0, next.1 ∙ ap (λ m. in_slot (variable_slot f.depth m)) e)
 
-pub place-in_activation : (w v : VisibleLocations) (f g : Frame) (size_of : Label → ℕ) (o : Option ℕ) (name : Name) (s : LoweredLocation) (n : ℕ) → IsLocationOfNextVariable f s → ((k : ℕ) → location_at v.sites.items k ≡ locations_with_binding o s (location_at w.sites.items) k) → HidesMoreLocations w v → g ≡ record f { cells = f.cells + n }
-    → n ≡ size_of (label_from_ordinal naming_by_spelling o name) → PlacesNames w v f (place_name (variable_slot f.depth) by_value (label_from_ordinal naming_by_spelling o name) (size_of (label_from_ordinal naming_by_spelling o name))) g
+pub place-in_activation : (w v : VisibleLocations) (f g : Frame) (size_of : Label → ℕ) (o : Option ℕ) (name : Name) (s : LoweredLocation) (n : ℕ) → IsLocationOfNextVariable f s → ((k : ℕ) → location_at v.sites.items k ≡ locations_after_binding o s (location_at w.sites.items) k) → HidesMoreLocations w v → g ≡ record f { cells = f.cells + n }
+    → n ≡ size_of (label_from_ordinal naming_by_spelling o name) → PlacesNames w v f (add_name_to_placement (variable_slot f.depth) by_value (label_from_ordinal naming_by_spelling o name) (size_of (label_from_ordinal naming_by_spelling o name))) g
 place-in_activation w v f g size_of o name s n next put follows is size =
     let cells : g.cells ≡ f.cells + n = ap (λ (z : Frame). z.cells) is in
     record {
@@ -203,5 +203,5 @@ as_deep w v f g m n step same a = subst (λ k. PlacesNames w v f (step k) g) sam
 
 -- the names of a section, by how it is written
 pub section_step : (r : Resolution) (at : ℕ → Slot) (size_of : Label → ℕ) (s : ParameterSection) (fs : Tree Label (items further_section)) (p : PlacementState Label)
-    → place_sections at size_of (more (then_section (tree_with_labels r (section_of s))) fs) p ≡ place_sections at size_of fs (place_each at size_of (mode_of s.by_reference) (names_in_list (tree_with_labels r (names_of s.names))) p)
-section_step r at size_of s fs p = λ i. place_sections at size_of fs (place_each at size_of (section-mode mode_of refl refl r s i) (section-names r s i) p)
+    → place_sections at size_of (more (then_section (tree_with_labels r (parameter_section_of s))) fs) p ≡ place_sections at size_of fs (add_declared_names_to_placement at size_of (mode_of s.by_reference) (names_in_list (tree_with_labels r (names_of s.names))) p)
+section_step r at size_of s fs p = λ i. place_sections at size_of fs (add_declared_names_to_placement at size_of (section-mode mode_of refl refl r s i) (section-names r s i) p)

@@ -16,7 +16,7 @@ use Rattle.ob0_types_table.specs.declared.known.TypeEntry as code
 use Rattle.ob0_types_table.specs.declared.known.Field.{Field}
 use Rattle.ob0_language_values.specs.Values.{FieldShapes, Shape, array_shape, next_field_shape, no_field_shape, number, record_shape}
 use Rattle.ob0_run_cells.specs.Cells.{field_offset, total_field_size, size}
-use Rattle.ob0_run_lowering.specs.Layouts.{AreLaidOut, HasLayout, HaveLayouts, offsets_from}
+use Rattle.ob0_run_lowering.specs.Layouts.{IsLayoutOfFields, HasLayout, HaveLayouts, offsets_from}
 use Rattle.ob0_run_lowering.specs.declared.types.Layout.{Layout}
 use Rattle.ob0_run_lowering.specs.declared.types.Layout.TheVariants as layout
 use Rattle.ob0_run_lowering.specs.declared.types.RecordLayout.{RecordLayout}
@@ -40,7 +40,7 @@ array_size-at _ _ i h = absurd h
 
 -- the record of an entry
 abbrev pub HasRecord : Option Layout → Shape → Type 0
-HasRecord (Some (layout.Record r)) s = (k : ℕ) × (fs : FieldShapes) × (s ≡ record_shape k fs) × AreLaidOut fs r
+HasRecord (Some (layout.Record r)) s = (k : ℕ) × (fs : FieldShapes) × (s ≡ record_shape k fs) × IsLayoutOfFields fs r
 HasRecord _ s = s ≡ faulty_shape
 
 record-entry : (s : Shape) (l : Layout) → HasLayout s l → HasRecord (Some l) (record_or_faulty s)
@@ -137,10 +137,10 @@ missing : (k : ℕ) (o : Option ℕ) → ◌≡◌ {A = Option FieldId} None (op
 missing k None h = refl
 missing k (Some i) h = absurd (cc)
 
-pub offset-found : (k : ℕ) (fs : FieldShapes) (x : Name) (r : RecordLayout) (f : FieldId) → AreLaidOut fs r → Some f ≡ selected_field (record_shape k fs) x → slice_index_or r.offsets.items f.index 0 ≡ field_offset fs x
+pub offset-found : (k : ℕ) (fs : FieldShapes) (x : Name) (r : RecordLayout) (f : FieldId) → IsLayoutOfFields fs r → Some f ≡ selected_field (record_shape k fs) x → slice_index_or r.offsets.items f.index 0 ≡ field_offset fs x
 offset-found k fs x r f laid h = ap (λ os. slice_index_or os f.index 0) laid.offsets ∙ offset-listed fs 0 x f.index (placed k f (position_of_field fs x) h) ∙ zero-add (field_offset fs x)
 
-pub offset-missing : (k : ℕ) (fs : FieldShapes) (x : Name) (r : RecordLayout) → AreLaidOut fs r → ◌≡◌ {A = Option FieldId} None (selected_field (record_shape k fs) x) → r.cells ≡ field_offset fs x
+pub offset-missing : (k : ℕ) (fs : FieldShapes) (x : Name) (r : RecordLayout) → IsLayoutOfFields fs r → ◌≡◌ {A = Option FieldId} None (selected_field (record_shape k fs) x) → r.cells ≡ field_offset fs x
 offset-missing k fs x r laid h = laid.cells ∙ sym (offset-past fs x (missing k (position_of_field fs x) h))
 
 -- what a look-up reads

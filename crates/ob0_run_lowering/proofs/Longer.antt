@@ -3,16 +3,16 @@ use Rattle.std.proofs.Common.{◌≡◌, List, [], ◌∷◌, ◌++◌, refl}
 use Rattle.ob0_run_machine.specs.Lowered as lowered
 use Rattle.ob0_run_machine.specs.declared.code.Link.{Link}
 use Rattle.ob0_run_machine.specs.declared.code.Truth.{Truth}
-use Rattle.ob0_run_machine.specs.View.{conjunction_from, disjunction_from, operation_with_link, operation_with_links, truth_of}
+use Rattle.ob0_run_machine.specs.View.{conjunction_with_list, disjunction_with_list, operation_with_link, operation_with_links, truth_of}
 
 pub chained_more : (left : lowered.Number) (links : List Link) (l : Link) → operation_with_links left (links ++ l ∷ []) ≡ operation_with_link l (operation_with_links left links)
 chained_more left [] l = refl
 chained_more left (k ∷ links) l = chained_more (operation_with_link k left) links l
 
-pub all_more : (left : lowered.Truth) (ts : List Truth) (t : Truth) → conjunction_from left (ts ++ t ∷ []) ≡ lowered.both (conjunction_from left ts) (truth_of t)
+pub all_more : (left : lowered.Truth) (ts : List Truth) (t : Truth) → conjunction_with_list left (ts ++ t ∷ []) ≡ lowered.both (conjunction_with_list left ts) (truth_of t)
 all_more left [] t = refl
 all_more left (u ∷ ts) t = all_more (lowered.both left (truth_of u)) ts t
 
-pub any_more : (left : lowered.Truth) (ts : List Truth) (t : Truth) → disjunction_from left (ts ++ t ∷ []) ≡ lowered.either (disjunction_from left ts) (truth_of t)
+pub any_more : (left : lowered.Truth) (ts : List Truth) (t : Truth) → disjunction_with_list left (ts ++ t ∷ []) ≡ lowered.either (disjunction_with_list left ts) (truth_of t)
 any_more left [] t = refl
 any_more left (u ∷ ts) t = any_more (lowered.either left (truth_of u)) ts t

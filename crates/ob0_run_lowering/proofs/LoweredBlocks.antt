@@ -29,15 +29,15 @@ use Rattle.ob0_run_machine.specs.Lowered as lowered
 use Rattle.ob0_run_machine.specs.View.{procedure_of, program_of, sequence_of}
 use Rattle.ob0_run_machine.specs.declared.code.Routine.{Routine}
 use Rattle.ob0_run_machine.specs.declared.code.LoweredCode.{LoweredCode}
-use Rattle.ob0_run_cells.specs.Activations.{CodeMeansBlock, PlacementState, Placement, RoutinesMeanProcedures, ProgramMeans, at_target, parameter_placement, bind_without_place, inward_placement, label_table, outermost_placement, local_target, place_parameters, place_variables}
+use Rattle.ob0_run_cells.specs.Activations.{CodeMeansBlock, PlacementState, Placement, RoutinesMeanProcedures, ProgramMeansModule, at_target, placement_inside_procedure, bind_without_place, placement_seen_one_level_deeper, routine_table_by_label, outermost_placement, local_procedure_target, place_parameters, place_variables}
 use Rattle.ob0_run_cells.specs.Lowering.{in_activation, of_module}
 use Rattle.ob0_run_lowering.specs.LoweredBodies.{LowersBody}
 use Rattle.ob0_run_lowering.specs.Scenes.{place_seen_from, location_at}
 use Rattle.ob0_run_lowering.specs.declared.scene.Scene.{Scene}
 use Rattle.ob0_run_lowering.specs.declared.scene.LoweredLocation.TheVariants as site
-use Rattle.ob0_run_lowering.specs.KnownBlocks.{AreDeclared, BlockIsDeclared, ObjectByOrdinal}
-use Rattle.ob0_run_lowering.specs.Blocks.{LowersProcedures, KeepsRoutines, HasRoutinesFrom, LowersBlock, MeansBlock, IsReadyToLower, BlockState}
-use Rattle.ob0_run_lowering.specs.PlacedNames.{HidesMoreLocations, IsRestored, LocationsMatchPlacement, FrameMatchesPlacement, PlacementMatches, PlacesNames, declared_size, place_variable_declarations, place_sections, locations_with_binding, variable_slot}
+use Rattle.ob0_run_lowering.specs.KnownBlocks.{BindingsAreDeclared, BlockBindingsAreDeclared, ObjectByOrdinal}
+use Rattle.ob0_run_lowering.specs.Blocks.{LowersProcedures, KeepsRoutines, HasRoutinesFrom, LowersBlock, RoutineMeansBlock, IsReadyToLower, BlockState}
+use Rattle.ob0_run_lowering.specs.PlacedNames.{HidesMoreLocations, HiddenLocationsAreRestored, LocationsMatchPlacement, FrameMatchesPlacement, PlacementMatchesEnvironment, PlacesNames, declared_size, place_variable_declarations, place_sections, locations_after_binding, variable_slot}
 use Rattle.ob0_run_lowering.specs.declared.programs.Lowering.{Lowering}
 use Rattle.ob0_run_lowering.specs.declared.visible_locations.Frame.{Frame}
 use Rattle.ob0_run_lowering.specs.declared.visible_locations.VisibleLocations.{VisibleLocations}
@@ -113,12 +113,12 @@ kept-later table a b c d i e k later = λ j x le get.
 -- a procedure announced, its parameters placed, its block lowered, and its code kept
 pub record IsProcedure (t : Tables) (w v u after : Lowering) (depth index : ℕ) (o : Option ℕ) (name : Name) (fs : Tree Label (maybe formals)) (b : Tree Label block) (first f : Frame) (entry : Routine) : Type 0 where
   pub index_is : index ≡ length w.procedures.items
-  pub sites : (k : ℕ) → location_at v.visible.sites.items k ≡ locations_with_binding o (site.Procedure depth index) (location_at w.visible.sites.items) k
+  pub sites : (k : ℕ) → location_at v.visible.sites.items k ≡ locations_after_binding o (site.Procedure depth index) (location_at w.visible.sites.items) k
   pub announced : HidesMoreLocations w.visible v.visible
   pub pushed : (e : Routine) × (v.procedures.items ≡ w.procedures.items ++ e ∷ [])
   pub first_is : first ≡ record { depth = suc depth; cells = 0; var_parameter_count = 0 }
   pub placed : (inside : VisibleLocations) × PlacesNames v.visible inside first (place_sections (variable_slot first.depth) (declared_size t) (formal_sections fs)) f × LowersBlock t (record { visible = inside; procedures = v.procedures }) u f b entry
-  pub back : IsRestored v.visible u.visible after.visible
+  pub back : HiddenLocationsAreRestored v.visible u.visible after.visible
   pub kept : after.procedures.items ≡ set u.procedures.items index entry
 
 procedure-kept : (t : Tables) (w v u after : Lowering) (depth index : ℕ) (o : Option ℕ) (name : Name) (fs : Tree Label (maybe formals)) (b : Tree Label block) (first f : Frame) (entry : Routine)
@@ -140,25 +140,25 @@ procedure_goes t w v u after depth index o name fs b closing rest first f entry 
           let ps : List (TypedParameter Label) = parts.listed in
           let headed : TypeEnvironment Label = bind_procedure x ps s.env in
           let known = ready.procedures_are_declared ps parts.typed in
-          let outer : Placement Label = (x, local_target index) ∷ s.placement in
+          let outer : Placement Label = (x, local_procedure_target index) ∷ s.placement in
           let none : depth - depth ≡ 0 = omega arith in
-          let seen : place_seen_from depth (site.Procedure depth index) ≡ local_target index = ap (λ n. at_target (record { procedure = index; up = n })) none in
-          let held_there : LocationsMatchPlacement v.visible.sites.items depth outer = holds_bound w.visible.sites.items v.visible.sites.items depth s.placement o name (site.Procedure depth index) (local_target index) (le_refl depth, seen) is.sites ready.holds in
-          let matched : PlacementMatches headed outer = (refl, (record { procedure = index; up = 0 }, refl), ready.matches) in
+          let seen : place_seen_from depth (site.Procedure depth index) ≡ local_procedure_target index = ap (λ n. at_target (record { procedure = index; up = n })) none in
+          let held_there : LocationsMatchPlacement v.visible.sites.items depth outer = holds_bound w.visible.sites.items v.visible.sites.items depth s.placement o name (site.Procedure depth index) (local_procedure_target index) (le_refl depth, seen) is.sites ready.holds in
+          let matched : PlacementMatchesEnvironment headed outer = (refl, (record { procedure = index; up = 0 }, refl), ready.matches) in
           let now : BlockState = record { env = headed; placement = outer; next = s.next + procedure_constructor_count (declares_procedure x fs b closing) } in
-          let empty : PlacementState Label = record { placement = inward_placement outer; cells = 0; var_parameters_so_far = 0 } in
+          let empty : PlacementState Label = record { placement = placement_seen_one_level_deeper outer; cells = 0; var_parameters_so_far = 0 } in
           let begun : FrameMatchesPlacement v.visible.sites.items first empty = record {
-            holds = subst (λ d. LocationsMatchPlacement v.visible.sites.items d (inward_placement outer)) (sym deep) (holds_inward v.visible.sites.items depth outer held_there);
+            holds = subst (λ d. LocationsMatchPlacement v.visible.sites.items d (placement_seen_one_level_deeper outer)) (sym deep) (holds_inward v.visible.sites.items depth outer held_there);
             cells = ap (λ (z : Frame). z.cells) is.first_is;
             var_parameters_so_far = ap (λ (z : Frame). z.var_parameter_count) is.first_is;
           } in
           let all_placed : place_parameters ps empty ≡ place_sections (variable_slot first.depth) (declared_size t) (formal_sections fs) empty =
           sections_placed t (formal_sections fs) s.next s.env headed ps empty parts.typed known.0 ∙ ap (λ d. place_sections (variable_slot d) (declared_size t) (formal_sections fs) empty) (sym deep) in
-          let entered : FrameMatchesPlacement is.placed.0.sites.items f (parameter_placement ps outer) = subst (FrameMatchesPlacement is.placed.0.sites.items f) (sym all_placed) (places.placed empty begun) in
-          let inner_matches : PlacementMatches (bind_typed_parameters ps headed) (parameter_placement ps outer).placement = parameters_match ps headed empty (matches_inward headed outer matched) in
+          let entered : FrameMatchesPlacement is.placed.0.sites.items f (placement_inside_procedure ps outer) = subst (FrameMatchesPlacement is.placed.0.sites.items f) (sym all_placed) (places.placed empty begun) in
+          let inner_matches : PlacementMatchesEnvironment (bind_typed_parameters ps headed) (placement_inside_procedure ps outer).placement = parameters_match ps headed empty (matches_inward headed outer matched) in
           let slots : variable_slot f.depth ≡ in_activation 0 = ap variable_slot (places.depth ∙ deep) in
           let at : ℕ = s.next + formals_constructor_count (formal_sections fs) in
-          let lowers : MeansBlock inside u f b entry (bind_typed_parameters ps headed) (parameter_placement ps outer) at = block_is.lowers_from (bind_typed_parameters ps headed) (parameter_placement ps outer) at inner_matches entered parts.block_right known.1 in record {
+          let lowers : RoutineMeansBlock inside u f b entry (bind_typed_parameters ps headed) (placement_inside_procedure ps outer) at = block_is.lowers_from (bind_typed_parameters ps headed) (placement_inside_procedure ps outer) at inner_matches entered parts.block_right known.1 in record {
             now = now;
             ready = record {
               environment_is_declared = typed_before (declared_object_in t) ps headed known.0;
@@ -174,7 +174,7 @@ procedure_goes t w v u after depth index o name fs b closing rest first f entry 
                 routine = procedure_of entry;
                 are_typed = parts.typed;
                 in_table = later index entry (omega (arith, is.index_is)) (kept-entry w.procedures.items v.procedures.items u.procedures.items after.procedures.items index entry kept);
-                means = subst (λ at. CodeMeansBlock (label_table table) at (bind_typed_parameters ps headed) (parameter_placement ps outer) (s.next + formals_constructor_count (formal_sections fs)) entry.cells (sequence_of entry.body.items) b) slots
+                means = subst (λ at. CodeMeansBlock (routine_table_by_label table) at (bind_typed_parameters ps headed) (placement_inside_procedure ps outer) (s.next + formals_constructor_count (formal_sections fs)) entry.cells (sequence_of entry.body.items) b) slots
                     (lowers.means table (kept-later table w.procedures.items v.procedures.items u.procedures.items after.procedures.items index entry kept later));
               },
               means,
@@ -219,7 +219,7 @@ block_lowers t w v inside cs ts vs ps statements f own scene entry places goes t
       let gone = goes.lowers_from (record { env = inner; placement = q.placement; next = constructors_before_procedures k b }) statements ready in
       let now : BlockState = gone.now in
       let last = gone.ready in
-      let seen = sees scene now.env now.placement (subst (λ z. AreDeclared (declared_object_in z) now.env) (sym types) last.environment_is_declared) last.matches
+      let seen = sees scene now.env now.placement (subst (λ z. BindingsAreDeclared (declared_object_in z) now.env) (sym types) last.environment_is_declared) last.matches
       (subst (λ d. LocationsMatchPlacement scene.sites.now d now.placement) (sym deep) (subst (λ xs. LocationsMatchPlacement xs own.depth now.placement) (sym sites) last.holds)) in record {
         means = λ table later. record {
           first = first;
@@ -269,7 +269,7 @@ procedure_means t w v u after depth index p r first f entry rest is =
 
 -- the program of a module
 
-outermost-matches : PlacementMatches (outermost_environment naming_by_label) (outermost_placement naming_by_label)
+outermost-matches : PlacementMatchesEnvironment (outermost_environment naming_by_label) (outermost_placement naming_by_label)
 outermost-matches = (refl, tt, (refl, tt, (refl, tt, (refl, tt, (refl, tt, (refl, tt, (refl, tt, tt)))))))
 
 outermost-holds : LocationsMatchPlacement [] 0 (outermost_placement naming_by_label)
@@ -286,18 +286,18 @@ abbrev outermost_placed : PlacementState Label
 outermost_placed = record { placement = outermost_placement naming_by_label; cells = 0; var_parameters_so_far = 0 }
 
 module_means : (t : Tables) (m : Tree Name module_text) (w v : Lowering) (b : Tree Label block) (entry : Routine) → WellTyped m → ((k : ℕ) → declared_object_in t k ≡ declared_object m k) → module_block (numbered m) ≡ b
-    → w.visible.sites.items ≡ [] → LowersBlock t w v (record { depth = 0; cells = 0; var_parameter_count = 0 }) b entry → MeansBlock w v (record { depth = 0; cells = 0; var_parameter_count = 0 }) b entry (outermost_environment naming_by_label) outermost_placed 0
+    → w.visible.sites.items ≡ [] → LowersBlock t w v (record { depth = 0; cells = 0; var_parameter_count = 0 }) b entry → RoutineMeansBlock w v (record { depth = 0; cells = 0; var_parameter_count = 0 }) b entry (outermost_environment naming_by_label) outermost_placed 0
 module_means t m w v b entry well known is sites lowers =
-    let known_blocks : BlockIsDeclared (declared_object_in t) (outermost_environment naming_by_label) 0 (module_block (numbered m)) = subst (λ (objects : ObjectByOrdinal). BlockIsDeclared objects (outermost_environment naming_by_label) 0 (module_block (numbered m))) (λ i k. sym (known k) i) (module-declared m well) in
+    let known_blocks : BlockBindingsAreDeclared (declared_object_in t) (outermost_environment naming_by_label) 0 (module_block (numbered m)) = subst (λ (objects : ObjectByOrdinal). BlockBindingsAreDeclared objects (outermost_environment naming_by_label) 0 (module_block (numbered m))) (λ i k. sym (known k) i) (module-declared m well) in
     lowers.lowers_from (outermost_environment naming_by_label) outermost_placed 0 outermost-matches
     (record { holds = subst (λ xs. LocationsMatchPlacement xs 0 (outermost_placement naming_by_label)) (sym sites) outermost-holds; cells = refl; var_parameters_so_far = refl })
-    (subst (λ z. block_is_well_typed naming_by_label (outermost_environment naming_by_label) 0 z ≡ true) is (module-fits m well)) (subst (λ z. BlockIsDeclared (declared_object_in t) (outermost_environment naming_by_label) 0 z) is known_blocks)
+    (subst (λ z. block_is_well_typed naming_by_label (outermost_environment naming_by_label) 0 z ≡ true) is (module-fits m well)) (subst (λ z. BlockBindingsAreDeclared (declared_object_in t) (outermost_environment naming_by_label) 0 z) is known_blocks)
 
 pub program_means : (t : Tables) (m : Tree Name module_text) (w v : Lowering) (b : Tree Label block) (entry : Routine) (program : LoweredCode) → WellTyped m → ((k : ℕ) → declared_object_in t k ≡ declared_object m k) → module_block (numbered m) ≡ b
     → w.visible.sites.items ≡ [] → LowersBlock t w v (record { depth = 0; cells = 0; var_parameter_count = 0 }) b entry
-    → program_of program ≡ record { cells = entry.cells; body = sequence_of entry.body.items; procedures = map procedure_of v.procedures.items } → ProgramMeans naming_by_label (numbered m) (program_of program)
+    → program_of program ≡ record { cells = entry.cells; body = sequence_of entry.body.items; procedures = map procedure_of v.procedures.items } → ProgramMeansModule naming_by_label (numbered m) (program_of program)
 program_means t m w v b entry program well known is sites lowers made =
-    let means : MeansBlock w v (record { depth = 0; cells = 0; var_parameter_count = 0 }) b entry (outermost_environment naming_by_label) outermost_placed 0 = module_means t m w v b entry well known is sites lowers in
+    let means : RoutineMeansBlock w v (record { depth = 0; cells = 0; var_parameter_count = 0 }) b entry (outermost_environment naming_by_label) outermost_placed 0 = module_means t m w v b entry well known is sites lowers in
     let table : List lowered.Routine = map procedure_of v.procedures.items in
-    subst (ProgramMeans naming_by_label (numbered m)) (sym made)
-    (subst (λ z. CodeMeansBlock (label_table table) of_module (outermost_environment naming_by_label) outermost_placed 0 entry.cells (sequence_of entry.body.items) z) (sym is) (means.means table (λ i e le get. all-later v.procedures.items i e (omega arith) get)))
+    subst (ProgramMeansModule naming_by_label (numbered m)) (sym made)
+    (subst (λ z. CodeMeansBlock (routine_table_by_label table) of_module (outermost_environment naming_by_label) outermost_placed 0 entry.cells (sequence_of entry.body.items) z) (sym is) (means.means table (λ i e le get. all-later v.procedures.items i e (omega arith) get)))

@@ -3,7 +3,7 @@ use Rattle.std.proofs.Common.{◌≡◌, ℕ, zero, suc, ◌<◌, ◌≤◌, tru
 use Rattle.std.proofs.lemmas.Bool.Decides.{nat_tests}
 use Rattle.ob0_scan.specs.TextWithTokens.{IsScan, TextWithTokens}
 use Rattle.ob0_scan.specs.declared.lexeme.Token.{Token}
-use Rattle.ob0_tree.specs.Places.{token_value_at, token_value_or_zero, kind_value_or_zero}
+use Rattle.ob0_tree.specs.Places.{token_value_at, token_value_or_zero, integer_value_or_zero}
 use Rattle.ob0_tree.specs.Tree.{Tree, expression, items, selector}
 use Rattle.ob0_language_names.specs.Names.{Label, as_written, declared}
 use Rattle.ob0_types_table.specs.KnownTables.{declared_object_in, shapes_of}
@@ -27,12 +27,12 @@ use Rattle.ob0_run_machine.specs.declared.code.Number.{Number}
 use Rattle.ob0_run_machine.specs.declared.code.Truth.{Truth}
 use Rattle.ob0_run_cells.specs.Cells.{size}
 use Rattle.ob0_run_cells.specs.LoweredStatements.{CodeMeansArgument}
-use Rattle.ob0_run_cells.specs.Lowering.{NumberMeans, PlaceMeans, Slot, TruthMeans, HoldsValue, place_of_designator, value_of_expression}
-use Rattle.ob0_run_lowering.specs.Codes.{CodeMeans, FoundPlace}
+use Rattle.ob0_run_cells.specs.Lowering.{NumberMeans, PlaceMeans, Slot, TruthMeans, PlaceHoldsValue, place_of_designator, value_of_expression}
+use Rattle.ob0_run_lowering.specs.Codes.{CodeMeans, PlaceWithShape}
 use Rattle.ob0_run_lowering.specs.LoweredMeans.{LocatesDesignator, LocatesLoneDesignator, LowersExpression, LowersArgument, LowersNumber, LowersTruth}
-use Rattle.ob0_run_lowering.specs.Parts.{KeepsNumber, KeepsFoundPlace, KeepsTruth, PassesCode}
-use Rattle.ob0_run_lowering.specs.Scenes.{object_at}
-use Rattle.ob0_run_lowering.specs.Trees.{base_place, code_of, expression_code, found_place_of, selected_place}
+use Rattle.ob0_run_lowering.specs.Parts.{IsNumberInCode, IsFoundPlace, IsTruthInCode, PassesCode}
+use Rattle.ob0_run_lowering.specs.Scenes.{object_of_label}
+use Rattle.ob0_run_lowering.specs.Trees.{base_place, code_of, expression_code, place_with_shape_of, selected_place}
 use Rattle.ob0_run_lowering.specs.declared.lowered.TypedPlace.{TypedPlace}
 use Rattle.ob0_run_lowering.specs.declared.lowered.LoweredExpression.{LoweredExpression}
 use Rattle.ob0_run_lowering.specs.declared.lowered.LoweredExpression.TheVariants as code
@@ -45,11 +45,11 @@ pub lowers-by : (scene : Scene) (e : Tree ℕ expression) (l : LoweredExpression
 lowers-by scene e l same checked slots targets sees s h =
     subst (λ c. CodeMeans checked slots c s (value_of_expression (tree_with_labels scene.resolved.now e))) (sym same) (expression-means scene checked slots targets sees e s h)
 
-pub number-by : (scene : Scene) (e : Tree ℕ expression) (l : LoweredExpression) (n : Number) → KeepsNumber l n → LowersExpression scene e l → LowersNumber scene e n
+pub number-by : (scene : Scene) (e : Tree ℕ expression) (l : LoweredExpression) (n : Number) → IsNumberInCode l n → LowersExpression scene e l → LowersNumber scene e n
 number-by scene e (code.Number m) n same h checked slots targets sees typed = subst (λ n. NumberMeans checked slots (number_of n) (value_of_expression (tree_with_labels scene.resolved.now e))) same (h checked slots targets sees integer_shape typed)
 number-by scene e _ n same h checked slots targets sees typed = absurd (h checked slots targets sees integer_shape typed)
 
-pub truth-by : (scene : Scene) (e : Tree ℕ expression) (l : LoweredExpression) (t : Truth) → KeepsTruth l t → LowersExpression scene e l → LowersTruth scene e t
+pub truth-by : (scene : Scene) (e : Tree ℕ expression) (l : LoweredExpression) (t : Truth) → IsTruthInCode l t → LowersExpression scene e l → LowersTruth scene e t
 truth-by scene e (code.Truth u) t same h checked slots targets sees typed = subst (λ t. TruthMeans checked slots (truth_of t) (value_of_expression (tree_with_labels scene.resolved.now e))) same (h checked slots targets sees boolean_shape typed)
 truth-by scene e _ t same h checked slots targets sees typed = absurd (h checked slots targets sees boolean_shape typed)
 
@@ -61,14 +61,14 @@ unfolding variable_type
 variable-typed checked x path s (Some (a_variable v)) e h = (v, e, sym (ap (λ (o : Option (Object Shape Signature)). elim o [ Some (a_variable s) ↦ type_after_selectors checked s path | _ ↦ None ]) e) ∙ h)
 variable-typed checked x path s _ e h = let none : None ≡ Some s = sym (ap (λ (o : Option (Object Shape Signature)). elim o [ Some (a_variable s) ↦ type_after_selectors checked s path | _ ↦ None ]) e) ∙ h in absurd (cc)
 
-there : (shapes : List Shape) (found : Option TypedPlace) (l : TypedPlace) (q : lowered.Place) (s : Shape) → KeepsFoundPlace found l → option_map (found_place_of shapes) found ≡ Some (record { place = q; shape = s }) → (place_of l.place ≡ q) × (type_shape shapes l.type_id ≡ s)
+there : (shapes : List Shape) (found : Option TypedPlace) (l : TypedPlace) (q : lowered.Place) (s : Shape) → IsFoundPlace found l → option_map (place_with_shape_of shapes) found ≡ Some (record { place = q; shape = s }) → (place_of l.place ≡ q) × (type_shape shapes l.type_id ≡ s)
 there shapes None l q s same h = absurd (cc)
 there shapes (Some m) l q s same h =
-    let both : found_place_of shapes l ≡ record { place = q; shape = s } = ap (found_place_of shapes) (sym same) ∙ some_inverse h in
-    (ap (λ (f : FoundPlace). f.place) both, ap (λ (f : FoundPlace). f.shape) both)
+    let both : place_with_shape_of shapes l ≡ record { place = q; shape = s } = ap (place_with_shape_of shapes) (sym same) ∙ some_inverse h in
+    (ap (λ (f : PlaceWithShape). f.place) both, ap (λ (f : PlaceWithShape). f.shape) both)
 
-pub locates-by : (scene : Scene) (x : ℕ) (path : Tree ℕ (items selector)) (found : Option TypedPlace) (l : TypedPlace) → KeepsFoundPlace found l
-    → option_map (found_place_of (shapes_of scene.types.now)) found ≡ selected_place scene (base_place scene (label_at_token scene.resolved.now x)) (tree_with_labels scene.resolved.now path) → LocatesDesignator scene x path l
+pub locates-by : (scene : Scene) (x : ℕ) (path : Tree ℕ (items selector)) (found : Option TypedPlace) (l : TypedPlace) → IsFoundPlace found l
+    → option_map (place_with_shape_of (shapes_of scene.types.now)) found ≡ selected_place scene (base_place scene (label_at_token scene.resolved.now x)) (tree_with_labels scene.resolved.now path) → LocatesDesignator scene x path l
 locates-by scene x path found l same h checked slots targets sees s typed =
     let y = label_at_token scene.resolved.now x in
     let (v, e, at) = variable-typed checked y (tree_with_labels scene.resolved.now path) s (checked.object_for y) refl typed in
@@ -115,10 +115,10 @@ value-means : (checked : TypeMeanings Label) (slots : Label → Slot) (f : typin
 value-means checked slots f e integer_shape (code.Number n) mode shape h a same = subst (λ a. CodeMeansArgument checked slots f (argument_of a) e) same (mode, shape, h)
 value-means checked slots f e boolean_shape (code.Truth t) mode shape h a same = subst (λ a. CodeMeansArgument checked slots f (argument_of a) e) same (mode, shape, h)
 value-means checked slots f e (array_shape k m s) (code.Block q n) mode shape h a same =
-    let there : (n ≡ size f.shape) × HoldsValue checked slots (place_of q) f.shape (value_of_expression e) = subst (λ z. (n ≡ size z) × HoldsValue checked slots (place_of q) z (value_of_expression e)) (sym shape) h in
+    let there : (n ≡ size f.shape) × PlaceHoldsValue checked slots (place_of q) f.shape (value_of_expression e) = subst (λ z. (n ≡ size z) × PlaceHoldsValue checked slots (place_of q) z (value_of_expression e)) (sym shape) h in
     subst (λ a. CodeMeansArgument checked slots f (argument_of a) e) same (mode, there.0, there.1)
 value-means checked slots f e (record_shape k fs) (code.Block q n) mode shape h a same =
-    let there : (n ≡ size f.shape) × HoldsValue checked slots (place_of q) f.shape (value_of_expression e) = subst (λ z. (n ≡ size z) × HoldsValue checked slots (place_of q) z (value_of_expression e)) (sym shape) h in
+    let there : (n ≡ size f.shape) × PlaceHoldsValue checked slots (place_of q) f.shape (value_of_expression e) = subst (λ z. (n ≡ size z) × PlaceHoldsValue checked slots (place_of q) z (value_of_expression e)) (sym shape) h in
     subst (λ a. CodeMeansArgument checked slots f (argument_of a) e) same (mode, there.0, there.1)
 value-means checked slots f e _ _ mode shape h a same = absurd h
 

@@ -15,7 +15,7 @@ use Rattle.ob0_run_machine.specs.declared.code.Branch as branch
 use Rattle.ob0_run_machine.specs.declared.code.Conditional.{out-roll-Conditional, roll-Conditional}
 use Rattle.ob0_run_machine.specs.declared.code.Instruction as code
 use Rattle.ob0_run_machine.specs.Lowered as lowered
-use Rattle.ob0_run_machine.specs.View.{all_branches, conditional_of, if_of, sequence_of, statement_of, truth_of}
+use Rattle.ob0_run_machine.specs.View.{branches_of_list, conditional_of, if_of, sequence_of, statement_of, truth_of}
 use Rattle.ob0_run_machine.proofs.Viewed.{if_made}
 use Rattle.ob0_run_lowering.specs.declared.scene.Scene.{Scene}
 use Rattle.ob0_run_lowering.specs.LoweredBodies.{LowersOptionalStatement, LowersCondition, LowersElse, LowersElsifs, LowersFurtherStatements, LowersSequence, LowersStatement}
@@ -39,7 +39,7 @@ all_joined-last : (made : List branch.Branch) (b : branch.Branch) (bs : lowered.
 all_joined-last [] b bs = refl
 all_joined-last (x ∷ made) b bs = ap (lowered.branch (truth_of x.condition) (sequence_of x.body.items)) (all_joined-last made b bs)
 
-all_joined-alone : (made : List branch.Branch) → all_joined made lowered.no_branch ≡ all_branches made
+all_joined-alone : (made : List branch.Branch) → all_joined made lowered.no_branch ≡ branches_of_list made
 all_joined-alone [] = refl
 all_joined-alone (x ∷ made) = ap (lowered.branch (truth_of x.condition) (sequence_of x.body.items)) (all_joined-alone made)
 
@@ -106,7 +106,7 @@ branches_go_on {scene = scene} {r = r} {e = e} {a = a} {parts = parts} {n = n} {
 }
 
 pub branches_end : {scene : Scene} {r : Resolution} {e : Tree Label expression} {a : Tree Label sequence} {parts : List Elsif} {n : ℕ} {made : List branch.Branch} (otherwise : lowered.Instructions) (last : Tree Label (maybe else_part))
-    → BranchesMade scene r e a parts n made → length parts ≤ n → LowersElse scene otherwise last → LowersStatement scene (lowered.chooses (all_branches made) otherwise) (branches e a (tree_with_labels r (items_of elsif_of parts)) last)
+    → BranchesMade scene r e a parts n made → length parts ≤ n → LowersElse scene otherwise last → LowersStatement scene (lowered.chooses (branches_of_list made) otherwise) (branches e a (tree_with_labels r (items_of elsif_of parts)) last)
 branches_end {scene = scene} {r = r} {e = e} {a = a} {parts = parts} {n = n} {made = made} otherwise last f all h =
     let P : List Elsif → Type 0 = λ left. LowersElsifs scene lowered.no_branch otherwise (tree_with_labels r (items_of elsif_of left)) last in
     let Q : lowered.Branches → Type 0 = λ code. LowersStatement scene (lowered.chooses code otherwise) (branches e a (tree_with_labels r (items_of elsif_of parts)) last) in
@@ -125,9 +125,9 @@ some_otherwise scene r o ss made there h =
     subst P (sym there) (else-lowers scene (tree_with_labels r (sequence_of_list ss.items)) (sequence_of made) h)
 
 -- IF, made of its branches
-pub if_rolled : (x : _) → if_of (roll-Conditional x) ≡ lowered.chooses (lowered.branch (truth_of x.condition) (sequence_of x.body.items) (all_branches x.others.items)) (sequence_of x.otherwise.items)
+pub if_rolled : (x : _) → if_of (roll-Conditional x) ≡ lowered.chooses (lowered.branch (truth_of x.condition) (sequence_of x.body.items) (branches_of_list x.others.items)) (sequence_of x.otherwise.items)
 if_rolled x =
     let e = out-roll-Conditional x in
-    let parts : conditional_of (roll-Conditional x) ≡ lowered.chooses (lowered.branch (truth_of x.condition) (sequence_of x.body.items) (all_branches x.others.items)) (sequence_of x.otherwise.items) =
-    λ k. lowered.chooses (lowered.branch (truth_of (e k).condition) (sequence_of (e k).body.items) (all_branches (e k).others.items)) (sequence_of (e k).otherwise.items) in
+    let parts : conditional_of (roll-Conditional x) ≡ lowered.chooses (lowered.branch (truth_of x.condition) (sequence_of x.body.items) (branches_of_list x.others.items)) (sequence_of x.otherwise.items) =
+    λ k. lowered.chooses (lowered.branch (truth_of (e k).condition) (sequence_of (e k).body.items) (branches_of_list (e k).others.items)) (sequence_of (e k).otherwise.items) in
     if_made (roll-Conditional x) ∙ parts

@@ -14,18 +14,18 @@ use Rattle.ob0_run_machine.specs.Evaluation as machine
 use Rattle.ob0_run_machine.specs.Lowered as lowered
 use Rattle.ob0_run_cells.specs.Cells.{field_offset, size}
 use Rattle.ob0_run_cells.specs.LoweredStatements.{Target}
-use Rattle.ob0_run_cells.specs.Lowering.{OutcomeByMoment, PlaceStartsChain, PlaceMeans, Slot, part_at, place_of_designator, slot_place, value_of_expression, value_of_factor, value_of_simple, value_of_term}
+use Rattle.ob0_run_cells.specs.Lowering.{OutcomeByMoment, PlaceStartsChain, PlaceMeans, Slot, place_at_offset, place_of_designator, slot_place, value_of_expression, value_of_factor, value_of_simple, value_of_term}
 use Rattle.ob0_run_cells.specs.Lowering as lowering
 use Rattle.ob0_run_cells.proofs.LoweredNumbers.{integer-means}
 use Rattle.ob0_run_cells.proofs.LoweredPlaces as places
-use Rattle.ob0_run_lowering.specs.Codes.{ExpressionCode, CodeMeans, FoundPlace, a_number, a_truth, addition_code, constant_code, element_at_place, element_place, indexed_place, record_field_place, multiplication_code, designator_code, signed_code, code_at_place}
-use Rattle.ob0_run_lowering.specs.Scenes.{SceneAgrees, object_at, slot_at}
+use Rattle.ob0_run_lowering.specs.Codes.{ExpressionCode, CodeMeans, PlaceWithShape, a_number, a_truth, addition_code, constant_code, place_of_element, element_place, indexed_place, record_field_place, multiplication_code, designator_code, signed_code, code_of_value_at_place}
+use Rattle.ob0_run_lowering.specs.Scenes.{SceneAgrees, object_of_label, slot_of_label}
 use Rattle.ob0_run_lowering.specs.Trees.{addends_code, base_place, expression_code, factor_code, multipliers_code, selected_place, simple_code, term_code, variable_place}
 use Rattle.ob0_run_lowering.specs.declared.scene.Scene.{Scene}
 use Rattle.ob0_run_lowering.proofs.PartsFound.{element-same, leads-from}
 use Rattle.ob0_run_lowering.proofs.CodesMean.{CodeLeads, addition_code-leads, addends-end, alone-means, multiplication_code-leads, multipliers-end, negation_code-means, number-code, parenthesised-means, related-means, sum-begins, term-begins}
 
-abbrev found_at : lowered.Place → Shape → FoundPlace
+abbrev found_at : lowered.Place → Shape → PlaceWithShape
 found_at q s = record { place = q; shape = s }
 
 -- a constant has no selectors
@@ -66,7 +66,7 @@ module _ (checked : TypeMeanings Label) (slots : Label → Slot) where
   -- what is at the place of a designator
 
   place-means : (x : Label) (v : Shape) (path : Tree Label (items selector)) (q : lowered.Place) (s : Shape) → checked.object_for x ≡ Some (a_variable v) → PlaceMeans checked slots q s (place_of_designator x path)
-      → CodeMeans checked slots (code_at_place q s) s (value_of_factor (designator x path))
+      → CodeMeans checked slots (code_of_value_at_place q s) s (value_of_factor (designator x path))
   place-means x v path q integer_shape e h = places.cell-means checked slots x v path q e h
   place-means x v path q boolean_shape e h = places.flag-means checked slots x v path q e h
   place-means x v path q (array_shape k n t) e h = (refl, places.block-designator checked slots q (array_shape k n t) x v path e h)
@@ -79,9 +79,9 @@ module _ (checked : TypeMeanings Label) (slots : Label → Slot) where
       → (p : lowered.Place) × (record_field_place (label_text x) (found_at q z) ≡ Some (found_at p t)) × PlaceStartsChain checked slots p t rest whole
   field-step written q (record_shape k fs) x t rest whole leads h =
       let same : checked.written x ≡ label_text x = ap (λ w. w x) written in (
-        part_at q (field_offset fs (label_text x)),
-        ap (option_map (λ t. found_at (part_at q (field_offset fs (label_text x))) t)) (ap (field_type (record_shape k fs)) (sym same) ∙ h),
-        subst (λ y. PlaceStartsChain checked slots (part_at q (field_offset fs y)) t rest whole) same (places.field-leads checked slots q k fs x t rest whole leads h),
+        place_at_offset q (field_offset fs (label_text x)),
+        ap (option_map (λ t. found_at (place_at_offset q (field_offset fs (label_text x))) t)) (ap (field_type (record_shape k fs)) (sym same) ∙ h),
+        subst (λ y. PlaceStartsChain checked slots (place_at_offset q (field_offset fs y)) t rest whole) same (places.field-leads checked slots q k fs x t rest whole leads h),
       )
   field-step written q _ x t rest whole leads h = absurd (cc)
 
@@ -90,9 +90,9 @@ module _ (checked : TypeMeanings Label) (slots : Label → Slot) where
       → (p : lowered.Place) × (indexed_place c (Some (found_at q z)) ≡ Some (found_at p t)) × PlaceStartsChain checked slots p t rest whole
   element-step c q (array_shape k n u) integer_shape t e rest whole leads h hc =
       let (m, em, hm) = number-code checked slots c (value_of_expression e) hc in (
-        element_at_place q m n (size u),
-        ap (λ c. element_place c q (array_shape k n u)) em ∙ ap (λ t. Some (found_at (element_at_place q m n (size u)) t)) (some_inverse h),
-        leads-from checked slots (element_at_place q m n (size u)) (lowered.element q m n (size u) 0) t rest whole (element-same q m n (size u))
+        place_of_element q m n (size u),
+        ap (λ c. element_place c q (array_shape k n u)) em ∙ ap (λ t. Some (found_at (place_of_element q m n (size u)) t)) (some_inverse h),
+        leads-from checked slots (place_of_element q m n (size u)) (lowered.element q m n (size u) 0) t rest whole (element-same q m n (size u))
             (subst (λ t. PlaceStartsChain checked slots (lowered.element q m n (size u) 0) t rest whole) (some_inverse h) (places.index-leads checked slots q k n u e m rest whole leads hm)),
       )
   element-step c q _ _ t e rest whole leads h hc = absurd (cc)
@@ -110,11 +110,11 @@ module _ (scene : Scene) (checked : TypeMeanings Label) (slots : Label → Slot)
   variable-means x path s v selected e h =
       let here = sees.variables x v e in
       let leads = subst (λ z. PlaceStartsChain checked slots (slot_place z) v (tree_with_labels scene.resolved.now path) (place_of_designator x (tree_with_labels scene.resolved.now path))) here (places.variable-leads checked slots x v (tree_with_labels scene.resolved.now path) e) in
-      let (q, eq, hq) = selected (slot_place (slot_at scene x)) v s (place_of_designator x (tree_with_labels scene.resolved.now path)) leads h in
-      (q, ap (λ o. selected_place scene (variable_place (slot_place (slot_at scene x)) o) (tree_with_labels scene.resolved.now path)) (sees.bound x (a_variable v) e) ∙ eq, hq)
+      let (q, eq, hq) = selected (slot_place (slot_of_label scene x)) v s (place_of_designator x (tree_with_labels scene.resolved.now path)) leads h in
+      (q, ap (λ o. selected_place scene (variable_place (slot_place (slot_of_label scene x)) o) (tree_with_labels scene.resolved.now path)) (sees.bound x (a_variable v) e) ∙ eq, hq)
 
   named-means : (x : Label) (path : Tree ℕ (items selector)) (s : Shape) (o : Option (Object Shape Signature)) → Selected path → checked.object_for x ≡ o → option_and_then (λ t. type_after_selectors checked t (tree_with_labels scene.resolved.now path)) (type_of_variable_or_constant o) ≡ Some s
-      → CodeMeans checked slots (designator_code (constant_of (object_at scene.types.now x)) (selected_place scene (base_place scene x) (tree_with_labels scene.resolved.now path))) s (value_of_factor (designator x (tree_with_labels scene.resolved.now path)))
+      → CodeMeans checked slots (designator_code (constant_of (object_of_label scene.types.now x)) (selected_place scene (base_place scene x) (tree_with_labels scene.resolved.now path))) s (value_of_factor (designator x (tree_with_labels scene.resolved.now path)))
   named-means x path s (Some (a_variable v)) selected e h =
       let (q, eq, hq) = variable-means x path s v selected e h in
       let there = sees.bound x (a_variable v) e in
@@ -145,7 +145,7 @@ module _ (scene : Scene) (checked : TypeMeanings Label) (slots : Label → Slot)
         addends-mean (signed_code g (term_code scene (tree_with_labels scene.resolved.now t))) y rest (value_of_simple (sum g (tree_with_labels scene.resolved.now t) (tree_with_labels scene.resolved.now rest))) s
         (sum-begins checked slots (tree_with_labels scene.resolved.now t) (tree_with_labels scene.resolved.now rest) g (term_code scene (tree_with_labels scene.resolved.now t)) x y ey (term-means t x ex)) h₂
 
-    addends-mean : (c : ExpressionCode) (x : Shape) (rest : Tree ℕ (items addend)) (whole : OutcomeByMoment Label Value) (s : Shape) → CodeLeads checked slots c x (lowering.remaining_addends (tree_with_labels scene.resolved.now rest)) whole → type_of_addends checked x (tree_with_labels scene.resolved.now rest) ≡ Some s
+    addends-mean : (c : ExpressionCode) (x : Shape) (rest : Tree ℕ (items addend)) (whole : OutcomeByMoment Label Value) (s : Shape) → CodeLeads checked slots c x (lowering.outcome_of_remaining_addends (tree_with_labels scene.resolved.now rest)) whole → type_of_addends checked x (tree_with_labels scene.resolved.now rest) ≡ Some s
         → CodeMeans checked slots (addends_code scene c (tree_with_labels scene.resolved.now rest)) s whole
     addends-mean c x end whole s hc h = subst (λ s. CodeMeans checked slots c s whole) (some_inverse h) (addends-end checked slots c x whole hc)
     addends-mean c x (more (adds o t) rest) whole s hc h =
@@ -160,7 +160,7 @@ module _ (scene : Scene) (checked : TypeMeanings Label) (slots : Label → Slot)
         multipliers-mean (factor_code scene (tree_with_labels scene.resolved.now f)) x rest (value_of_term (product (tree_with_labels scene.resolved.now f) (tree_with_labels scene.resolved.now rest))) s
         (term-begins checked slots (factor_code scene (tree_with_labels scene.resolved.now f)) x (tree_with_labels scene.resolved.now f) (tree_with_labels scene.resolved.now rest) (factor-means f x ex)) h₁
 
-    multipliers-mean : (c : ExpressionCode) (x : Shape) (rest : Tree ℕ (items multiplier)) (whole : OutcomeByMoment Label Value) (s : Shape) → CodeLeads checked slots c x (lowering.remaining_multipliers (tree_with_labels scene.resolved.now rest)) whole → type_of_multipliers checked x (tree_with_labels scene.resolved.now rest) ≡ Some s
+    multipliers-mean : (c : ExpressionCode) (x : Shape) (rest : Tree ℕ (items multiplier)) (whole : OutcomeByMoment Label Value) (s : Shape) → CodeLeads checked slots c x (lowering.outcome_of_remaining_multipliers (tree_with_labels scene.resolved.now rest)) whole → type_of_multipliers checked x (tree_with_labels scene.resolved.now rest) ≡ Some s
         → CodeMeans checked slots (multipliers_code scene c (tree_with_labels scene.resolved.now rest)) s whole
     multipliers-mean c x end whole s hc h = subst (λ s. CodeMeans checked slots c s whole) (some_inverse h) (multipliers-end checked slots c x whole hc)
     multipliers-mean c x (more (multiplies o f) rest) whole s hc h =

@@ -15,11 +15,11 @@ use Rattle.ob0_language_types.specs.WellTyped.{TypeEnvironment, block_is_well_ty
 use Rattle.ob0_run_machine.specs.Lowered as lowered
 use Rattle.ob0_run_machine.specs.View.{procedure_of, sequence_of}
 use Rattle.ob0_run_machine.specs.declared.code.Routine.{Routine}
-use Rattle.ob0_run_cells.specs.Activations.{CodeMeansBlock, PlacementState, Placement, RoutinesMeanProcedures, label_table}
+use Rattle.ob0_run_cells.specs.Activations.{CodeMeansBlock, PlacementState, Placement, RoutinesMeanProcedures, routine_table_by_label}
 use Rattle.ob0_run_cells.specs.Lowering.{Slot}
 use Rattle.ob0_run_lowering.specs.declared.scene.LoweredLocation.{LoweredLocation}
-use Rattle.ob0_run_lowering.specs.KnownBlocks.{AreDeclared, BlockIsDeclared, ProceduresAreDeclared}
-use Rattle.ob0_run_lowering.specs.PlacedNames.{HidesMoreLocations, LocationsMatchPlacement, FrameMatchesPlacement, PlacementMatches, variable_slot}
+use Rattle.ob0_run_lowering.specs.KnownBlocks.{BindingsAreDeclared, BlockBindingsAreDeclared, ProcedureBindingsAreDeclared}
+use Rattle.ob0_run_lowering.specs.PlacedNames.{HidesMoreLocations, LocationsMatchPlacement, FrameMatchesPlacement, PlacementMatchesEnvironment, variable_slot}
 use Rattle.ob0_run_lowering.specs.declared.programs.Lowering.{Lowering}
 use Rattle.ob0_run_lowering.specs.declared.visible_locations.Frame.{Frame}
 
@@ -49,22 +49,22 @@ pub record BlockState : Type 0 where
 -- these procedures declare. The table of locations has the place of each name in scope.
 pub record IsReadyToLower (t : Tables) (sites : List LoweredLocation) (depth : ℕ) (s : BlockState)
     (statements : Tree Label (maybe body)) (ps : Tree Label (items procedure)) : Type 0 where
-  pub environment_is_declared : AreDeclared (declared_object_in t) s.env
-  pub matches : PlacementMatches s.env s.placement
+  pub environment_is_declared : BindingsAreDeclared (declared_object_in t) s.env
+  pub matches : PlacementMatchesEnvironment s.env s.placement
   pub holds : LocationsMatchPlacement sites depth s.placement
   pub fits : procedures_are_well_typed naming_by_label s.env s.next statements ps ≡ true
-  pub procedures_are_declared : ProceduresAreDeclared (declared_object_in t) s.env s.next ps
+  pub procedures_are_declared : ProcedureBindingsAreDeclared (declared_object_in t) s.env s.next ps
 
 -- States that a table has correct code for the remaining procedures `ps` of a block, and that
 -- `code` is correct for the block's statements. `s` is the state before these procedures.
-abbrev pub RestOfBlockMeans : List lowered.Routine
+abbrev pub CodeMeansRestOfBlock : List lowered.Routine
     → BlockState
     → lowered.Instructions
     → Tree Label (maybe body)
     → Tree Label (items procedure)
     → Type 0
-RestOfBlockMeans table s code statements ps =
-    RoutinesMeanProcedures (label_table table) s.env s.placement s.next code statements ps
+CodeMeansRestOfBlock table s code statements ps =
+    RoutinesMeanProcedures (routine_table_by_label table) s.env s.placement s.next code statements ps
 
 -- States that lowering leads from the state `s` with the remaining procedures `ps` of a block to
 -- the state `now` with the remaining procedures `left`. `w` and `v` are the data of lowering
@@ -77,8 +77,8 @@ pub record LowersFromState (t : Tables) (w v : Lowering) (depth : ℕ) (s : Bloc
   pub ready : IsReadyToLower t v.visible.sites.items depth now statements left
   pub composes_meaning : (table : List lowered.Routine) (code : lowered.Instructions)
       → HasRoutinesFrom table (length w.procedures.items) v.procedures.items
-      → RestOfBlockMeans table now code statements left
-      → RestOfBlockMeans table s code statements ps
+      → CodeMeansRestOfBlock table now code statements left
+      → CodeMeansRestOfBlock table s code statements ps
 
 -- States that lowering starts with the remaining procedures `ps` of a block, and reaches the
 -- remaining procedures `left`. This holds for each state in which lowering starts, and for any
@@ -96,11 +96,11 @@ pub record LowersProcedures (t : Tables) (w v : Lowering) (depth : ℕ) (ps left
 -- States that the routine `entry` is correct code for a block, with each table that has the
 -- procedures that were added while the block was lowered. `w` and `v` are the data of lowering
 -- before and after.
-pub record MeansBlock (w v : Lowering) (f : Frame) (b : Tree Label block) (entry : Routine)
+pub record RoutineMeansBlock (w v : Lowering) (f : Frame) (b : Tree Label block) (entry : Routine)
     (env : TypeEnvironment Label) (p : PlacementState Label) (k : ℕ) : Type 0 where
   pub means : (table : List lowered.Routine)
       → HasRoutinesFrom table (length w.procedures.items) v.procedures.items
-      → CodeMeansBlock (label_table table) (variable_slot f.depth) env p k entry.cells
+      → CodeMeansBlock (routine_table_by_label table) (variable_slot f.depth) env p k entry.cells
       (sequence_of entry.body.items) b
 
 -- States that the routine `entry` is correct code for a block, if the block is well-typed and the
@@ -109,11 +109,11 @@ pub record MeansBlock (w v : Lowering) (f : Frame) (b : Tree Label block) (entry
 pub record LowersBlock (t : Tables) (w v : Lowering) (f : Frame) (b : Tree Label block)
     (entry : Routine) : Type 0 where
   pub lowers_from : (env : TypeEnvironment Label) (p : PlacementState Label) (k : ℕ)
-      → PlacementMatches env p.placement
+      → PlacementMatchesEnvironment env p.placement
       → FrameMatchesPlacement w.visible.sites.items f p
       → block_is_well_typed naming_by_label env k b ≡ true
-      → BlockIsDeclared (declared_object_in t) env k b
-      → MeansBlock w v f b entry env p k
+      → BlockBindingsAreDeclared (declared_object_in t) env k b
+      → RoutineMeansBlock w v f b entry env p k
   pub follows : HidesMoreLocations w.visible v.visible
   pub longer : length w.procedures.items ≤ length v.procedures.items
   pub grown : KeepsRoutines w.procedures.items v.procedures.items

@@ -1,5 +1,5 @@
 -- Defines the code (`ExpressionCode`) of constants, of the value at a place, and of operations.
--- Also defines the places of fields and elements (`FoundPlace`).
+-- Also defines the places of fields and elements (`PlaceWithShape`).
 -- Rule: none; used in contracts of lowering.
 use Rattle.std.specs.Prelude.{◌≡◌, ℕ, ◌*◌, ◌%◌, ◌^◌, pos, Some, None, Option, option_map, if◌then◌else◌, nat_lt}
 use Rattle.ob0_tree.specs.declared.tree.Relation.{Relation}
@@ -16,10 +16,10 @@ use Rattle.ob0_language_types.specs.WellTyped.{TypeMeanings}
 use Rattle.ob0_language_values.specs.Values.{Shape, Value, array_shape, at_field, boolean_shape, elements, integer_shape, members, number, record_shape, truth}
 use Rattle.ob0_run_machine.specs.Lowered as lowered
 use Rattle.ob0_run_cells.specs.Cells.{size, step_offset}
-use Rattle.ob0_run_cells.specs.Lowering.{OutcomeByMoment, NumberMeans, Slot, TruthMeans, HoldsValue, part_at, relation_of}
+use Rattle.ob0_run_cells.specs.Lowering.{OutcomeByMoment, NumberMeans, Slot, TruthMeans, PlaceHoldsValue, place_at_offset, relation_of}
 
--- The code of an expression: a number, a truth, or the cells of an array or a record. In the last
--- case there is no code. This doesn't occur for expressions of a well-typed module.
+-- The code of an expression: a number, a truth, or the cells of an array or a record. `no_code`
+-- stands for an expression without code, which doesn't occur in a well-typed module.
 pub data ExpressionCode : Type 0 where
   a_number : lowered.Number → ExpressionCode
   a_truth : lowered.Truth → ExpressionCode
@@ -36,27 +36,27 @@ abbrev pub CodeMeans : TypeMeanings Label → (Label → Slot) → ExpressionCod
 CodeMeans checked slots (a_number n) integer_shape value = NumberMeans checked slots n value
 CodeMeans checked slots (a_truth t) boolean_shape value = TruthMeans checked slots t value
 CodeMeans checked slots (a_block q n) (array_shape k m s) value =
-    (n ≡ size (array_shape k m s)) × HoldsValue checked slots q (array_shape k m s) value
+    (n ≡ size (array_shape k m s)) × PlaceHoldsValue checked slots q (array_shape k m s) value
 CodeMeans checked slots (a_block q n) (record_shape k fs) value =
-    (n ≡ size (record_shape k fs)) × HoldsValue checked slots q (record_shape k fs) value
+    (n ≡ size (record_shape k fs)) × PlaceHoldsValue checked slots q (record_shape k fs) value
 CodeMeans checked slots _ _ value = ⊥
 
 -- A place of lowered code, and the type of the value there.
-pub record FoundPlace : Type 0 where
+pub record PlaceWithShape : Type 0 where
   pub place : lowered.Place
   pub shape : Shape
 
 -- returns the code of the value at a place, which depends on the value's type
-abbrev pub code_at_place : lowered.Place → Shape → ExpressionCode
-code_at_place q integer_shape = a_number (lowered.cell q)
-code_at_place q boolean_shape = a_truth (lowered.flag q)
-code_at_place q (array_shape k n s) = a_block q (size (array_shape k n s))
-code_at_place q (record_shape k fs) = a_block q (size (record_shape k fs))
+abbrev pub code_of_value_at_place : lowered.Place → Shape → ExpressionCode
+code_of_value_at_place q integer_shape = a_number (lowered.cell q)
+code_of_value_at_place q boolean_shape = a_truth (lowered.flag q)
+code_of_value_at_place q (array_shape k n s) = a_block q (size (array_shape k n s))
+code_of_value_at_place q (record_shape k fs) = a_block q (size (record_shape k fs))
 
 -- returns the code of the value at a place, or `no_code` for None
-abbrev pub code_at : Option FoundPlace → ExpressionCode
-code_at None = no_code
-code_at (Some f) = code_at_place f.place f.shape
+abbrev pub code_of_value_if_found : Option PlaceWithShape → ExpressionCode
+code_of_value_if_found None = no_code
+code_of_value_if_found (Some f) = code_of_value_at_place f.place f.shape
 
 -- returns the code of a constant's value, or `no_code` for an array or a record
 abbrev pub constant_code : Value → ExpressionCode
@@ -67,9 +67,9 @@ constant_code (members k ms) = no_code
 
 -- Returns the code of a designator. For a constant, this is the code of its value. For any other
 -- designator (None), it is the code of the value at the place `found`.
-abbrev pub designator_code : Option Value → Option FoundPlace → ExpressionCode
+abbrev pub designator_code : Option Value → Option PlaceWithShape → ExpressionCode
 designator_code (Some v) found = constant_code v
-designator_code None found = code_at found
+designator_code None found = code_of_value_if_found found
 
 -- returns the code of an operation on two numbers, or `no_code` if an operand isn't a number
 abbrev pub number_operation : lowered.Operator → ExpressionCode → ExpressionCode → ExpressionCode
@@ -131,33 +131,33 @@ known_offset _ n s = None
 -- Returns the place of an array's element. If the offset of the element is known, this is the place
 -- at this offset in the array. If it isn't known (None), this is the element at an index that is
 -- evaluated during the run.
-abbrev pub element_or_part : Option ℕ → lowered.Place → lowered.Number → (length stride : ℕ)
+abbrev pub element_at_optional_offset : Option ℕ → lowered.Place → lowered.Number → (length stride : ℕ)
     → lowered.Place
-element_or_part None q i n s = lowered.element q i n s 0
-element_or_part (Some k) q i n s = part_at q k
+element_at_optional_offset None q i n s = lowered.element q i n s 0
+element_at_optional_offset (Some k) q i n s = place_at_offset q k
 
 -- returns the place of an element, given the place of the array, the index, the array's length, and
 -- the number of cells of an element
-abbrev pub element_at_place : lowered.Place → lowered.Number → (length stride : ℕ) → lowered.Place
-element_at_place q i n s = element_or_part (known_offset i n s) q i n s
+abbrev pub place_of_element : lowered.Place → lowered.Number → (length stride : ℕ) → lowered.Place
+place_of_element q i n s = element_at_optional_offset (known_offset i n s) q i n s
 
 -- Returns the place and the type of a field of the value at a place. Returns None if the value has
 -- no such field.
-abbrev pub record_field_place : Name → FoundPlace → Option FoundPlace
+abbrev pub record_field_place : Name → PlaceWithShape → Option PlaceWithShape
 record_field_place x f =
     option_map
-    (λ t. record { place = part_at f.place (step_offset f.shape (at_field x)); shape = t })
+    (λ t. record { place = place_at_offset f.place (step_offset f.shape (at_field x)); shape = t })
     (field_type f.shape x)
 
 -- Returns the place and the type of an element of the array at a place. Returns None if the index
 -- isn't a number, or the value at the place isn't an array.
-abbrev pub element_place : ExpressionCode → lowered.Place → Shape → Option FoundPlace
+abbrev pub element_place : ExpressionCode → lowered.Place → Shape → Option PlaceWithShape
 element_place (a_number i) q (array_shape k n s) =
-    Some (record { place = element_at_place q i n (size s); shape = s })
+    Some (record { place = place_of_element q i n (size s); shape = s })
 element_place _ _ _ = None
 
 -- Returns the place and the type of an element of the array at a place that was found. Returns None
 -- if no place was found, the index isn't a number, or the value at the place isn't an array.
-abbrev pub indexed_place : ExpressionCode → Option FoundPlace → Option FoundPlace
+abbrev pub indexed_place : ExpressionCode → Option PlaceWithShape → Option PlaceWithShape
 indexed_place c None = None
 indexed_place c (Some f) = element_place c f.place f.shape

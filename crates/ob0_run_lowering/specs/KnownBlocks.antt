@@ -1,4 +1,4 @@
--- States that the bindings of a module agree with the table of its declarations. `BlockIsDeclared`
+-- States that the bindings of a module agree with the table of its declarations. `BlockBindingsAreDeclared`
 -- recurses over the tree, and is about each environment in which procedures or statements of a
 -- block are checked. Each binding in this environment has an ordinal, and the object that the table
 -- has at this ordinal. A well-typed module has this property (`module-declared`). In the module's
@@ -20,20 +20,21 @@ ObjectByOrdinal = ℕ → Option (Object Shape Signature)
 
 -- States that each binding of an environment binds an ordinal to the object that `objects` returns
 -- for this ordinal.
-abbrev pub AreDeclared : ObjectByOrdinal → TypeEnvironment Label → Type 0
-AreDeclared objects [] = Unit {0}
-AreDeclared objects (b ∷ env) =
-    ((k : ℕ) × (b.0 ≡ declared k) × (objects k ≡ Some b.1)) × AreDeclared objects env
+abbrev pub BindingsAreDeclared : ObjectByOrdinal → TypeEnvironment Label → Type 0
+BindingsAreDeclared objects [] = Unit {0}
+BindingsAreDeclared objects (b ∷ env) =
+    ((k : ℕ) × (b.0 ≡ declared k) × (objects k ≡ Some b.1)) × BindingsAreDeclared objects env
 
--- States `AreDeclared` for each environment in which procedures and statements of a block are
--- checked. This includes the environments of all blocks inside this block.
-abbrev pub BlockIsDeclared : ObjectByOrdinal → TypeEnvironment Label → ℕ → Tree Label block → Type 0
-BlockIsDeclared objects = HoldsInBlock (AreDeclared objects)
+-- States that `BindingsAreDeclared` holds for each environment in which the procedures and the statements
+-- of a block are checked. This includes the environments of all blocks inside this block.
+abbrev pub BlockBindingsAreDeclared : ObjectByOrdinal → TypeEnvironment Label → ℕ → Tree Label block → Type 0
+BlockBindingsAreDeclared objects = HoldsInBlock (BindingsAreDeclared objects)
 
--- States `AreDeclared` for each environment in which these procedures and their blocks are checked.
-abbrev pub ProceduresAreDeclared : ObjectByOrdinal
+-- States that `BindingsAreDeclared` holds for each environment in which these procedures and their blocks
+-- are checked, and for the environment after them.
+abbrev pub ProcedureBindingsAreDeclared : ObjectByOrdinal
     → TypeEnvironment Label
     → ℕ
     → Tree Label (items procedure)
     → Type 0
-ProceduresAreDeclared objects = HoldsInProcedures (AreDeclared objects)
+ProcedureBindingsAreDeclared objects = HoldsInProcedures (BindingsAreDeclared objects)

@@ -18,7 +18,7 @@ offsets_from n (next_field_shape x s rest) = n ∷ offsets_from (n + size s) res
 
 -- states that the layout of a record has the number of cells of these fields, and the offset of
 -- each field
-pub record AreLaidOut (fs : FieldShapes) (r : RecordLayout) : Type 0 where
+pub record IsLayoutOfFields (fs : FieldShapes) (r : RecordLayout) : Type 0 where
   pub cells : r.cells ≡ total_field_size fs
   pub offsets : r.offsets.items ≡ offsets_from 0 fs
 
@@ -26,7 +26,7 @@ pub record AreLaidOut (fs : FieldShapes) (r : RecordLayout) : Type 0 where
 -- nor a record.
 abbrev pub HasLayout : Shape → Layout → Type 0
 HasLayout (array_shape k n s) (layout.Array cells) = cells ≡ size (array_shape k n s)
-HasLayout (record_shape k fs) (layout.Record r) = AreLaidOut fs r
+HasLayout (record_shape k fs) (layout.Record r) = IsLayoutOfFields fs r
 HasLayout _ _ = ⊥
 
 -- states that a list of layouts has the right layout for each type of a table, in the table's order
@@ -39,4 +39,4 @@ HaveLayouts _ _ = ⊥
 -- `faulty_shape`.
 abbrev pub IsLayoutOfRecord : Option (Bor RecordLayout) → Shape → Type 0
 IsLayoutOfRecord None s = s ≡ faulty_shape
-IsLayoutOfRecord (Some r) s = (k : ℕ) × (fs : FieldShapes) × (s ≡ record_shape k fs) × AreLaidOut fs r.now
+IsLayoutOfRecord (Some r) s = (k : ℕ) × (fs : FieldShapes) × (s ≡ record_shape k fs) × IsLayoutOfFields fs r.now

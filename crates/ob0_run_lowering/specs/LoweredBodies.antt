@@ -1,5 +1,5 @@
--- States that statements are lowered to correct code. A scene (`Scene`) is the data with which a
--- body is lowered. A clause about statements covers all checked names, slots and targets that agree
+-- States that statements are lowered to correct code. A scene (`Scene`) is the data that is needed
+-- to lower a body. A clause about statements covers all checked names, slots and targets that agree
 -- with the scene (`SceneAgrees`). It says that the code of a tree is correct, if the tree is
 -- well-typed with these names (`HoldsInScene`). If the tree isn't well-typed, nothing is claimed
 -- about its code. The parts of a well-typed tree are well-typed, so each law of `ob0_run_cells` is

@@ -1,6 +1,6 @@
 -- States that expressions, designators and arguments are lowered to correct code. This holds for
--- all checked names and slots that agree with the scene (`SceneAgrees`), which is the data with
--- which a body is lowered.
+-- all checked names and slots that agree with the scene (`SceneAgrees`), which is the data that is
+-- needed to lower a body.
 -- Rule: none; used in contracts of lowering.
 use Rattle.std.specs.Prelude.{◌≡◌, ℕ, true, Some}
 use Rattle.ob0_tree.specs.Tree.{Tree, expression, items, selector}

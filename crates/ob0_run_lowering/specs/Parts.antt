@@ -12,15 +12,15 @@ use Rattle.ob0_run_lowering.specs.declared.lowered.LoweredExpression.TheVariants
 
 -- States that `n` is the number in an expression's code, if this code is a number. Claims nothing
 -- about other code.
-abbrev pub KeepsNumber : LoweredExpression → Number → Type 0
-KeepsNumber (code.Number m) n = m ≡ n
-KeepsNumber _ n = Unit {0}
+abbrev pub IsNumberInCode : LoweredExpression → Number → Type 0
+IsNumberInCode (code.Number m) n = m ≡ n
+IsNumberInCode _ n = Unit {0}
 
 -- States that `t` is the truth in an expression's code, if this code is a truth. Claims nothing
 -- about other code.
-abbrev pub KeepsTruth : LoweredExpression → Truth → Type 0
-KeepsTruth (code.Truth u) t = u ≡ t
-KeepsTruth _ t = Unit {0}
+abbrev pub IsTruthInCode : LoweredExpression → Truth → Type 0
+IsTruthInCode (code.Truth u) t = u ≡ t
+IsTruthInCode _ t = Unit {0}
 
 -- States that the argument `a` passes the number, the truth or the cells in an expression's code.
 -- Claims nothing if there is no code.
@@ -31,9 +31,9 @@ PassesCode (code.Block q k) a = argument.Block q k ≡ a
 PassesCode code.Nothing a = Unit {0}
 
 -- States that `l` is the place that was found. Claims nothing if no place was found (None).
-abbrev pub KeepsFoundPlace : Option TypedPlace → TypedPlace → Type 0
-KeepsFoundPlace (Some m) l = m ≡ l
-KeepsFoundPlace None l = Unit {0}
+abbrev pub IsFoundPlace : Option TypedPlace → TypedPlace → Type 0
+IsFoundPlace (Some m) l = m ≡ l
+IsFoundPlace None l = Unit {0}
 
 -- returns an operand's code if this code is a number, otherwise None
 abbrev pub number_in : LoweredExpression → Option Number

@@ -12,17 +12,17 @@
 use Rattle.std.specs.Prelude.{◌≡◌, ℕ, zero, suc, ◌≤◌, List, [], ◌∷◌, ◌++◌, length, if◌then◌else◌, ◌==◌, Some, None, Option}
 use Rattle.ob0_tree.specs.Tree.{Tree, declares_variable, end, further_section, items, more, then_section, variable}
 use Rattle.ob0_language_names.specs.Names.{Label, naming_by_label, declared}
-use Rattle.ob0_language_names.specs.Parts.{names_in_list, section_names}
+use Rattle.ob0_language_names.specs.Parts.{names_in_list, parameter_section_names}
 use Rattle.ob0_types_table.specs.KnownTables.{Tables}
 use Rattle.ob0_language_types.specs.Expressions.{Object, a_procedure, a_variable}
 use Rattle.ob0_language_types.specs.Typing.{type_of_object}
 use Rattle.ob0_language_types.specs.WellTyped.{Mode, Signature, TypeEnvironment, by_value, section_mode}
 use Rattle.ob0_language_values.specs.Values.{Shape}
-use Rattle.ob0_run_cells.specs.Activations.{PlacementState, Placement, BindingPlace, at_target, suffix_from_name, in_slot, nowhere, place_name}
+use Rattle.ob0_run_cells.specs.Activations.{PlacementState, Placement, BindingPlace, at_target, placement_from_binding, in_slot, nowhere, add_name_to_placement}
 use Rattle.ob0_run_cells.specs.Cells.{size}
 use Rattle.ob0_run_cells.specs.LoweredStatements.{Target}
 use Rattle.ob0_run_cells.specs.Lowering.{Slot, in_activation, of_module}
-use Rattle.ob0_run_lowering.specs.Scenes.{object_at, place_seen_from, location_at}
+use Rattle.ob0_run_lowering.specs.Scenes.{object_of_label, place_seen_from, location_at}
 use Rattle.ob0_run_lowering.specs.declared.scene.LoweredLocation.{LoweredLocation}
 use Rattle.ob0_run_lowering.specs.declared.scene.LoweredLocation.TheVariants as site
 use Rattle.ob0_run_lowering.specs.declared.visible_locations.Frame.{Frame}
@@ -30,13 +30,13 @@ use Rattle.ob0_run_lowering.specs.declared.visible_locations.HiddenLocation.{Hid
 use Rattle.ob0_run_lowering.specs.declared.visible_locations.VisibleLocations.{VisibleLocations}
 
 -- returns the place of the first name in a placement, or `nowhere` if the placement is empty
-abbrev pub first_binding_place : Placement Label → BindingPlace
-first_binding_place [] = nowhere
-first_binding_place (b ∷ placement) = b.1
+abbrev pub place_of_first_binding : Placement Label → BindingPlace
+place_of_first_binding [] = nowhere
+place_of_first_binding (b ∷ placement) = b.1
 
 -- returns the place of a name in a placement, or `nowhere` if the placement doesn't have the name
-abbrev pub binding_place_in : Placement Label → Label → BindingPlace
-binding_place_in placement x = first_binding_place (suffix_from_name naming_by_label placement x)
+abbrev pub place_in_placement : Placement Label → Label → BindingPlace
+place_in_placement placement x = place_of_first_binding (placement_from_binding naming_by_label placement x)
 
 -- returns the depth of the activation to which a location belongs, or 0 for `Nowhere`
 abbrev pub depth_of_location : LoweredLocation → ℕ
@@ -57,7 +57,7 @@ LocationMatchesPlace depth s (at_target t) = (depth_of_location s ≤ depth) × 
 -- name's ordinal is this place, as seen from an activation of this depth.
 abbrev pub LocationsMatchPlacement : List LoweredLocation → ℕ → Placement Label → Type 0
 LocationsMatchPlacement sites depth placement =
-    (k : ℕ) → LocationMatchesPlace depth (location_at sites k) (binding_place_in placement (declared k))
+    (k : ℕ) → LocationMatchesPlace depth (location_at sites k) (place_in_placement placement (declared k))
 
 -- States that a place has the right kind for an object: a slot for a variable, a target for a
 -- procedure. Claims nothing about other objects.
@@ -68,10 +68,10 @@ PlaceMatchesObject _ w = Unit {0}
 
 -- states that an environment and a placement bind the same names in the same order, and that each
 -- place has the right kind for its name's object (`PlaceMatchesObject`)
-abbrev pub PlacementMatches : TypeEnvironment Label → Placement Label → Type 0
-PlacementMatches [] [] = Unit {0}
-PlacementMatches (b ∷ env) (w ∷ placement) = (b.0 ≡ w.0) × PlaceMatchesObject b.1 w.1 × PlacementMatches env placement
-PlacementMatches _ _ = ⊥
+abbrev pub PlacementMatchesEnvironment : TypeEnvironment Label → Placement Label → Type 0
+PlacementMatchesEnvironment [] [] = Unit {0}
+PlacementMatchesEnvironment (b ∷ env) (w ∷ placement) = (b.0 ≡ w.0) × PlaceMatchesObject b.1 w.1 × PlacementMatchesEnvironment env placement
+PlacementMatchesEnvironment _ _ = ⊥
 
 -- returns the number of cells of a variable with this type, or 0 for None
 abbrev pub optional_shape_size : Option Shape → ℕ
@@ -80,7 +80,7 @@ optional_shape_size (Some s) = size s
 
 -- returns the number of cells of the variable that a name declares, or 0 if the name has no type
 abbrev pub declared_size : Tables → Label → ℕ
-declared_size t x = optional_shape_size (type_of_object (object_at t x))
+declared_size t x = optional_shape_size (type_of_object (object_of_label t x))
 
 -- returns the slot of a variable at an offset: in the cells of the module if the depth is 0,
 -- otherwise in the cells of the running activation
@@ -96,10 +96,10 @@ IsLocationOfNextVariable f s =
 
 -- Adds the names of one declaration to a placement, one by one. `size_of` returns the number of
 -- cells of a name, and `at` converts the offset of a variable to its slot.
-abbrev pub place_each : (ℕ → Slot) → (Label → ℕ) → Mode → List Label → PlacementState Label → PlacementState Label
-place_each at size_of mode [] p = p
-place_each at size_of mode (x ∷ xs) p =
-    place_each at size_of mode xs (place_name at mode x (size_of x) p)
+abbrev pub add_declared_names_to_placement : (ℕ → Slot) → (Label → ℕ) → Mode → List Label → PlacementState Label → PlacementState Label
+add_declared_names_to_placement at size_of mode [] p = p
+add_declared_names_to_placement at size_of mode (x ∷ xs) p =
+    add_declared_names_to_placement at size_of mode xs (add_name_to_placement at mode x (size_of x) p)
 
 -- adds the variables of a block to a placement, one by one
 abbrev pub place_variable_declarations : (ℕ → Slot)
@@ -109,7 +109,7 @@ abbrev pub place_variable_declarations : (ℕ → Slot)
     → PlacementState Label
 place_variable_declarations at size_of end p = p
 place_variable_declarations at size_of (more (declares_variable ns u) gs) p =
-    place_variable_declarations at size_of gs (place_each at size_of by_value (names_in_list ns) p)
+    place_variable_declarations at size_of gs (add_declared_names_to_placement at size_of by_value (names_in_list ns) p)
 
 -- adds the parameters of a heading to a placement, one by one
 abbrev pub place_sections : (ℕ → Slot)
@@ -119,24 +119,24 @@ abbrev pub place_sections : (ℕ → Slot)
     → PlacementState Label
 place_sections at size_of end p = p
 place_sections at size_of (more (then_section f) fs) p =
-    place_sections at size_of fs (place_each at size_of (section_mode f) (section_names f) p)
+    place_sections at size_of fs (add_declared_names_to_placement at size_of (section_mode f) (parameter_section_names f) p)
 
--- Returns the location of the ordinal `k`, once the location of `ordinal` is set to `s`. `sites`
+-- Returns the location of the ordinal `k` after the location of `ordinal` was set to `s`. `sites`
 -- returns the location of each ordinal before this change.
-abbrev pub locations_with : ℕ → LoweredLocation → (ℕ → LoweredLocation) → ℕ → LoweredLocation
-locations_with ordinal s sites k = if k == ordinal then s else sites k
+abbrev pub locations_after_setting : ℕ → LoweredLocation → (ℕ → LoweredLocation) → ℕ → LoweredLocation
+locations_after_setting ordinal s sites k = if k == ordinal then s else sites k
 
--- Returns the location of each ordinal, once the location of one ordinal is set to `s`. For None,
+-- Returns the location of each ordinal after the location of one ordinal was set to `s`. For None,
 -- all locations are unchanged.
-abbrev pub locations_with_binding : Option ℕ → LoweredLocation → (ℕ → LoweredLocation) → ℕ → LoweredLocation
-locations_with_binding None s sites = sites
-locations_with_binding (Some ordinal) s sites = locations_with ordinal s sites
+abbrev pub locations_after_binding : Option ℕ → LoweredLocation → (ℕ → LoweredLocation) → ℕ → LoweredLocation
+locations_after_binding None s sites = sites
+locations_after_binding (Some ordinal) s sites = locations_after_setting ordinal s sites
 
--- Returns the location of each ordinal, once all hidden locations are restored. The list begins
+-- Returns the location of each ordinal after all hidden locations were restored. The list begins
 -- with the location that was hidden first.
 abbrev pub locations_before_hiding : List HiddenLocation → (ℕ → LoweredLocation) → ℕ → LoweredLocation
 locations_before_hiding [] sites = sites
-locations_before_hiding (h ∷ later) sites = locations_with h.ordinal h.earlier_location (locations_before_hiding later sites)
+locations_before_hiding (h ∷ later) sites = locations_after_setting h.ordinal h.earlier_location (locations_before_hiding later sites)
 
 -- states that the ordinals of all hidden locations in a list are below `n`
 abbrev pub OrdinalsAreBelow : ℕ → List HiddenLocation → Type 0
@@ -152,11 +152,11 @@ pub record HidesMoreLocations (w v : VisibleLocations) : Type 0 where
   pub longer : length w.sites.items ≤ length v.sites.items
   pub restores_locations : (k : ℕ) → locations_before_hiding more (location_at v.sites.items) k ≡ location_at w.sites.items k
 
--- States that the locations that were hidden since the table `w` are restored. `u` is the table
--- before this, and `v` is the table after it. `v` has the locations and the hidden locations of
--- `w`, and as many entries as `u`.
-abbrev pub IsRestored : VisibleLocations → VisibleLocations → VisibleLocations → Type 0
-IsRestored w u v =
+-- States that in the table `v` the locations that were hidden since the table `w` are restored: `v`
+-- has the locations and the hidden locations of `w`. `v` also has as many entries as `u`, which is
+-- the table before they were restored.
+abbrev pub HiddenLocationsAreRestored : VisibleLocations → VisibleLocations → VisibleLocations → Type 0
+HiddenLocationsAreRestored w u v =
     (v.hidden.items ≡ w.hidden.items)
     × ((k : ℕ) → location_at v.sites.items k ≡ location_at w.sites.items k)
     × (length v.sites.items ≡ length u.sites.items)

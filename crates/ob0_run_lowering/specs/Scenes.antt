@@ -32,25 +32,25 @@ location_at sites k = slice_index_or sites k site.Nowhere
 
 -- Returns the place of the declaration that a label refers to, as seen from the scene's body.
 -- Returns `nowhere` if the label isn't bound.
-abbrev pub binding_place : Scene → Label → BindingPlace
-binding_place scene (declared k) = place_seen_from scene.depth (location_at scene.sites.now k)
-binding_place scene (as_written x) = nowhere
+abbrev pub place_of_label : Scene → Label → BindingPlace
+place_of_label scene (declared k) = place_seen_from scene.depth (location_at scene.sites.now k)
+place_of_label scene (as_written x) = nowhere
 
 -- Returns the slot of the variable that a label refers to, as seen from the scene's body. If the
 -- label refers to no variable, this is the module's first cell.
-abbrev pub slot_at : Scene → Label → Slot
-slot_at scene x = slot_of (binding_place scene x)
+abbrev pub slot_of_label : Scene → Label → Slot
+slot_of_label scene x = slot_of (place_of_label scene x)
 
 -- Returns the target of the procedure that a label refers to, as seen from the scene's body. If the
 -- label refers to no procedure, this is index 0, and 0 levels out.
-abbrev pub target_at : Scene → Label → Target
-target_at scene x = target_of (binding_place scene x)
+abbrev pub target_of_label : Scene → Label → Target
+target_of_label scene x = target_of (place_of_label scene x)
 
 -- Returns the object of the declaration that a label refers to. Returns None if the label isn't
 -- bound.
-abbrev pub object_at : Tables → Label → Option (Object Shape Signature)
-object_at t (declared k) = declared_object_in t k
-object_at t (as_written x) = None
+abbrev pub object_of_label : Tables → Label → Option (Object Shape Signature)
+object_of_label t (declared k) = declared_object_in t k
+object_of_label t (as_written x) = None
 
 -- States that a scene agrees with the checker about the names of a body. The scene has the object
 -- that the checker found for each bound name (`checked`), the slot of each variable (`slots`), and
@@ -59,11 +59,11 @@ pub record SceneAgrees (scene : Scene) (checked : TypeMeanings Label) (slots : L
     (targets : Label → Target) : Type 0 where
   pub bound : (x : Label) (o : Object Shape Signature)
       → checked.object_for x ≡ Some o
-      → object_at scene.types.now x ≡ Some o
+      → object_of_label scene.types.now x ≡ Some o
   pub written : checked.written ≡ label_text
   pub variables : (x : Label) (s : Shape)
       → checked.object_for x ≡ Some (a_variable s)
-      → slots x ≡ slot_at scene x
+      → slots x ≡ slot_of_label scene x
   pub procedures : (x : Label) (p : Signature)
       → checked.object_for x ≡ Some (a_procedure p)
-      → targets x ≡ target_at scene x
+      → targets x ≡ target_of_label scene x

@@ -12,8 +12,8 @@ use Rattle.ob0_language_values.specs.Values.{Shape}
 use Rattle.ob0_run_machine.specs.Lowered as lowered
 use Rattle.ob0_run_machine.specs.View.{number_of, place_of, truth_of}
 use Rattle.ob0_run_cells.specs.Lowering.{slot_place}
-use Rattle.ob0_run_lowering.specs.Codes.{ExpressionCode, FoundPlace, a_block, a_number, a_truth, addition_code, indexed_place, record_field_place, multiplication_code, designator_code, negation_code, no_code, relation_code, signed_code}
-use Rattle.ob0_run_lowering.specs.Scenes.{object_at, slot_at}
+use Rattle.ob0_run_lowering.specs.Codes.{ExpressionCode, PlaceWithShape, a_block, a_number, a_truth, addition_code, indexed_place, record_field_place, multiplication_code, designator_code, negation_code, no_code, relation_code, signed_code}
+use Rattle.ob0_run_lowering.specs.Scenes.{object_of_label, slot_of_label}
 use Rattle.ob0_run_lowering.specs.declared.lowered.TypedPlace.{TypedPlace}
 use Rattle.ob0_run_lowering.specs.declared.lowered.LoweredExpression.{LoweredExpression}
 use Rattle.ob0_run_lowering.specs.declared.lowered.LoweredExpression.TheVariants as code
@@ -26,19 +26,19 @@ code_of (code.Truth t) = a_truth (truth_of t)
 code_of (code.Block q n) = a_block (place_of q) n
 code_of code.Nothing = no_code
 
--- converts a `TypedPlace` to a `FoundPlace`, given the types of the table of types
-abbrev pub found_place_of : List Shape → TypedPlace → FoundPlace
-found_place_of shapes l = record { place = place_of l.place; shape = type_shape shapes l.type_id }
+-- converts a `TypedPlace` to a `PlaceWithShape`, given the types of the table of types
+abbrev pub place_with_shape_of : List Shape → TypedPlace → PlaceWithShape
+place_with_shape_of shapes l = record { place = place_of l.place; shape = type_shape shapes l.type_id }
 
 -- returns the place `q` and the type of a variable, or None if the object isn't a variable
-abbrev pub variable_place : lowered.Place → Option (Object Shape Signature) → Option FoundPlace
+abbrev pub variable_place : lowered.Place → Option (Object Shape Signature) → Option PlaceWithShape
 variable_place q (Some (a_variable s)) = Some (record { place = q; shape = s })
 variable_place q _ = None
 
 -- Returns the place and the type of the variable or parameter that a label refers to, without any
 -- selectors. Returns None if the label is unbound, or refers to another kind of object.
-abbrev pub base_place : Scene → Label → Option FoundPlace
-base_place scene x = variable_place (slot_place (slot_at scene x)) (object_at scene.types.now x)
+abbrev pub base_place : Scene → Label → Option PlaceWithShape
+base_place scene x = variable_place (slot_place (slot_of_label scene x)) (object_of_label scene.types.now x)
 
 abbrev mutual
   -- returns the code of an expression, which is one simple expression or a relation between two
@@ -47,8 +47,8 @@ abbrev mutual
   expression_code scene (compares a (one (relates r b))) =
       relation_code r (simple_code scene a) (simple_code scene b)
 
-  -- returns the code of a simple expression: begins with the first term and its sign, then adds the
-  -- further terms
+  -- returns the code of a simple expression: the code of the first term with its sign, combined
+  -- with each further term from left to right
   pub simple_code : Scene → Tree Label simple → ExpressionCode
   simple_code scene (sum s t rest) = addends_code scene (signed_code s (term_code scene t)) rest
 
@@ -58,8 +58,8 @@ abbrev mutual
   addends_code scene c (more (adds o t) rest) =
       addends_code scene (addition_code o c (term_code scene t)) rest
 
-  -- returns the code of a term: combines the first factor with each further factor, from left to
-  -- right
+  -- returns the code of a term: the code of the first factor, combined with each further factor
+  -- from left to right
   pub term_code : Scene → Tree Label term → ExpressionCode
   term_code scene (product f rest) = multipliers_code scene (factor_code scene f) rest
 
@@ -69,11 +69,11 @@ abbrev mutual
   multipliers_code scene c (more (multiplies o f) rest) =
       multipliers_code scene (multiplication_code o c (factor_code scene f)) rest
 
-  -- Returns the code of a factor. A designator has the code of a constant's value or of the value
-  -- at a place.
+  -- Returns the code of a factor. For a designator, this is the code of the constant's value, or of
+  -- the value at the variable's place.
   pub factor_code : Scene → Tree Label factor → ExpressionCode
   factor_code scene (designator x path) =
-      designator_code (constant_of (object_at scene.types.now x))
+      designator_code (constant_of (object_of_label scene.types.now x))
       (selected_place scene (base_place scene x) path)
   factor_code scene (integer n) = a_number (lowered.literal (pos n))
   factor_code scene (parenthesised e) = expression_code scene e
@@ -81,7 +81,7 @@ abbrev mutual
 
   -- Returns the place and the type that selectors reach from a place, one selector after the other.
   -- Returns None if no place was found, or if a selector selects nothing.
-  pub selected_place : Scene → Option FoundPlace → Tree Label (items selector) → Option FoundPlace
+  pub selected_place : Scene → Option PlaceWithShape → Tree Label (items selector) → Option PlaceWithShape
   selected_place scene found end = found
   selected_place scene found (more (field x) rest) =
       selected_place scene (option_and_then (record_field_place (label_text x)) found) rest
@@ -91,8 +91,8 @@ abbrev mutual
 -- Returns the place and the type that one selector reaches from a place. Returns None if no place
 -- was found, or if the selector selects nothing.
 abbrev pub place_after_selector : Scene
-    → Option FoundPlace
+    → Option PlaceWithShape
     → Tree Label (item selector)
-    → Option FoundPlace
+    → Option PlaceWithShape
 place_after_selector scene found (field x) = option_and_then (record_field_place (label_text x)) found
 place_after_selector scene found (index e) = indexed_place (expression_code scene e) found

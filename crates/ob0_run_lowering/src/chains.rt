@@ -15,7 +15,7 @@
 
 ghost use Rattle.std.specs.Prelude.{◌≡◌, ◌≤◌, IfOk, IfSome, max, suc};
 ghost use Rattle.ob0_run_machine.specs.Lowered as machine;
-ghost use Rattle.ob0_run_machine.specs.View.{conjunction_of, disjunction_of, operation_with_link, chain_of, first_of, number_of, operation_of, operator_of, truth_of, variable_of};
+ghost use Rattle.ob0_run_machine.specs.View.{conjunction_of, disjunction_of, operation_with_link, chain_of, first_operand_of, number_of, operation_of, operator_of, truth_of, variable_of};
 ghost use Rattle.ob0_run_lowering.specs.TruthDepths.{and_depth, or_depth};
 ghost use Rattle.ob0_run_machine.specs.declared.code.TruthList.{out-TruthList};
 
@@ -76,13 +76,17 @@ fn reversed_link(operator: Operator, variable: Variable) -> Option<Link>
 
 /// Returns the number that is a single operation: the link applied to the first operand.
 fn single_operation(alloc: Global, first: FirstOperand, link: Link) -> Result<Number, AllocError>
-    ensures { IfOk result (λ n. number_of n ≡ operation_with_link link (first_of first)) }
+    ensures { IfOk result (λ n. number_of n ≡ operation_with_link link (first_operand_of first)) }
 {
     Ok(Number::Operation(Box::new(alloc, Operation { first, link })?))
 }
 
 /// Returns the chain that applies a second link, `next`, to the result of an operation.
-fn two_operations(alloc: Global, operation: Operation, next: Link) -> Result<Number, AllocError>
+fn chain_of_two_operations(
+    alloc: Global,
+    operation: Operation,
+    next: Link,
+) -> Result<Number, AllocError>
     ensures { IfOk result (λ n. number_of n ≡ operation_with_link next (operation_of operation)) }
 {
     let Operation { first, link } = operation;
@@ -103,7 +107,7 @@ fn extended_chain(alloc: Global, chain: Chain, link: Link) -> Result<Number, All
 
 /// Returns the operation with a variable as the left operand and the number `right` as the right
 /// operand. The result is a single operation, even if `right` is a chain.
-fn plain_operation(
+fn single_operation_on_variable(
     alloc: Global,
     operator: Operator,
     variable: Variable,
@@ -134,12 +138,16 @@ fn operation_on_variable(
         (machine.cell (variable_of variable)) (number_of right)) }
 {
     let Some(link) = reversed_link(operator, variable) else {
-        return plain_operation(alloc, operator, variable, right);
+        return single_operation_on_variable(alloc, operator, variable, right);
     };
     match right {
         Number::Chain(chain) => extended_chain(alloc, Box::into_inner(chain), link),
-        Number::Operation(operation) => two_operations(alloc, Box::into_inner(operation), link),
-        other => plain_operation(alloc, operator, variable, other),
+        Number::Operation(operation) => chain_of_two_operations(
+            alloc,
+            Box::into_inner(operation),
+            link,
+        ),
+        other => single_operation_on_variable(alloc, operator, variable, other),
     }
 }
 
@@ -162,7 +170,7 @@ pub(crate) fn operation_on_numbers(
             link(operator, right),
         ),
         Number::Operation(operation) => {
-            two_operations(alloc, Box::into_inner(operation), link(operator, right))
+            chain_of_two_operations(alloc, Box::into_inner(operation), link(operator, right))
         }
         Number::Literal(n) => single_operation(
             alloc,
@@ -260,7 +268,7 @@ pub(crate) fn negation(alloc: Global, truth: Truth) -> Result<Truth, AllocError>
     }
 }
 
-fn plain_conjunction(alloc: Global, left: Truth, right: Truth) -> Result<Truth, AllocError>
+fn conjunction_pair(alloc: Global, left: Truth, right: Truth) -> Result<Truth, AllocError>
     ensures meaning { IfOk result
         (λ t. truth_of t ≡ machine.both (truth_of left) (truth_of right)) }
     ensures depth { IfOk result (λ t. and_depth t ≡ suc (and_depth left)) }
@@ -269,7 +277,7 @@ fn plain_conjunction(alloc: Global, left: Truth, right: Truth) -> Result<Truth, 
     Ok(Truth::Both(Box::new(alloc, TruthPair { left, right })?))
 }
 
-fn plain_disjunction(alloc: Global, left: Truth, right: Truth) -> Result<Truth, AllocError>
+fn disjunction_pair(alloc: Global, left: Truth, right: Truth) -> Result<Truth, AllocError>
     ensures meaning { IfOk result
         (λ t. truth_of t ≡ machine.either (truth_of left) (truth_of right)) }
     ensures depth { IfOk result (λ t. or_depth t ≡ suc (or_depth left)) }
@@ -299,39 +307,39 @@ pub(crate) fn conjunction_of_two(
             } = Box::into_inner(truths);
             conjunction_of_three(alloc, left, second, right)
         }
-        Truth::Constant(b) => plain_conjunction(alloc, Truth::Constant(b), right),
-        Truth::Flag(place) => plain_conjunction(alloc, Truth::Flag(place), right),
-        Truth::Unset(place) => plain_conjunction(alloc, Truth::Unset(place), right),
-        Truth::Negation(truth) => plain_conjunction(alloc, Truth::Negation(truth), right),
-        Truth::Either(truths) => plain_conjunction(alloc, Truth::Either(truths), right),
-        Truth::Any(several) => plain_conjunction(alloc, Truth::Any(several), right),
-        Truth::Related(relation, operands) => plain_conjunction(
+        Truth::Constant(b) => conjunction_pair(alloc, Truth::Constant(b), right),
+        Truth::Flag(place) => conjunction_pair(alloc, Truth::Flag(place), right),
+        Truth::Unset(place) => conjunction_pair(alloc, Truth::Unset(place), right),
+        Truth::Negation(truth) => conjunction_pair(alloc, Truth::Negation(truth), right),
+        Truth::Either(truths) => conjunction_pair(alloc, Truth::Either(truths), right),
+        Truth::Any(several) => conjunction_pair(alloc, Truth::Any(several), right),
+        Truth::Related(relation, operands) => conjunction_pair(
             alloc,
             Truth::Related(relation, operands),
             right,
         ),
-        Truth::LessThanLiteral(variable, n) => plain_conjunction(
+        Truth::LessThanLiteral(variable, n) => conjunction_pair(
             alloc,
             Truth::LessThanLiteral(variable, n),
             right,
         ),
-        Truth::ComparedToLiteral(relation, variable, n) => plain_conjunction(
+        Truth::ComparedToLiteral(relation, variable, n) => conjunction_pair(
             alloc,
             Truth::ComparedToLiteral(relation, variable, n),
             right,
         ),
-        Truth::ComparedToVariable(relation, variable, other) => plain_conjunction(
+        Truth::ComparedToVariable(relation, variable, other) => conjunction_pair(
             alloc,
             Truth::ComparedToVariable(relation, variable, other),
             right,
         ),
-        Truth::ElementToVariable(relation, row, variable) => plain_conjunction(
+        Truth::ElementToVariable(relation, row, variable) => conjunction_pair(
             alloc,
             Truth::ElementToVariable(relation, row, variable),
             right,
         ),
-        Truth::Same(truths) => plain_conjunction(alloc, Truth::Same(truths), right),
-        Truth::Different(truths) => plain_conjunction(alloc, Truth::Different(truths), right),
+        Truth::Same(truths) => conjunction_pair(alloc, Truth::Same(truths), right),
+        Truth::Different(truths) => conjunction_pair(alloc, Truth::Different(truths), right),
     }
 }
 
@@ -356,38 +364,38 @@ pub(crate) fn disjunction_of_two(
             } = Box::into_inner(truths);
             disjunction_of_three(alloc, left, second, right)
         }
-        Truth::Constant(b) => plain_disjunction(alloc, Truth::Constant(b), right),
-        Truth::Flag(place) => plain_disjunction(alloc, Truth::Flag(place), right),
-        Truth::Unset(place) => plain_disjunction(alloc, Truth::Unset(place), right),
-        Truth::Negation(truth) => plain_disjunction(alloc, Truth::Negation(truth), right),
-        Truth::Both(truths) => plain_disjunction(alloc, Truth::Both(truths), right),
-        Truth::All(several) => plain_disjunction(alloc, Truth::All(several), right),
-        Truth::Related(relation, operands) => plain_disjunction(
+        Truth::Constant(b) => disjunction_pair(alloc, Truth::Constant(b), right),
+        Truth::Flag(place) => disjunction_pair(alloc, Truth::Flag(place), right),
+        Truth::Unset(place) => disjunction_pair(alloc, Truth::Unset(place), right),
+        Truth::Negation(truth) => disjunction_pair(alloc, Truth::Negation(truth), right),
+        Truth::Both(truths) => disjunction_pair(alloc, Truth::Both(truths), right),
+        Truth::All(several) => disjunction_pair(alloc, Truth::All(several), right),
+        Truth::Related(relation, operands) => disjunction_pair(
             alloc,
             Truth::Related(relation, operands),
             right,
         ),
-        Truth::LessThanLiteral(variable, n) => plain_disjunction(
+        Truth::LessThanLiteral(variable, n) => disjunction_pair(
             alloc,
             Truth::LessThanLiteral(variable, n),
             right,
         ),
-        Truth::ComparedToLiteral(relation, variable, n) => plain_disjunction(
+        Truth::ComparedToLiteral(relation, variable, n) => disjunction_pair(
             alloc,
             Truth::ComparedToLiteral(relation, variable, n),
             right,
         ),
-        Truth::ComparedToVariable(relation, variable, other) => plain_disjunction(
+        Truth::ComparedToVariable(relation, variable, other) => disjunction_pair(
             alloc,
             Truth::ComparedToVariable(relation, variable, other),
             right,
         ),
-        Truth::ElementToVariable(relation, row, variable) => plain_disjunction(
+        Truth::ElementToVariable(relation, row, variable) => disjunction_pair(
             alloc,
             Truth::ElementToVariable(relation, row, variable),
             right,
         ),
-        Truth::Same(truths) => plain_disjunction(alloc, Truth::Same(truths), right),
-        Truth::Different(truths) => plain_disjunction(alloc, Truth::Different(truths), right),
+        Truth::Same(truths) => disjunction_pair(alloc, Truth::Same(truths), right),
+        Truth::Different(truths) => disjunction_pair(alloc, Truth::Different(truths), right),
     }
 }

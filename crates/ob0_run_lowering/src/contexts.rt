@@ -22,7 +22,7 @@ impl<'g, 'k, 't> LoweringContext<'g, 'k, 't> {
     ghost use Rattle.ob0_types_table.specs.KnownTables.{shapes_of};
     ghost use Rattle.ob0_types_table.specs.Tables.{type_shape};
     ghost use Rattle.ob0_language_types.specs.Typing.{type_of_object};
-    ghost use Rattle.ob0_run_lowering.specs.Scenes.{object_at};
+    ghost use Rattle.ob0_run_lowering.specs.Scenes.{object_of_label};
     ghost use Rattle.ob0_run_lowering.specs.PlacedNames.{declared_size};
 
     /// Returns the type of the variable, parameter or constant that the name at a token declares.
@@ -30,7 +30,7 @@ impl<'g, 'k, 't> LoweringContext<'g, 'k, 't> {
     /// if the name declares nothing.
     fn type_of(&self, name: usize) -> Option<TypeId>
         ensures { option_map (type_shape (shapes_of self.now.types.now)) result
-            ≡ type_of_object (object_at self.now.types.now (label_at_token self.now.resolved.now name)) }
+            ≡ type_of_object (object_of_label self.now.types.now (label_at_token self.now.resolved.now name)) }
     {
         let ordinal = self.resolved.ordinal_at(name)?;
         self.types.declarations().declared_type(ordinal)
@@ -38,7 +38,7 @@ impl<'g, 'k, 't> LoweringContext<'g, 'k, 't> {
 
     /// Returns the number of cells of the variable that the name at a token declares, or 0 if the
     /// name has no type.
-    pub(crate) fn size_at_token(&self, name: usize) -> usize
+    pub(crate) fn declared_size_at_token(&self, name: usize) -> usize
         ensures { result ≡ declared_size self.now.types.now (label_at_token self.now.resolved.now name) }
     {
         match self.type_of(name) {

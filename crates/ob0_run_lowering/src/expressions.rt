@@ -6,7 +6,7 @@ ghost use Rattle.ob0_tree.specs.View.{expression_of};
 ghost use Rattle.ob0_tree.specs.declared.tree.Designator.{out-Designator};
 ghost use Rattle.ob0_language_types.specs.Selected.{selectors_in};
 ghost use Rattle.ob0_run_lowering.specs.LoweredMeans.{LocatesDesignator, LocatesLoneDesignator, LowersExpression, LowersArgument, LowersNumber, LowersTruth};
-ghost use Rattle.ob0_run_lowering.specs.Parts.{KeepsNumber, KeepsFoundPlace, KeepsTruth, PassesCode};
+ghost use Rattle.ob0_run_lowering.specs.Parts.{IsNumberInCode, IsFoundPlace, IsTruthInCode, PassesCode};
 ghost use Rattle.ob0_run_lowering.specs.TruthDepths.{IsFlat};
 ghost use Rattle.ob0_run_lowering.specs.declared.lowered.LoweredExpression.TheVariants as code;
 
@@ -20,7 +20,7 @@ use std::alloc::{AllocError, Global};
 
 /// Returns an expression's code if this code is a number, otherwise the literal 0.
 fn number_or_zero(lowered: LoweredExpression) -> Number
-    ensures { KeepsNumber lowered result }
+    ensures { IsNumberInCode lowered result }
 {
     match lowered {
         LoweredExpression::Number(number) => number,
@@ -32,7 +32,7 @@ fn number_or_zero(lowered: LoweredExpression) -> Number
 
 /// Returns an expression's code if this code is a truth, otherwise the constant FALSE.
 fn truth_or_false(lowered: LoweredExpression) -> Truth
-    ensures taken { KeepsTruth lowered result }
+    ensures taken { IsTruthInCode lowered result }
     ensures flat { IsFlat lowered → IsFlat (code.Truth result) }
 {
     match lowered {
@@ -66,7 +66,7 @@ fn fallback_place() -> TypedPlace {
 /// Returns the place in `found`. For None, which means that no place was found, returns the
 /// module's first cell, with an unknown type.
 fn found_or_fallback_place(found: Option<TypedPlace>) -> TypedPlace
-    ensures { KeepsFoundPlace found result }
+    ensures { IsFoundPlace found result }
 {
     match found {
         Some(located) => located,

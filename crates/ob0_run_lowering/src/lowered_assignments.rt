@@ -45,8 +45,8 @@ fn variable_assignment(
     }
 }
 
-/// Returns the code that applies a link, which is an operator with one operand, to a variable's
-/// value, and assigns the result to the same variable.
+/// Returns the code that applies a link to a variable's value, and assigns the result to the same
+/// variable.
 fn update_assignment(variable: Variable, link: Link) -> Instruction
     ensures { statement_of result ≡ machine.stores_number (variable_of variable)
         (operation_with_link link (machine.cell (variable_of variable))) }

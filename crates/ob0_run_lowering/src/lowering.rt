@@ -11,7 +11,7 @@
 
 ghost use Rattle.std.specs.Prelude.{◌≡◌, IfOk, Some, option_and_then, option_map, pos};
 ghost use Rattle.ob0_tree.specs.Places.{token_value_at};
-ghost use Rattle.ob0_tree.specs.View.{compound_of, designator_of, expression_of, factor_of, selector_of, simple_of, term_of};
+ghost use Rattle.ob0_tree.specs.View.{compound_expression_of, designator_of, expression_of, factor_of, selector_of, simple_expression_of, term_of};
 ghost use Rattle.ob0_tree.specs.declared.tree.Designator.{out-Designator};
 ghost use Rattle.ob0_language_names.specs.Names.{label_text};
 ghost use Rattle.ob0_types_table.specs.KnownTables.{shapes_of};
@@ -23,13 +23,13 @@ ghost use Rattle.ob0_language_types.specs.Typing.{constant_of};
 ghost use Rattle.ob0_language_values.specs.Scalars.{scalar_value};
 ghost use Rattle.ob0_run_machine.specs.View.{number_of};
 ghost use Rattle.ob0_run_lowering.specs.TruthDepths.{IsFlat};
-ghost use Rattle.ob0_run_lowering.specs.Codes.{a_number, constant_code, element_place, indexed_place, record_field_place, code_at_place, code_at};
-ghost use Rattle.ob0_run_lowering.specs.Scenes.{object_at};
-ghost use Rattle.ob0_run_lowering.specs.Trees.{base_place, code_of, expression_code, factor_code, found_place_of, place_after_selector, selected_place, simple_code, term_code};
+ghost use Rattle.ob0_run_lowering.specs.Codes.{a_number, constant_code, element_place, indexed_place, record_field_place, code_of_value_at_place, code_of_value_if_found};
+ghost use Rattle.ob0_run_lowering.specs.Scenes.{object_of_label};
+ghost use Rattle.ob0_run_lowering.specs.Trees.{base_place, code_of, expression_code, factor_code, place_with_shape_of, place_after_selector, selected_place, simple_code, term_code};
 
 use crate::lowered::{LoweredExpression, TypedPlace};
 use crate::operators::{
-    lower_addend, lower_multiplier, lower_negation, lower_relation, lower_sign,
+    lower_addition, lower_multiplication, lower_negation, lower_relation, lower_sign,
 };
 use crate::places::{element, number_at_place, part};
 use crate::scene::Scene;
@@ -57,7 +57,7 @@ impl<'s, 'k, 't> Scene<'s, 'k, 't> {
     /// refers to no variable.
     fn variable_type(&self, name: usize) -> Option<TypeId>
         ensures { option_map (type_shape (shapes_of self.now.types.now)) result
-            ≡ variable_shape (object_at self.now.types.now (label_at_token self.now.resolved.now name)) }
+            ≡ variable_shape (object_of_label self.now.types.now (label_at_token self.now.resolved.now name)) }
     {
         match self.object(name)? {
             Object::Variable(of) => Some(*of),
@@ -73,7 +73,7 @@ impl<'s, 'k, 't> Scene<'s, 'k, 't> {
     /// refers to no constant.
     fn constant_at_token(&self, name: usize) -> Option<Scalar>
         ensures { option_map scalar_value result
-            ≡ constant_of (object_at self.now.types.now (label_at_token self.now.resolved.now name)) }
+            ≡ constant_of (object_of_label self.now.types.now (label_at_token self.now.resolved.now name)) }
     {
         match self.object(name)? {
             Object::Constant(value) => Some(*value),
@@ -106,7 +106,7 @@ impl<'s, 'k, 't> Scene<'s, 'k, 't> {
     /// Returns the place of the variable that the name at a token refers to, before any selectors.
     /// Returns None if the name refers to no variable.
     fn locate_base(&self, alloc: Global, name: usize) -> Result<Option<TypedPlace>, AllocError>
-        ensures { IfOk result (λ o. option_map (found_place_of (shapes_of self.now.types.now)) o
+        ensures { IfOk result (λ o. option_map (place_with_shape_of (shapes_of self.now.types.now)) o
             ≡ base_place self.now (label_at_token self.now.resolved.now name)) }
     {
         match self.variable_type(name) {
@@ -120,10 +120,10 @@ impl<'s, 'k, 't> Scene<'s, 'k, 't> {
 
     /// Returns the code of the value at a place: a number, a truth, or the cells of an array or a
     /// record.
-    fn code_at_place(&self, at: TypedPlace) -> LoweredExpression
+    fn code_of_value_at_place(&self, at: TypedPlace) -> LoweredExpression
         ensures code { code_of result
-            ≡ code_at_place (found_place_of (shapes_of self.now.types.now) at).place
-            (found_place_of (shapes_of self.now.types.now) at).shape }
+            ≡ code_of_value_at_place (place_with_shape_of (shapes_of self.now.types.now) at).place
+            (place_with_shape_of (shapes_of self.now.types.now) at).shape }
         ensures flat { IsFlat result }
     {
         let TypedPlace { place, type_id } = at;
@@ -136,14 +136,14 @@ impl<'s, 'k, 't> Scene<'s, 'k, 't> {
         }
     }
 
-    fn code_at(&self, at: Option<TypedPlace>) -> LoweredExpression
+    fn code_of_value_if_found(&self, at: Option<TypedPlace>) -> LoweredExpression
         ensures code { code_of result
-            ≡ code_at (option_map (found_place_of (shapes_of self.now.types.now)) at) }
+            ≡ code_of_value_if_found (option_map (place_with_shape_of (shapes_of self.now.types.now)) at) }
         ensures flat { IsFlat result }
     {
         match at {
             None => LoweredExpression::Nothing,
-            Some(at) => self.code_at_place(at),
+            Some(at) => self.code_of_value_at_place(at),
         }
     }
 
@@ -155,9 +155,9 @@ impl<'s, 'k, 't> Scene<'s, 'k, 't> {
         at: TypedPlace,
         name: usize,
     ) -> Result<Option<TypedPlace>, AllocError>
-        ensures { IfOk result (λ o. option_map (found_place_of (shapes_of self.now.types.now)) o
+        ensures { IfOk result (λ o. option_map (place_with_shape_of (shapes_of self.now.types.now)) o
             ≡ record_field_place (label_text (label_at_token self.now.resolved.now name))
-            (found_place_of (shapes_of self.now.types.now) at)) }
+            (place_with_shape_of (shapes_of self.now.types.now) at)) }
     {
         let TypedPlace { place, type_id } = at;
         let name = self.field_name(name);
@@ -182,10 +182,10 @@ impl<'s, 'k, 't> Scene<'s, 'k, 't> {
         at: TypedPlace,
         index: Number,
     ) -> Result<Option<TypedPlace>, AllocError>
-        ensures { IfOk result (λ o. option_map (found_place_of (shapes_of self.now.types.now)) o
+        ensures { IfOk result (λ o. option_map (place_with_shape_of (shapes_of self.now.types.now)) o
             ≡ element_place (a_number (number_of index))
-            (found_place_of (shapes_of self.now.types.now) at).place
-            (found_place_of (shapes_of self.now.types.now) at).shape) }
+            (place_with_shape_of (shapes_of self.now.types.now) at).place
+            (place_with_shape_of (shapes_of self.now.types.now) at).shape) }
     {
         let TypedPlace { place, type_id } = at;
         match self.types.declarations().parts(type_id) {
@@ -210,9 +210,9 @@ impl<'s, 'k, 't> Scene<'s, 'k, 't> {
         at: Option<TypedPlace>,
         index: LoweredExpression,
     ) -> Result<Option<TypedPlace>, AllocError>
-        ensures { IfOk result (λ o. option_map (found_place_of (shapes_of self.now.types.now)) o
+        ensures { IfOk result (λ o. option_map (place_with_shape_of (shapes_of self.now.types.now)) o
             ≡ indexed_place (code_of index)
-            (option_map (found_place_of (shapes_of self.now.types.now)) at)) }
+            (option_map (place_with_shape_of (shapes_of self.now.types.now)) at)) }
     {
         match at {
             None => Ok(None),
@@ -231,9 +231,9 @@ impl<'s, 'k, 't> Scene<'s, 'k, 't> {
         at: Option<TypedPlace>,
         name: usize,
     ) -> Result<Option<TypedPlace>, AllocError>
-        ensures { IfOk result (λ o. option_map (found_place_of (shapes_of self.now.types.now)) o
+        ensures { IfOk result (λ o. option_map (place_with_shape_of (shapes_of self.now.types.now)) o
             ≡ option_and_then (record_field_place (label_text (label_at_token self.now.resolved.now name)))
-            (option_map (found_place_of (shapes_of self.now.types.now)) at)) }
+            (option_map (place_with_shape_of (shapes_of self.now.types.now)) at)) }
     {
         match at {
             None => Ok(None),
@@ -254,46 +254,46 @@ impl<'s, 'k, 't> Scene<'s, 'k, 't> {
     {
         match e {
             Expression::Factor(f) => self.lower_factor(alloc, f),
-            Expression::CompoundExpression(c) => self.lower_compound(alloc, c),
+            Expression::CompoundExpression(c) => self.lower_compound_expression(alloc, c),
         }
     }
 
     #[cycle(lowering)]
-    fn lower_compound(
+    fn lower_compound_expression(
         &self,
         alloc: Global,
         c: &CompoundExpression,
     ) -> Result<LoweredExpression, AllocError>
         ensures code { IfOk result (λ l. code_of l
-            ≡ expression_code self.now (tree_with_labels self.now.resolved.now (compound_of c.now))) }
+            ≡ expression_code self.now (tree_with_labels self.now.resolved.now (compound_expression_of c.now))) }
         ensures flat { IfOk result IsFlat }
     {
-        let left = self.lower_simple(alloc, &c.left)?;
+        let left = self.lower_simple_expression(alloc, &c.left)?;
         match &c.compared {
             None => Ok(left),
             Some(compared) => {
                 let compared: &Comparison = compared;
-                let right = self.lower_simple(alloc, &compared.right)?;
+                let right = self.lower_simple_expression(alloc, &compared.right)?;
                 lower_relation(alloc, compared.relation, left, right)
             }
         }
     }
 
     #[cycle(lowering)]
-    fn lower_simple(
+    fn lower_simple_expression(
         &self,
         alloc: Global,
         s: &SimpleExpression,
     ) -> Result<LoweredExpression, AllocError>
         ensures code { IfOk result (λ l. code_of l
-            ≡ simple_code self.now (tree_with_labels self.now.resolved.now (simple_of s.now))) }
+            ≡ simple_code self.now (tree_with_labels self.now.resolved.now (simple_expression_of s.now))) }
         ensures flat { IfOk result IsFlat }
     {
         let first = self.lower_term(alloc, &s.first)?;
         let mut so_far = lower_sign(alloc, s.sign, first)?;
         for addend in &s.more {
             let term = self.lower_term(alloc, &addend.term)?;
-            so_far = lower_addend(alloc, addend.operator, so_far, term)?;
+            so_far = lower_addition(alloc, addend.operator, so_far, term)?;
         }
         Ok(so_far)
     }
@@ -307,7 +307,7 @@ impl<'s, 'k, 't> Scene<'s, 'k, 't> {
         let mut so_far = self.lower_factor(alloc, &t.first)?;
         for multiplier in &t.more {
             let factor = self.lower_factor(alloc, &multiplier.factor)?;
-            so_far = lower_multiplier(alloc, multiplier.operator, so_far, factor)?;
+            so_far = lower_multiplication(alloc, multiplier.operator, so_far, factor)?;
         }
         Ok(so_far)
     }
@@ -347,7 +347,7 @@ impl<'s, 'k, 't> Scene<'s, 'k, 't> {
             Some(value) => Ok(lower_constant(value)),
             None => {
                 let at = self.locate(alloc, d)?;
-                Ok(self.code_at(at))
+                Ok(self.code_of_value_if_found(at))
             }
         }
     }
@@ -360,7 +360,7 @@ impl<'s, 'k, 't> Scene<'s, 'k, 't> {
         alloc: Global,
         d: &Designator,
     ) -> Result<Option<TypedPlace>, AllocError>
-        ensures { IfOk result (λ o. option_map (found_place_of (shapes_of self.now.types.now)) o
+        ensures { IfOk result (λ o. option_map (place_with_shape_of (shapes_of self.now.types.now)) o
             ≡ selected_place self.now
             (base_place self.now (label_at_token self.now.resolved.now (out-Designator d.now).name))
             (tree_with_labels self.now.resolved.now (selectors_in d.now))) }
@@ -379,8 +379,8 @@ impl<'s, 'k, 't> Scene<'s, 'k, 't> {
         at: Option<TypedPlace>,
         s: &Selector,
     ) -> Result<Option<TypedPlace>, AllocError>
-        ensures { IfOk result (λ o. option_map (found_place_of (shapes_of self.now.types.now)) o
-            ≡ place_after_selector self.now (option_map (found_place_of (shapes_of self.now.types.now)) at)
+        ensures { IfOk result (λ o. option_map (place_with_shape_of (shapes_of self.now.types.now)) o
+            ≡ place_after_selector self.now (option_map (place_with_shape_of (shapes_of self.now.types.now)) at)
             (tree_with_labels self.now.resolved.now (selector_of s.now))) }
     {
         match s {

@@ -15,7 +15,7 @@ use crate::chains::{conjunction_of_two, disjunction_of_two, negation, operation_
 use crate::lowered::LoweredExpression;
 use ob0_run_machine::code;
 use ob0_run_machine::code::{
-    Number, Operands, Operator, Place, Truth, TruthPair, Variable, VariableElement,
+    Number, NumberPair, Operator, Place, Truth, TruthPair, Variable, VariableElement,
 };
 use ob0_tree::{AddOperator, MultiplyOperator, Relation, Sign};
 use std::alloc::{AllocError, Global};
@@ -44,7 +44,7 @@ fn truth_in(operand: LoweredExpression) -> Option<Truth>
     }
 }
 
-fn lower_operation(
+fn lower_number_operation(
     alloc: Global,
     operator: Operator,
     left: LoweredExpression,
@@ -102,7 +102,7 @@ fn lower_disjunction(
     Ok(LoweredExpression::Truth(truth))
 }
 
-pub(crate) fn lower_addend(
+pub(crate) fn lower_addition(
     alloc: Global,
     operator: AddOperator,
     left: LoweredExpression,
@@ -113,13 +113,13 @@ pub(crate) fn lower_addend(
     ensures flat { IfOk result (IsNoDeeper left) }
 {
     match operator {
-        AddOperator::Add => lower_operation(alloc, Operator::Sum, left, right),
-        AddOperator::Subtract => lower_operation(alloc, Operator::Difference, left, right),
+        AddOperator::Add => lower_number_operation(alloc, Operator::Sum, left, right),
+        AddOperator::Subtract => lower_number_operation(alloc, Operator::Difference, left, right),
         AddOperator::Or => lower_disjunction(alloc, left, right),
     }
 }
 
-pub(crate) fn lower_multiplier(
+pub(crate) fn lower_multiplication(
     alloc: Global,
     operator: MultiplyOperator,
     left: LoweredExpression,
@@ -130,9 +130,9 @@ pub(crate) fn lower_multiplier(
     ensures flat { IfOk result (IsNoDeeper left) }
 {
     match operator {
-        MultiplyOperator::Multiply => lower_operation(alloc, Operator::Product, left, right),
-        MultiplyOperator::Divide => lower_operation(alloc, Operator::Quotient, left, right),
-        MultiplyOperator::Modulo => lower_operation(alloc, Operator::Remainder, left, right),
+        MultiplyOperator::Multiply => lower_number_operation(alloc, Operator::Product, left, right),
+        MultiplyOperator::Divide => lower_number_operation(alloc, Operator::Quotient, left, right),
+        MultiplyOperator::Modulo => lower_number_operation(alloc, Operator::Remainder, left, right),
         MultiplyOperator::And => lower_conjunction(alloc, left, right),
     }
 }
@@ -159,7 +159,7 @@ fn lower_plus(alloc: Global, operand: LoweredExpression) -> Result<LoweredExpres
         (λ l. code_of l ≡ codes.signed_code (Some signs.Plus) (code_of operand)) }
     ensures flat { IfOk result (IsNoDeeper operand) }
 {
-    lower_operation(
+    lower_number_operation(
         alloc,
         Operator::Sum,
         operand,
@@ -215,8 +215,8 @@ fn comparator_of(relation: Relation) -> code::Comparator
 }
 
 /// Returns the code of a comparison of a variable with a literal.
-fn compare_to_literal(relation: code::Comparator, variable: Variable, n: i32) -> Truth
-    ensures code { truth_of result ≡ view.variable_relation relation variable (machine.literal n) }
+fn lower_literal_comparison(relation: code::Comparator, variable: Variable, n: i32) -> Truth
+    ensures code { truth_of result ≡ view.variable_comparison relation variable (machine.literal n) }
     ensures flat { (and_depth result ≡ 0) × (or_depth result ≡ 0) }
 {
     match relation {
@@ -227,22 +227,22 @@ fn compare_to_literal(relation: code::Comparator, variable: Variable, n: i32) ->
 
 /// Returns the code of a comparison of a variable with a number. If the number is a literal or
 /// another variable, the code is one node.
-fn compare_variable(
+fn lower_variable_comparison(
     alloc: Global,
     relation: code::Comparator,
     variable: Variable,
     right: Number,
 ) -> Result<Truth, AllocError>
     ensures code { IfOk result
-        (λ t. truth_of t ≡ view.variable_relation relation variable (number_of right)) }
+        (λ t. truth_of t ≡ view.variable_comparison relation variable (number_of right)) }
     ensures flat { IfOk result (λ t. (and_depth t ≡ 0) × (or_depth t ≡ 0)) }
 {
     match right {
-        Number::Literal(n) => Ok(compare_to_literal(relation, variable, n)),
+        Number::Literal(n) => Ok(lower_literal_comparison(relation, variable, n)),
         Number::Variable(other) => Ok(Truth::ComparedToVariable(relation, variable, other)),
         right => {
             let left = Number::Variable(variable);
-            let operands = Box::new(alloc, Operands { left, right })?;
+            let operands = Box::new(alloc, NumberPair { left, right })?;
             Ok(Truth::Related(relation, operands))
         }
     }
@@ -251,7 +251,7 @@ fn compare_variable(
 /// Returns the code of a comparison of the number at a place with the number `right`. The code is
 /// one node if the place is an element whose array and index are variables, and `right` is a
 /// variable.
-fn compare_cell(
+fn lower_cell_comparison(
     alloc: Global,
     relation: code::Comparator,
     place: Place,
@@ -262,16 +262,16 @@ fn compare_cell(
     ensures flat { IfOk result (λ t. (and_depth t ≡ 0) × (or_depth t ≡ 0)) }
 {
     match place {
-        Place::VariableElement(row) => compare_element(alloc, relation, *row, right),
+        Place::VariableElement(row) => lower_element_comparison(alloc, relation, *row, right),
         place => {
             let left = Number::Cell(place);
-            let operands = Box::new(alloc, Operands { left, right })?;
+            let operands = Box::new(alloc, NumberPair { left, right })?;
             Ok(Truth::Related(relation, operands))
         }
     }
 }
 
-fn compare_element(
+fn lower_element_comparison(
     alloc: Global,
     relation: code::Comparator,
     row: VariableElement,
@@ -288,14 +288,14 @@ fn compare_element(
         }
         right => {
             let left = Number::Cell(Place::VariableElement(Box::new(alloc, row)?));
-            let operands = Box::new(alloc, Operands { left, right })?;
+            let operands = Box::new(alloc, NumberPair { left, right })?;
             Ok(Truth::Related(relation, operands))
         }
     }
 }
 
 /// Returns the code of a comparison of two numbers.
-fn relate_numbers(
+fn lower_number_comparison(
     alloc: Global,
     relation: Relation,
     left: Number,
@@ -307,17 +307,17 @@ fn relate_numbers(
 {
     let relation = comparator_of(relation);
     match left {
-        Number::Variable(variable) => compare_variable(alloc, relation, variable, right),
-        Number::Cell(place) => compare_cell(alloc, relation, place, right),
+        Number::Variable(variable) => lower_variable_comparison(alloc, relation, variable, right),
+        Number::Cell(place) => lower_cell_comparison(alloc, relation, place, right),
         left => {
-            let operands = Box::new(alloc, Operands { left, right })?;
+            let operands = Box::new(alloc, NumberPair { left, right })?;
             Ok(Truth::Related(relation, operands))
         }
     }
 }
 
 /// Returns the code of `=` or `#` between two truths. Returns `Nothing` for any other relation.
-fn compare_truths(
+fn lower_truth_comparison(
     alloc: Global,
     relation: Relation,
     left: Truth,
@@ -359,7 +359,7 @@ fn lower_number_relation(
     let Some(second) = number_in(right) else {
         return Ok(LoweredExpression::Nothing);
     };
-    let truth = relate_numbers(alloc, relation, left, second)?;
+    let truth = lower_number_comparison(alloc, relation, left, second)?;
     Ok(LoweredExpression::Truth(truth))
 }
 
@@ -378,7 +378,7 @@ fn lower_truth_relation(
     let Some(second) = truth_in(right) else {
         return Ok(LoweredExpression::Nothing);
     };
-    compare_truths(alloc, relation, left, second)
+    lower_truth_comparison(alloc, relation, left, second)
 }
 
 pub(crate) fn lower_relation(

@@ -1,21 +1,21 @@
 //! Makes the code of places and of the values in them, in the form that the machine evaluates in
 //! the fewest steps.
 //!
-//! Offsets are added when a place is lowered (`part_at`). A field of a variable is a variable, and
-//! a field of an element is an element with an offset. An element at a literal index within its
-//! array is a part of the array (`element_at_place`). The part has the same address as the element
-//! in all activations and over all cells (`proofs/PartsFound`). So the machine takes one step for a
-//! field of a variable, as for the variable itself.
+//! Offsets are added when a place is lowered (`place_at_offset`). A field of a variable is a
+//! variable, and a field of an element is an element with an offset. An element at a literal index
+//! within its array is a part of the array (`place_of_element`). The part has the same address as
+//! the element in all activations and over all cells (`proofs/PartsFound`). So the machine takes
+//! one step for a field of a variable, as for the variable itself.
 
 ghost use Rattle.std.specs.Prelude.{◌≡◌, IfOk, length};
 ghost use Rattle.ob0_run_machine.specs.Lowered as machine;
-ghost use Rattle.ob0_run_machine.specs.View.{chain_of, element_of, first_of, number_of, place_of, variable_element_of, variable_of};
+ghost use Rattle.ob0_run_machine.specs.View.{chain_of, element_of, first_operand_of, number_of, place_of, variable_element_of, variable_of};
 ghost use Rattle.ob0_run_machine.specs.declared.code.Chain.{out-Chain};
-ghost use Rattle.ob0_run_cells.specs.Lowering.{part_at};
-ghost use Rattle.ob0_run_lowering.specs.Codes.{element_at_place, known_offset};
+ghost use Rattle.ob0_run_cells.specs.Lowering.{place_at_offset};
+ghost use Rattle.ob0_run_lowering.specs.Codes.{place_of_element, known_offset};
 
 use ob0_run_machine::code::{
-    Chain, Element, FirstOperand, Number, Place, Reference, Variable, VariableElement,
+    Chain, Element, FirstOperand, Number, Place, VarParameterPlace, Variable, VariableElement,
 };
 use std::alloc::{AllocError, Global};
 
@@ -31,7 +31,7 @@ pub(crate) fn number_at_place(place: Place) -> Number
 
 /// Returns the place that is `offset` cells after the start of the place `whole`.
 pub(crate) fn part(alloc: Global, whole: Place, offset: usize) -> Result<Place, AllocError>
-    ensures { IfOk result (λ p. place_of p ≡ part_at (place_of whole) offset) }
+    ensures { IfOk result (λ p. place_of p ≡ place_at_offset (place_of whole) offset) }
 {
     match whole {
         Place::Variable(variable) => part_of_variable(alloc, variable, offset),
@@ -40,7 +40,7 @@ pub(crate) fn part(alloc: Global, whole: Place, offset: usize) -> Result<Place, 
             offset: at.wrapping_add(offset),
         }),
         Place::Passed(r) => {
-            let Reference {
+            let VarParameterPlace {
                 up,
                 index,
                 offset: at,
@@ -53,7 +53,7 @@ pub(crate) fn part(alloc: Global, whole: Place, offset: usize) -> Result<Place, 
 }
 
 fn part_of_variable(alloc: Global, variable: Variable, offset: usize) -> Result<Place, AllocError>
-    ensures { IfOk result (λ p. place_of p ≡ part_at (variable_of variable) offset) }
+    ensures { IfOk result (λ p. place_of p ≡ place_at_offset (variable_of variable) offset) }
 {
     match variable {
         Variable::Module(at) => Ok(Place::Variable(Variable::Module(at.wrapping_add(offset)))),
@@ -83,7 +83,7 @@ pub(crate) fn reference(
             offset: offset as u32,
         }));
     }
-    let reference = Reference { up, index, offset };
+    let reference = VarParameterPlace { up, index, offset };
     Ok(Place::Passed(Box::new(alloc, reference)?))
 }
 
@@ -94,7 +94,7 @@ fn part_of_variable_element(
     row: VariableElement,
     offset: usize,
 ) -> Result<Place, AllocError>
-    ensures { IfOk result (λ p. place_of p ≡ part_at (variable_element_of row) offset) }
+    ensures { IfOk result (λ p. place_of p ≡ place_at_offset (variable_element_of row) offset) }
 {
     let row = VariableElement {
         offset: row.offset.wrapping_add(offset),
@@ -106,7 +106,7 @@ fn part_of_variable_element(
 /// Returns the place `element` with `offset` added to its field `offset`. `element` is a place in
 /// an element of an array.
 fn part_of_element(alloc: Global, element: Element, offset: usize) -> Result<Place, AllocError>
-    ensures { IfOk result (λ p. place_of p ≡ part_at (element_of element) offset) }
+    ensures { IfOk result (λ p. place_of p ≡ place_at_offset (element_of element) offset) }
 {
     let Element {
         array,
@@ -142,7 +142,7 @@ fn literal_offset(index: i32, length: usize, stride: usize) -> Option<usize>
 }
 
 fn first_operand_offset(first: &FirstOperand, length: usize, stride: usize) -> Option<usize>
-    ensures { result ≡ known_offset (first_of first.now) length stride }
+    ensures { result ≡ known_offset (first_operand_of first.now) length stride }
 {
     match first {
         FirstOperand::Literal(index) => literal_offset(*index, length, stride),
@@ -197,16 +197,16 @@ pub(crate) fn element(
     stride: usize,
 ) -> Result<Place, AllocError>
     ensures { IfOk result (λ p. place_of p
-        ≡ element_at_place (place_of array) (number_of index) length stride) }
+        ≡ place_of_element (place_of array) (number_of index) length stride) }
 {
     match known_offset(&index, length, stride) {
         Some(offset) => part(alloc, array, offset),
-        None => computed_element(alloc, array, index, length, stride),
+        None => element_at_computed_index(alloc, array, index, length, stride),
     }
 }
 
 /// Returns the place of an element whose index is evaluated during the run.
-fn computed_element(
+fn element_at_computed_index(
     alloc: Global,
     array: Place,
     index: Number,

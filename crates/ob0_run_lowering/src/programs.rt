@@ -10,7 +10,7 @@ ghost use Rattle.ob0_language_types.specs.WellTyped.{WellTyped};
 ghost use Rattle.ob0_language_names.specs.Names.{naming_by_label};
 ghost use Rattle.ob0_language_names.specs.Scopes.{numbered};
 ghost use Rattle.ob0_scope_table.specs.LabelledTrees.{tree_with_labels};
-ghost use Rattle.ob0_run_cells.specs.Activations.{ProgramMeans};
+ghost use Rattle.ob0_run_cells.specs.Activations.{ProgramMeansModule};
 ghost use Rattle.ob0_run_machine.specs.View.{program_of};
 ghost use Rattle.ob0_run_lowering.specs.Blocks.{LowersProcedures, LowersBlock};
 
@@ -45,7 +45,7 @@ impl Lowering {
     ghost use Rattle.ob0_run_lowering.specs.Scenes.{location_at};
     ghost use Rattle.ob0_run_lowering.specs.declared.scene.LoweredLocation.TheVariants as site;
     ghost use Rattle.ob0_run_machine.specs.declared.code.Routine as code;
-    ghost use Rattle.ob0_run_lowering.specs.PlacedNames.{HidesMoreLocations, locations_with_binding};
+    ghost use Rattle.ob0_run_lowering.specs.PlacedNames.{HidesMoreLocations, locations_after_binding};
 
     /// Stores the code of a procedure at the procedure's index. Does nothing if the list of
     /// procedures has no such index.
@@ -71,7 +71,7 @@ impl Lowering {
         ensures index { IfOk result (λ i. i ≡ length self.old.procedures.items) }
         ensures sites { IfOk result (λ i. (k : ℕ)
             → location_at self.new.visible.sites.items k
-            ≡ locations_with_binding (ordinal_in context.now.resolved.now.ordinals name) (site.Procedure depth i)
+            ≡ locations_after_binding (ordinal_in context.now.resolved.now.ordinals name) (site.Procedure depth i)
             (location_at self.old.visible.sites.items) k) }
         ensures follows { IfOk result (λ i. HidesMoreLocations self.old.visible self.new.visible) }
         ensures pushed { IfOk result (λ i. (e : code.Routine)
@@ -114,7 +114,7 @@ impl Lowering {
         };
         let frame = self.visible.place_formals(context, frame, &p.formals)?;
         let entry = self.lower_block(context, frame, &p.block)?;
-        self.visible.restore_hidden(outside);
+        self.visible.restore_hidden_locations(outside);
         self.set_routine(index, entry);
         Ok(())
     }
@@ -166,7 +166,7 @@ pub fn lower<'t>(
     ensures { IfOk result (λ made. WellTyped (named_tree_of resolved.now.module_read)
         → ((k : ℕ)
         → declared_object_in known.now k ≡ declared_object (named_tree_of resolved.now.module_read) k)
-        → ProgramMeans naming_by_label (numbered (named_tree_of resolved.now.module_read))
+        → ProgramMeansModule naming_by_label (numbered (named_tree_of resolved.now.module_read))
         (program_of made.code)) }
 {
     let types = TypeLayouts::new(alloc, known)?;

@@ -66,13 +66,13 @@ impl<'s, 'k, 't> Scene<'s, 'k, 't> {
     ghost use Rattle.ob0_scope_table.specs.LabelledTrees.{label_at_token};
     ghost use Rattle.ob0_types_table.specs.KnownTables.{shapes_of};
     ghost use Rattle.ob0_types_table.specs.Tables.{object_view};
-    ghost use Rattle.ob0_run_lowering.specs.Scenes.{object_at, place_seen_from, slot_at, target_at, binding_place};
+    ghost use Rattle.ob0_run_lowering.specs.Scenes.{object_of_label, place_seen_from, slot_of_label, target_of_label, place_of_label};
 
     /// Returns the object of the declaration that the name at a token refers to, or None if the
     /// name isn't bound.
     pub fn object(&self, name: usize) -> Option<&'k Object>
         ensures { option_and_then (λ o. object_view (shapes_of self.now.types.now) o.now) result
-            ≡ object_at self.now.types.now (label_at_token self.now.resolved.now name) }
+            ≡ object_of_label self.now.types.now (label_at_token self.now.resolved.now name) }
     {
         let ordinal = self.resolved.ordinal_at(name)?;
         self.types.declarations().object(ordinal)
@@ -82,7 +82,7 @@ impl<'s, 'k, 't> Scene<'s, 'k, 't> {
     /// `Nowhere` if the name is unbound, or if its declaration has no location.
     fn site(&self, name: usize) -> LoweredLocation
         ensures { place_seen_from self.now.depth result
-            ≡ binding_place self.now (label_at_token self.now.resolved.now name) }
+            ≡ place_of_label self.now (label_at_token self.now.resolved.now name) }
     {
         match self.resolved.ordinal_at(name) {
             None => LoweredLocation::Nowhere,
@@ -97,7 +97,7 @@ impl<'s, 'k, 't> Scene<'s, 'k, 't> {
     /// is in the scene's body. For any other name, the target is index 0, and 0 levels out.
     pub fn target(&self, name: usize) -> CallTarget
         ensures { record { procedure = result.procedure; up = result.up }
-            ≡ target_at self.now (label_at_token self.now.resolved.now name) }
+            ≡ target_of_label self.now (label_at_token self.now.resolved.now name) }
     {
         match self.site(name) {
             LoweredLocation::Procedure { depth, index } => CallTarget {
@@ -115,7 +115,7 @@ impl<'s, 'k, 't> Scene<'s, 'k, 't> {
     /// token refers to. For any other name, this is the module's first cell.
     pub(crate) fn variable(&self, alloc: Global, name: usize) -> Result<Place, AllocError>
         ensures { IfOk result (λ p. place_of p
-            ≡ slot_place (slot_at self.now (label_at_token self.now.resolved.now name))) }
+            ≡ slot_place (slot_of_label self.now (label_at_token self.now.resolved.now name))) }
     {
         match self.site(name) {
             LoweredLocation::Module(offset) => Ok(Place::Variable(Variable::Module(offset))),

@@ -11,7 +11,7 @@ ghost use Rattle.ob0_types_table.specs.FieldPlaces.{selected_field};
 ghost use Rattle.ob0_types_table.specs.KnownTables.{shapes_of};
 ghost use Rattle.ob0_types_table.specs.Tables.{field_shapes, entry_shape, faulty_shape, array_or_faulty, record_or_faulty, type_shape};
 ghost use Rattle.ob0_language_values.specs.Values as values;
-ghost use Rattle.ob0_run_lowering.specs.Layouts.{AreLaidOut, HaveLayouts, HasLayout, IsLayoutOfRecord};
+ghost use Rattle.ob0_run_lowering.specs.Layouts.{IsLayoutOfFields, HaveLayouts, HasLayout, IsLayoutOfRecord};
 
 use ob0_types_table::{DeclarationTable, Field, FieldId, TypeEntry, TypeId};
 use std::alloc::{AllocError, Global};
@@ -79,7 +79,7 @@ fn array_cells(layouts: &[Layout], place: usize) -> usize
 
 /// Returns the layout of the record type at the index `place` of the table of types. `layouts` has
 /// the layouts of this table. Returns None if the table has no record type at this index.
-fn record_at(layouts: &[Layout], place: usize) -> Option<&RecordLayout>
+fn record_layout_at(layouts: &[Layout], place: usize) -> Option<&RecordLayout>
     ensures { (shapes : List values.Shape)
         → HaveLayouts shapes layouts.now
         → IsLayoutOfRecord result (record_or_faulty (slice_index_or shapes place faulty_shape)) }
@@ -98,7 +98,7 @@ fn record_cells(layouts: &[Layout], place: usize) -> usize
         → HaveLayouts shapes layouts.now
         → result ≡ size (record_or_faulty (slice_index_or shapes place faulty_shape)) }
 {
-    match record_at(layouts, place) {
+    match record_layout_at(layouts, place) {
         None => 0,
         Some(record) => record.cells,
     }
@@ -106,7 +106,7 @@ fn record_cells(layouts: &[Layout], place: usize) -> usize
 
 /// Returns the number of cells of a type, from the layouts so far. Returns 0 for an unknown type,
 /// or if there is no layout of this type.
-fn size_in(layouts: &[Layout], of: TypeId) -> usize
+fn size_from_layouts(layouts: &[Layout], of: TypeId) -> usize
     ensures { (shapes : List values.Shape)
         → HaveLayouts shapes layouts.now
         → result ≡ size (type_shape shapes of) }
@@ -129,13 +129,13 @@ fn lay_out_record(
 ) -> Result<RecordLayout, AllocError>
     ensures { (shapes : List values.Shape)
         → HaveLayouts shapes layouts.now
-        → IfOk result (AreLaidOut (field_shapes shapes fields.now)) }
+        → IfOk result (IsLayoutOfFields (field_shapes shapes fields.now)) }
 {
     let mut offsets = Vec::new(alloc);
     let mut cells = 0;
     for field in fields {
         offsets.push(cells)?;
-        cells = cell_sum(cells, size_in(layouts, field.of))?;
+        cells = cell_sum(cells, size_from_layouts(layouts, field.of))?;
     }
     Ok(RecordLayout { cells, offsets })
 }
@@ -149,7 +149,7 @@ fn entry_layout(alloc: Global, layouts: &[Layout], shape: &TypeEntry) -> Result<
 {
     match shape {
         TypeEntry::Array(array) => {
-            let cells = cell_product(array.length, size_in(layouts, array.element))?;
+            let cells = cell_product(array.length, size_from_layouts(layouts, array.element))?;
             Ok(Layout::Array(cells))
         }
         TypeEntry::Record(record) => {
@@ -197,7 +197,7 @@ impl<'k> TypeLayouts<'k> {
     pub fn size(&self, of: TypeId) -> usize
         ensures { result ≡ size (type_shape (shapes_of self.now) of) }
     {
-        size_in(self.layouts.as_slice(), of)
+        size_from_layouts(self.layouts.as_slice(), of)
     }
 
     /// Returns the offset of the first field with this name, in cells from the start of its record.
@@ -223,7 +223,7 @@ fn offset_at(offsets: &[usize], index: usize) -> usize
 /// of the record.
 fn offset_of_field(laid: &RecordLayout, field: Option<FieldId>) -> usize
     ensures { (k : ℕ) (fs : values.FieldShapes) (x : Name)
-        → AreLaidOut fs laid.now
+        → IsLayoutOfFields fs laid.now
         → field ≡ selected_field (values.record_shape k fs) x
         → result ≡ field_offset fs x }
 {
@@ -238,7 +238,7 @@ fn named_field_offset(known: &DeclarationTable, layouts: &[Layout], of: TypeId, 
         → result ≡ step_offset (type_shape (shapes_of known.now) of) (values.at_field name.now) }
 {
     match of {
-        TypeId::Record(place) => match record_at(layouts, place) {
+        TypeId::Record(place) => match record_layout_at(layouts, place) {
             None => 0,
             Some(record) => offset_of_field(record, known.field(of, name)),
         },

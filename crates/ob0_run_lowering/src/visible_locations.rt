@@ -74,11 +74,11 @@ impl Frame {
 
 impl VisibleLocations {
     ghost use Rattle.std.specs.Prelude.{[], Some};
-    ghost use Rattle.ob0_tree.specs.View.{formals_of, items_of, further_section_of, names_of, variable_of, variables_of};
+    ghost use Rattle.ob0_tree.specs.View.{formals_of, items_of, further_parameter_section_of, names_of, variable_of, variables_of};
     ghost use Rattle.ob0_language_names.specs.Parts.{formal_sections, names_in_list, section_variables};
     ghost use Rattle.ob0_scope_table.specs.LabelledTrees.{tree_with_labels, label_at_token};
-    ghost use Rattle.ob0_run_cells.specs.Activations.{place_name};
-    ghost use Rattle.ob0_run_lowering.specs.PlacedNames.{HidesMoreLocations, IsRestored, PlacesNames, declared_size, place_each, locations_with_binding, variable_slot};
+    ghost use Rattle.ob0_run_cells.specs.Activations.{add_name_to_placement};
+    ghost use Rattle.ob0_run_lowering.specs.PlacedNames.{HidesMoreLocations, HiddenLocationsAreRestored, PlacesNames, declared_size, add_declared_names_to_placement, locations_after_binding, variable_slot};
     ghost use Rattle.ob0_run_lowering.specs.PlacedNames as placed;
     ghost use Rattle.ob0_types_table.specs.Tables.{mode_of};
 
@@ -134,7 +134,7 @@ impl VisibleLocations {
     fn bind_ordinal(&mut self, ordinal: usize, site: LoweredLocation) -> Result<(), AllocError>
         ensures sites { OnOk result ((k : ℕ)
             → location_at self.new.sites.items k
-            ≡ locations_with_binding (Some ordinal) site (location_at self.old.sites.items) k) }
+            ≡ locations_after_binding (Some ordinal) site (location_at self.old.sites.items) k) }
         ensures follows { OnOk result (HidesMoreLocations self.old self.new) }
     {
         self.extend_to_ordinal(ordinal)?;
@@ -156,7 +156,7 @@ impl VisibleLocations {
     ) -> Result<(), AllocError>
         ensures sites { OnOk result ((k : ℕ)
             → location_at self.new.sites.items k
-            ≡ locations_with_binding ordinal site (location_at self.old.sites.items) k) }
+            ≡ locations_after_binding ordinal site (location_at self.old.sites.items) k) }
         ensures follows { OnOk result (HidesMoreLocations self.old self.new) }
     {
         match ordinal {
@@ -165,8 +165,8 @@ impl VisibleLocations {
         }
     }
 
-    /// Returns the number of hidden locations. Given this number, `restore_hidden` restores all
-    /// locations that are hidden after this call.
+    /// Returns the number of hidden locations. Given this number, `restore_hidden_locations`
+    /// restores all locations that are hidden after this call.
     pub(crate) fn hidden_count(&self) -> usize
         ensures { result ≡ length self.now.hidden.items }
     {
@@ -175,11 +175,11 @@ impl VisibleLocations {
 
     /// Restores all hidden locations except the first `hidden_count` ones, and removes them from
     /// the list of hidden locations. The location that was hidden last is restored first.
-    pub(crate) fn restore_hidden(&mut self, hidden_count: usize)
+    pub(crate) fn restore_hidden_locations(&mut self, hidden_count: usize)
         ensures { (w : VisibleLocations)
             → HidesMoreLocations w self.old
             → hidden_count ≡ length w.hidden.items
-            → IsRestored w self.old self.new }
+            → HiddenLocationsAreRestored w self.old self.new }
     {
         while self.hidden.len() > hidden_count {
             match self.hidden.pop() {
@@ -200,7 +200,7 @@ impl VisibleLocations {
         by_place: bool,
         name: usize,
     ) -> Result<Frame, AllocError>
-        ensures { IfOk result (PlacesNames self.old self.new frame (place_name (variable_slot frame.depth)
+        ensures { IfOk result (PlacesNames self.old self.new frame (add_name_to_placement (variable_slot frame.depth)
             (mode_of by_place) (label_at_token context.now.resolved.now name)
             (declared_size context.now.types.now (label_at_token context.now.resolved.now name)))) }
     {
@@ -220,7 +220,7 @@ impl VisibleLocations {
                 var_parameter_count,
             });
         }
-        let Some(next) = frame.with_more_cells(context.size_at_token(name)) else {
+        let Some(next) = frame.with_more_cells(context.declared_size_at_token(name)) else {
             return Err(AllocError);
         };
         self.bind(ordinal, location_of_next_variable(frame))?;
@@ -236,7 +236,7 @@ impl VisibleLocations {
         by_place: bool,
         names: &NameList,
     ) -> Result<Frame, AllocError>
-        ensures { IfOk result (PlacesNames self.old self.new frame (place_each (variable_slot frame.depth)
+        ensures { IfOk result (PlacesNames self.old self.new frame (add_declared_names_to_placement (variable_slot frame.depth)
             (declared_size context.now.types.now) (mode_of by_place)
             (names_in_list (tree_with_labels context.now.resolved.now (names_of names.now))))) }
     {
@@ -290,7 +290,7 @@ impl VisibleLocations {
     ) -> Result<Frame, AllocError>
         ensures { IfOk result (PlacesNames self.old self.new frame (placed.place_sections
             (variable_slot frame.depth) (declared_size context.now.types.now)
-            (tree_with_labels context.now.resolved.now (items_of further_section_of sections.now)))) }
+            (tree_with_labels context.now.resolved.now (items_of further_parameter_section_of sections.now)))) }
     {
         let mut now = frame;
         for section in sections {

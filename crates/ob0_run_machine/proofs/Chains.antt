@@ -10,7 +10,7 @@ use Rattle.ob0_run_machine.specs.declared.code.FirstOperand.TheBlock.{hidden-the
 use Rattle.ob0_run_machine.specs.Evaluation.{Levels, StepResult, ends, gives, number, ◌>>=◌}
 use Rattle.ob0_run_machine.specs.Lowered as lowered
 use Rattle.ob0_run_machine.specs.Answers.{outcome_of_applied_link}
-use Rattle.ob0_run_machine.specs.View.{operation_with_link, chain_by_row, operation_with_links, chain_of, first_of, number_of, variable_of}
+use Rattle.ob0_run_machine.specs.View.{operation_with_link, operation_with_row_of_links, operation_with_links, chain_of, first_operand_of, number_of, variable_of}
 
 pub bind_gives : {A : Type 0} (o : StepResult A) → (o >>= (λ a. gives a)) ≡ o
 bind_gives (gives a) = refl
@@ -54,10 +54,10 @@ chain_fails ls cells first links o h = ap (λ o. o >>= continued ls cells links)
 pub chain_begins : (ls : Levels) (cells : List ℤ) (first : lowered.Number) (links : List Link) (a : ℤ) → gives a ≡ number ls cells first → Continuing ls cells (number ls cells (operation_with_links first links)) links 0 a
 chain_begins ls cells first links a h = record { so_far = sym (chain_fails ls cells first links (gives a) h) }
 
-chained_listed : (n : _) (row : Row_of-Link n) (left : lowered.Number) → chain_by_row row left ≡ operation_with_links left (items-the_row-Link n row)
+chained_listed : (n : _) (row : Row_of-Link n) (left : lowered.Number) → operation_with_row_of_links row left ≡ operation_with_links left (items-the_row-Link n row)
 chained_listed _ end_of-Link left = refl
 chained_listed _ (more_of-Link l row) left = chained_listed _ row (operation_with_link l left)
 
 pub chain_made : (c : _) → number_of (Chain c) ≡ chain_of c.value
-chain_made c = chained_listed _ (hidden-the_row-Link-0 (out-Chain c.value).rest) (first_of (out-Chain c.value).first)
-    ∙ ap (operation_with_links (first_of (out-Chain c.value).first)) (items_hidden-the_row-Link-0 (out-Chain c.value).rest)
+chain_made c = chained_listed _ (hidden-the_row-Link-0 (out-Chain c.value).rest) (first_operand_of (out-Chain c.value).first)
+    ∙ ap (operation_with_links (first_operand_of (out-Chain c.value).first)) (items_hidden-the_row-Link-0 (out-Chain c.value).rest)

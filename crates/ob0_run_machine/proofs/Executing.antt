@@ -19,10 +19,10 @@ use Rattle.ob0_run_machine.specs.Answers.{end_of_stop, end_of}
 use Rattle.ob0_run_machine.specs.declared.code.Variable.{Variable}
 use Rattle.ob0_run_machine.specs.declared.code.Comparator.TheVariants as relation
 use Rattle.ob0_run_machine.specs.Evaluation.{Halt, Levels, StepResult, TurnBound, address, cell_at, compare, ends, gives, number, truth, ◌>>=◌}
-use Rattle.ob0_run_machine.specs.Execution.{CallEffect, CallArguments, MachineProgress, MachineState, choose_by_truth, levels_in_call, execute, execute_sequence, execute_branches, continue_with, no_room, pass_all, running, stopped, execute_while, execute_repeat, use_result}
+use Rattle.ob0_run_machine.specs.Execution.{CallEffect, CallArguments, MachineProgress, MachineState, choose_by_truth, levels_in_call, execute, execute_sequence, execute_branches, continue_with, no_room, pass_arguments, running, stopped, execute_while, execute_repeat, continue_with_result}
 use Rattle.ob0_run_machine.specs.Lowered as lowered
 use Rattle.ob0_run_machine.specs.Machines.{StepHasEffect, CodeEffect, PerformsCalls, CallPostcondition, IsProgressAfterStep, StopsRun, StopsPassing, statement_effect, sequence_effect, elsifs_effect, entry_effect, output_items, passed_arguments, state_of}
-use Rattle.ob0_run_machine.specs.View.{all_branches, argument_of, conditional_of, call_of, variable_relation, variable_increase, elsif_branches, else_statements, repeat_of, sequence_of, statement_of, truth_of, variable_of}
+use Rattle.ob0_run_machine.specs.View.{branches_of_list, argument_of, conditional_of, call_of, variable_comparison, variable_increase, elsif_branches, else_statements, repeat_of, sequence_of, statement_of, truth_of, variable_of}
 
 stopped_then : (o : Option Halt) (m : Machine) (p : MachineProgress) (k : MachineState → MachineProgress) → StopsRun o m p → StopsRun o m (continue_with p k)
 stopped_then (Some x) m p k h = ap (λ p. continue_with p k) h
@@ -90,7 +90,7 @@ sequence_ends {now = now} {t = t} {ls = ls} {xs = xs} {k = k} u c all = record {
 -- branches
 
 abbrev pub from_branches : CallEffect → ℕ → Levels → Conditional → List Branch → MachineState → MachineProgress
-from_branches enters t ls i bs = execute_branches enters t ls (all_branches bs) (execute_sequence enters t ls (else_statements i))
+from_branches enters t ls i bs = execute_branches enters t ls (branches_of_list bs) (execute_sequence enters t ls (else_statements i))
 
 pub record InBranches (post : CallPostcondition) (start now : Machine) (t : ℕ) (ls : Levels) (i : Conditional) (xs : List Branch) (k : ℕ) : Type 0 where
   pub so_far : (enters : CallEffect) → PerformsCalls post enters → elsifs_effect t ls (elsif_branches i) (else_statements i) enters (state_of start) ≡ from_branches enters t ls i (drop k xs) (state_of now)
@@ -269,7 +269,7 @@ loop_as {post = post} {r = r} {m = m} {m' = m'} t ls w u xs e h =
     subst (λ b. StepHasEffect post r m m' (statement_effect t ls (lowered.while_loop w (sequence_of (xs ++ Increase u b ∷ []))))) e h
 
 -- Compares a variable at a known address with an expression of a known value.
-pub compared_at : (ls : Levels) (cells : List ℤ) (v : Variable) (a : ℕ) (n : lowered.Number) (x : ℤ) (b : Bool) → address ls cells (variable_of v) ≡ gives a → number ls cells n ≡ gives x → b ≡ compare lowered.less (cell_at cells a) x → gives b ≡ truth ls cells (variable_relation relation.Less v n)
+pub compared_at : (ls : Levels) (cells : List ℤ) (v : Variable) (a : ℕ) (n : lowered.Number) (x : ℤ) (b : Bool) → address ls cells (variable_of v) ≡ gives a → number ls cells n ≡ gives x → b ≡ compare lowered.less (cell_at cells a) x → gives b ≡ truth ls cells (variable_comparison relation.Less v n)
 compared_at ls cells v a n x b h k e =
     ap gives e ∙ ap (λ o. o >>= (λ y. gives (compare lowered.less (cell_at cells a) y))) (sym k)
     ∙ ap (λ o. (o >>= (λ a. gives (cell_at cells a))) >>= (λ z. number ls cells n >>= (λ y. gives (compare lowered.less z y)))) (sym h)
@@ -350,35 +350,35 @@ repeat_on {now = now} {t = t} {ls = ls} {r = r} {left = left} c h e = record { s
 -- calls
 
 pub call-goes : (t : ℕ) (ls : Levels) (c : call.ProcedureCall) (enters : CallEffect) (s : MachineState)
-    → statement_effect t ls (call_of c) enters s ≡ use_result s (pass_all ls (map argument_of c.arguments.items) (passed_arguments s.cells [])) (λ p. enters c.procedure (levels_in_call ls (length s.cells) c.up p) record s { cells = p.cells })
+    → statement_effect t ls (call_of c) enters s ≡ continue_with_result s (pass_arguments ls (map argument_of c.arguments.items) (passed_arguments s.cells [])) (λ p. enters c.procedure (levels_in_call ls (length s.cells) c.up p) record s { cells = p.cells })
 unfolding execute
 call-goes t ls c enters s = refl
 
 passing_stops : (m m' : Machine) (o : Option Halt) (memory : Memory) → m'.output ≡ m.output → m'.memory ≡ memory → (given : StepResult CallArguments) (next : CallArguments → MachineProgress)
-    → StopsPassing o memory given → StopsRun o m' (use_result (state_of m) given next)
-passing_stops m m' (Some x) memory out kept given next h = ap (λ o. use_result (state_of m) o next) h ∙ ap (λ o. stopped x (output_items o.items)) (sym out)
+    → StopsPassing o memory given → StopsRun o m' (continue_with_result (state_of m) given next)
+passing_stops m m' (Some x) memory out kept given next h = ap (λ o. continue_with_result (state_of m) o next) h ∙ ap (λ o. stopped x (output_items o.items)) (sym out)
 passing_stops m m' None memory out kept given next h = ap has_failed kept ∙ h
 
 pub call_fails : {post : CallPostcondition} {m m' : Machine} (memory : Memory) (e : Stop) (t : ℕ) (ls : Levels) (c : call.ProcedureCall) (xs : List Argument) (none : List ℕ)
-    → none ≡ [] → xs ≡ c.arguments.items → StopsPassing (end_of_stop e) memory (pass_all ls (map argument_of xs) (passed_arguments m.cells.items none)) → m'.output ≡ m.output → m'.memory ≡ memory
+    → none ≡ [] → xs ≡ c.arguments.items → StopsPassing (end_of_stop e) memory (pass_arguments ls (map argument_of xs) (passed_arguments m.cells.items none)) → m'.output ≡ m.output → m'.memory ≡ memory
     → StepHasEffect post (Err e) m m' (statement_effect t ls (call_of c))
 call_fails {m = m} {m' = m'} memory e t ls c xs none empty same h out kept = record {
   has_effect = λ enters p. subst (StopsRun (end_of_stop e) m') (sym (call-goes t ls c enters (state_of m)
-      ∙ ap (λ o. use_result (state_of m) o (λ p. enters c.procedure (levels_in_call ls (length m.cells.items) c.up p) record (state_of m) { cells = p.cells }))
-      (ap (λ xs. pass_all ls (map argument_of xs) (passed_arguments m.cells.items [])) (sym same) ∙ ap (λ none. pass_all ls (map argument_of xs) (passed_arguments m.cells.items none)) (sym empty))))
+      ∙ ap (λ o. continue_with_result (state_of m) o (λ p. enters c.procedure (levels_in_call ls (length m.cells.items) c.up p) record (state_of m) { cells = p.cells }))
+      (ap (λ xs. pass_arguments ls (map argument_of xs) (passed_arguments m.cells.items [])) (sym same) ∙ ap (λ none. pass_arguments ls (map argument_of xs) (passed_arguments m.cells.items none)) (sym empty))))
       (passing_stops m m' (end_of_stop e) memory out kept _ _ h);
 }
 
 pub call_enters : {post : CallPostcondition} {m m' : Machine} {r : Result (Unit {0}) Stop} (cells : List ℤ) (addresses : List ℕ) (t : ℕ) (ls inner : Levels) (c : call.ProcedureCall) (xs : List Argument) (none : List ℕ)
-    → none ≡ [] → xs ≡ c.arguments.items → pass_all ls (map argument_of xs) (passed_arguments m.cells.items none) ≡ gives (passed_arguments cells addresses)
+    → none ≡ [] → xs ≡ c.arguments.items → pass_arguments ls (map argument_of xs) (passed_arguments m.cells.items none) ≡ gives (passed_arguments cells addresses)
     → inner ≡ levels_in_call ls (length m.cells.items) c.up (passed_arguments cells addresses)
     → ((enters : CallEffect) → PerformsCalls post enters → IsProgressAfterStep r m' (enters c.procedure inner (record (state_of m) { cells = cells })))
     → StepHasEffect post r m m' (statement_effect t ls (call_of c))
 call_enters {m = m} {m' = m'} {r = r} cells addresses t ls inner c xs none empty same h seen done = record {
   has_effect = λ enters p.
       subst (IsProgressAfterStep r m') (sym (call-goes t ls c enters (state_of m)
-      ∙ ap (λ o. use_result (state_of m) o (λ p. enters c.procedure (levels_in_call ls (length m.cells.items) c.up p) record (state_of m) { cells = p.cells }))
-      (ap (λ xs. pass_all ls (map argument_of xs) (passed_arguments m.cells.items [])) (sym same) ∙ ap (λ none. pass_all ls (map argument_of xs) (passed_arguments m.cells.items none)) (sym empty) ∙ h)
+      ∙ ap (λ o. continue_with_result (state_of m) o (λ p. enters c.procedure (levels_in_call ls (length m.cells.items) c.up p) record (state_of m) { cells = p.cells }))
+      (ap (λ xs. pass_arguments ls (map argument_of xs) (passed_arguments m.cells.items [])) (sym same) ∙ ap (λ none. pass_arguments ls (map argument_of xs) (passed_arguments m.cells.items none)) (sym empty) ∙ h)
       ∙ ap (λ ls. enters c.procedure ls record (state_of m) { cells = cells }) (sym seen)))
       (done enters p);
 }

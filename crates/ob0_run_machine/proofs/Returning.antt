@@ -18,7 +18,7 @@ use Rattle.ob0_run_machine.specs.declared.machine.Item.{Item}
 use Rattle.ob0_run_machine.specs.Lowered as lowered
 use Rattle.ob0_run_machine.specs.View.{program_of, sequence_of}
 use Rattle.ob0_run_machine.specs.declared.code.Instruction.{Instruction}
-use Rattle.ob0_run_machine.specs.Outcomes.{ReturnsEnd, IsEndOf, body_run, meaning_of_end}
+use Rattle.ob0_run_machine.specs.Outcomes.{ReturnsEnd, IsEndAfterExecution, progress_after_body, meaning_of_end}
 use Rattle.ob0_run_machine.specs.declared.running.End.{End}
 use Rattle.std.specs.declared.alloc.AllocError.{AllocError}
 use Rattle.std.specs.Prelude.{slice_get}
@@ -84,7 +84,7 @@ leaving_steps r e m p q h = subst (λ r. IsProgressAfterStep r m p) (sym q.1) (s
 
 -- the statements of a program
 pub block_runs : (m m' : Machine) (program : LoweredCode) (c t : ℕ) (r : Result (Unit {0}) Stop) (post : CallPostcondition) (inner : Levels) (xs : List Instruction) → PerformsCalls post (call (program_of program).procedures c t)
-    → inner ≡ module_levels → xs ≡ program.body.items → StepHasEffect post r m m' (sequence_effect t inner (sequence_of xs)) → IsProgressAfterStep r m' (body_run (program_of program) c t (state_of m))
+    → inner ≡ module_levels → xs ≡ program.body.items → StepHasEffect post r m m' (sequence_effect t inner (sequence_of xs)) → IsProgressAfterStep r m' (progress_after_body (program_of program) c t (state_of m))
 block_runs m m' program c t r post inner xs performs seen same d =
     subst (λ xs. IsProgressAfterStep r m' (sequence_effect t module_levels (sequence_of xs) (call (program_of program).procedures c t) (state_of m))) same
     (subst (λ inner. IsProgressAfterStep r m' (sequence_effect t inner (sequence_of xs) (call (program_of program).procedures c t) (state_of m))) seen (d.has_effect _ performs))
@@ -105,16 +105,16 @@ index_ending_at : (o : Option ending.Halt) (m : Machine) (p : MachineProgress) (
 index_ending_at (Some e) m p r end is h steps = ap (λ e. Some (record { output = output_items m.output.items; ending = e })) (ap meaning_of_end (ok-same r is h.1) ∙ h.2) ∙ sym (ap run_result steps)
 index_ending_at None m p r end is h steps = let no = subst IsErr is h in absurd (cc)
 
-pub ended_by : (m : Machine) (p : MachineProgress) (executed : Result (Unit {0}) Stop) (r : Result End AllocError) (end : End) → r ≡ Ok end → IsEndOf executed r → IsProgressAfterStep executed m p
+pub ended_by : (m : Machine) (p : MachineProgress) (executed : Result (Unit {0}) Stop) (r : Result End AllocError) (end : End) → r ≡ Ok end → IsEndAfterExecution executed r → IsProgressAfterStep executed m p
     → Some (record { output = output_items m.output.items; ending = meaning_of_end end }) ≡ run_result p
 ended_by m p (Ok done) r end is h steps = ap (λ e. Some (record { output = output_items m.output.items; ending = meaning_of_end e })) (ok-same r is h) ∙ sym (ap run_result steps)
 ended_by m p (Err s) r end is h steps = index_ending_at (end_of_stop s) m p r end is h steps
 
-pub finishes : (program : lowered.LoweredCode) (input : List ℤ) (c t : ℕ) (s : MachineState) (p : MachineProgress) (more : List ℤ) → more ≡ [] ++ zeros program.cells → length more < 2 ^ 64 → s ≡ record { cells = zeros program.cells; input = input; output = [] } → body_run program c t s ≡ p
+pub finishes : (program : lowered.LoweredCode) (input : List ℤ) (c t : ℕ) (s : MachineState) (p : MachineProgress) (more : List ℤ) → more ≡ [] ++ zeros program.cells → length more < 2 ^ 64 → s ≡ record { cells = zeros program.cells; input = input; output = [] } → progress_after_body program c t s ≡ p
     → run program input c t ≡ run_result p
 unfolding run
 finishes program input c t s p more same few begun h =
-    ap run_result (with-room program.cells (body_run program c t) record { cells = []; input = input; output = [] } more same few) ∙ ap (λ s. run_result (body_run program c t s)) (sym begun) ∙ ap run_result h
+    ap run_result (with-room program.cells (progress_after_body program c t) record { cells = []; input = input; output = [] } more same few) ∙ ap (λ s. run_result (progress_after_body program c t s)) (sym begun) ∙ ap run_result h
 
 pub begins_with : (cells before zs input : List ℤ) (out : List Item) → cells ≡ before ++ zs → before ≡ [] → out ≡ [] → state_with cells input (output_items out) ≡ state_with zs input []
 begins_with cells before zs input out a b d = ap (λ cells. state_with cells input (output_items out)) (a ∙ ap (λ xs. xs ++ zs) b) ∙ ap (λ out. state_with zs input (output_items out)) d

@@ -5,7 +5,7 @@ use Rattle.ob0_run_machine.specs.declared.code.Truth.{Truth, All, Any, Row_of-Tr
 use Rattle.ob0_run_machine.specs.declared.code.Truth.TheBlock.{hidden-the_row-Truth-0}
 use Rattle.ob0_run_machine.specs.Evaluation.{Levels, StepResult, gives, truth, ◌>>=◌}
 use Rattle.ob0_run_machine.specs.Lowered as lowered
-use Rattle.ob0_run_machine.specs.View.{conjunction_from, conjunction_of, conjunction_by_row, disjunction_from, disjunction_of, disjunction_by_row, truth_of}
+use Rattle.ob0_run_machine.specs.View.{conjunction_with_list, conjunction_of, conjunction_with_row, disjunction_with_list, disjunction_of, disjunction_with_row, truth_of}
 use Rattle.ob0_run_machine.proofs.Chains.{bind_assoc, bind_gives}
 
 -- what a truth becomes by one more
@@ -23,12 +23,12 @@ abbrev pub joined : Joining → Levels → List ℤ → List Truth → Bool → 
 joined join ls cells [] a = gives a
 joined join ls cells (t ∷ ts) a = join a (truth ls cells (truth_of t)) >>= joined join ls cells ts
 
-pub all_joined : (ls : Levels) (cells : List ℤ) (left : lowered.Truth) (ts : List Truth) → truth ls cells (conjunction_from left ts) ≡ (truth ls cells left >>= joined with_and ls cells ts)
+pub all_joined : (ls : Levels) (cells : List ℤ) (left : lowered.Truth) (ts : List Truth) → truth ls cells (conjunction_with_list left ts) ≡ (truth ls cells left >>= joined with_and ls cells ts)
 all_joined ls cells left [] = sym (bind_gives (truth ls cells left))
 all_joined ls cells left (t ∷ ts) = all_joined ls cells (lowered.both left (truth_of t)) ts
     ∙ bind_assoc (truth ls cells left) (λ a. with_and a (truth ls cells (truth_of t))) (joined with_and ls cells ts)
 
-pub any_joined : (ls : Levels) (cells : List ℤ) (left : lowered.Truth) (ts : List Truth) → truth ls cells (disjunction_from left ts) ≡ (truth ls cells left >>= joined with_or ls cells ts)
+pub any_joined : (ls : Levels) (cells : List ℤ) (left : lowered.Truth) (ts : List Truth) → truth ls cells (disjunction_with_list left ts) ≡ (truth ls cells left >>= joined with_or ls cells ts)
 any_joined ls cells left [] = sym (bind_gives (truth ls cells left))
 any_joined ls cells left (t ∷ ts) = any_joined ls cells (lowered.either left (truth_of t)) ts
     ∙ bind_assoc (truth ls cells left) (λ a. with_or a (truth ls cells (truth_of t))) (joined with_or ls cells ts)
@@ -37,22 +37,22 @@ any_joined ls cells left (t ∷ ts) = any_joined ls cells (lowered.either left (
 pub record Joined (join : Joining) (ls : Levels) (cells : List ℤ) (whole : StepResult Bool) (ts : List Truth) (done : ℕ) (left : Bool) : Type 0 where
   pub so_far : whole ≡ joined join ls cells (drop done ts) left
 
-pub all_fails : (ls : Levels) (cells : List ℤ) (first : lowered.Truth) (ts : List Truth) (o : StepResult Bool) → o ≡ truth ls cells first → (o >>= joined with_and ls cells ts) ≡ truth ls cells (conjunction_from first ts)
+pub all_fails : (ls : Levels) (cells : List ℤ) (first : lowered.Truth) (ts : List Truth) (o : StepResult Bool) → o ≡ truth ls cells first → (o >>= joined with_and ls cells ts) ≡ truth ls cells (conjunction_with_list first ts)
 all_fails ls cells first ts o h = ap (λ o. o >>= joined with_and ls cells ts) h ∙ sym (all_joined ls cells first ts)
 
-pub any_fails : (ls : Levels) (cells : List ℤ) (first : lowered.Truth) (ts : List Truth) (o : StepResult Bool) → o ≡ truth ls cells first → (o >>= joined with_or ls cells ts) ≡ truth ls cells (disjunction_from first ts)
+pub any_fails : (ls : Levels) (cells : List ℤ) (first : lowered.Truth) (ts : List Truth) (o : StepResult Bool) → o ≡ truth ls cells first → (o >>= joined with_or ls cells ts) ≡ truth ls cells (disjunction_with_list first ts)
 any_fails ls cells first ts o h = ap (λ o. o >>= joined with_or ls cells ts) h ∙ sym (any_joined ls cells first ts)
 
-all_listed : (n : _) (row : Row_of-Truth n) (left : lowered.Truth) → conjunction_by_row row left ≡ conjunction_from left (items-the_row-Truth n row)
+all_listed : (n : _) (row : Row_of-Truth n) (left : lowered.Truth) → conjunction_with_row row left ≡ conjunction_with_list left (items-the_row-Truth n row)
 all_listed _ end_of-Truth left = refl
 all_listed _ (more_of-Truth t row) left = all_listed _ row (lowered.both left (truth_of t))
 
-any_listed : (n : _) (row : Row_of-Truth n) (left : lowered.Truth) → disjunction_by_row row left ≡ disjunction_from left (items-the_row-Truth n row)
+any_listed : (n : _) (row : Row_of-Truth n) (left : lowered.Truth) → disjunction_with_row row left ≡ disjunction_with_list left (items-the_row-Truth n row)
 any_listed _ end_of-Truth left = refl
 any_listed _ (more_of-Truth t row) left = any_listed _ row (lowered.either left (truth_of t))
 
 pub all_made : (c : _) → truth_of (All c) ≡ conjunction_of c.value
-all_made c = all_listed _ (hidden-the_row-Truth-0 (out-TruthList c.value).rest) (truth_of (out-TruthList c.value).first) ∙ ap (conjunction_from (truth_of (out-TruthList c.value).first)) (items_hidden-the_row-Truth-0 (out-TruthList c.value).rest)
+all_made c = all_listed _ (hidden-the_row-Truth-0 (out-TruthList c.value).rest) (truth_of (out-TruthList c.value).first) ∙ ap (conjunction_with_list (truth_of (out-TruthList c.value).first)) (items_hidden-the_row-Truth-0 (out-TruthList c.value).rest)
 
 pub any_made : (c : _) → truth_of (Any c) ≡ disjunction_of c.value
-any_made c = any_listed _ (hidden-the_row-Truth-0 (out-TruthList c.value).rest) (truth_of (out-TruthList c.value).first) ∙ ap (disjunction_from (truth_of (out-TruthList c.value).first)) (items_hidden-the_row-Truth-0 (out-TruthList c.value).rest)
+any_made c = any_listed _ (hidden-the_row-Truth-0 (out-TruthList c.value).rest) (truth_of (out-TruthList c.value).first) ∙ ap (disjunction_with_list (truth_of (out-TruthList c.value).first)) (items_hidden-the_row-Truth-0 (out-TruthList c.value).rest)

@@ -1,5 +1,5 @@
 -- Converts the results that the machine's functions return (`Result`, `FlatOutcome`, `Stop`) to the
--- outcomes and ends of a run by which the meaning of code is defined (`StepResult`, `Halt`).
+-- outcomes and the ends of a run that the definitions use (`StepResult`, `Halt`).
 -- Rule: none; used in contracts of the machine's steps.
 use Rattle.std.specs.Prelude.{ℤ, List, Option, Some, None, Ok, Err, Result}
 use Rattle.ob0_run_machine.specs.declared.ending.EvaluationFault.{EvaluationFault}
@@ -52,6 +52,6 @@ number_or_overflow None = ends evaluation.Overflow
 number_or_overflow (Some n) = gives n
 
 -- Returns the outcome of applying a link to the number `left`, given the activations and the cells.
--- A link is an operator with one operand.
+-- A link is a binary operator with one of its operands, and `left` is the other operand.
 abbrev pub outcome_of_applied_link : Levels → List ℤ → Link → ℤ → StepResult ℤ
 outcome_of_applied_link ls cells l left = number ls cells (operation_with_link l (literal left))

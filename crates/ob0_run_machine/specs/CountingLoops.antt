@@ -4,25 +4,25 @@
 use Rattle.std.specs.Prelude.{◌≡◌, ℤ, List}
 use Rattle.ob0_run_machine.specs.declared.code.Comparator.TheVariants.{Less}
 use Rattle.ob0_run_machine.specs.declared.code.Truth.{Truth}
-use Rattle.ob0_run_machine.specs.declared.statements.CountCondition.{CountCondition}
-use Rattle.ob0_run_machine.specs.declared.statements.CountLimit.{CountLimit}
-use Rattle.ob0_run_machine.specs.declared.statements.CountLimit.TheVariants as limit
+use Rattle.ob0_run_machine.specs.declared.statements.CountingCondition.{CountingCondition}
+use Rattle.ob0_run_machine.specs.declared.statements.CountingLimit.{CountingLimit}
+use Rattle.ob0_run_machine.specs.declared.statements.CountingLimit.TheVariants as limit
 use Rattle.ob0_run_machine.specs.Evaluation.{Levels, cell_at, gives, number}
 use Rattle.ob0_run_machine.specs.Lowered as lowered
-use Rattle.ob0_run_machine.specs.View.{truth_of, variable_relation}
+use Rattle.ob0_run_machine.specs.View.{truth_of, variable_comparison}
 
--- returns the number that a limit is, in these cells
-abbrev pub limit_value : List ℤ → CountLimit → ℤ
+-- returns the value of a limit: its literal, or the number in the cell at its address
+abbrev pub limit_value : List ℤ → CountingLimit → ℤ
 limit_value cells (limit.Literal n) = n
 limit_value cells (limit.Address address) = cell_at cells address
 
--- States that an expression is this limit in the activations `ls`: its value is the limit's number,
--- whatever the cells are.
-abbrev pub HasLimit : Levels → lowered.Number → CountLimit → Type 0
-HasLimit ls n l = (cells : List ℤ) → number ls cells n ≡ gives (limit_value cells l)
+-- States that, in the activations `ls`, an expression has the value of this limit, whatever numbers
+-- the cells have.
+abbrev pub IsCountingLimit : Levels → lowered.Number → CountingLimit → Type 0
+IsCountingLimit ls n l = (cells : List ℤ) → number ls cells n ≡ gives (limit_value cells l)
 
--- States that a condition means that the variable of `c` is less than an expression, and that this
--- expression is the limit of `c`.
-abbrev pub IsCountCondition : Levels → Truth → CountCondition → Type 0
-IsCountCondition ls t c =
-    (n : lowered.Number) × (truth_of t ≡ variable_relation Less c.variable n) × HasLimit ls n c.limit
+-- States that the condition `t` compares the variable of `c` by `<` with an expression, and that
+-- this expression has the value of the limit of `c`.
+abbrev pub IsCountingCondition : Levels → Truth → CountingCondition → Type 0
+IsCountingCondition ls t c =
+    (n : lowered.Number) × (truth_of t ≡ variable_comparison Less c.variable n) × IsCountingLimit ls n c.limit

@@ -8,7 +8,7 @@ pub use Rattle.ob0_language_values.specs.Values.{fits_in_32_bits, same_truth}
 use Rattle.ob0_run_machine.specs.Lowered.{Place, in_module, in_own_activation, outside, passed, element, Number, literal, cell, negative, operation, Operator, sum, difference, product, quotient, remainder, Comparator, equal, not_equal, less, less_equal, greater, greater_equal, Truth, constant, flag, negation, both, either, related, same, different}
 
 infixl 20 ◌>>=◌
--- The end of a run: Done, or the reason for which the run ended before the end of the program.
+-- The end of a run: Done, or the reason why the run ended before the end of the program.
 pub data Halt : Type 0 where
   Done Overflow Divisor Index InputEnd CallBound TurnBound : Halt
 
@@ -73,12 +73,12 @@ division_outcome (Some n) = checked_number n
 
 -- returns the outcome of an operator on two numbers: a number of 32 bits, or the end Overflow or
 -- Divisor
-abbrev pub operate : Operator → ℤ → ℤ → StepResult ℤ
-operate sum a b = checked_number (a +ℤ b)
-operate difference a b = checked_number (a -ℤ b)
-operate product a b = checked_number (a *ℤ b)
-operate quotient a b = division_outcome (checked_division division.quotient a b)
-operate remainder a b = division_outcome (checked_division division.remainder a b)
+abbrev pub apply_operator : Operator → ℤ → ℤ → StepResult ℤ
+apply_operator sum a b = checked_number (a +ℤ b)
+apply_operator difference a b = checked_number (a -ℤ b)
+apply_operator product a b = checked_number (a *ℤ b)
+apply_operator quotient a b = division_outcome (checked_division division.quotient a b)
+apply_operator remainder a b = division_outcome (checked_division division.remainder a b)
 
 abbrev mutual
   -- Returns the address of a place. The run ends with a fault if the evaluation of an index in the
@@ -98,7 +98,7 @@ abbrev mutual
   number ls cells (literal n) = gives n
   number ls cells (cell p) = address ls cells p >>= (λ a. gives (cell_at cells a))
   number ls cells (negative n) = number ls cells n >>= (λ a. checked_number (neg_ℤ a))
-  number ls cells (operation o m n) = number ls cells m >>= (λ a. number ls cells n >>= operate o a)
+  number ls cells (operation o m n) = number ls cells m >>= (λ a. number ls cells n >>= apply_operator o a)
 
 -- returns whether a relation holds between two numbers
 abbrev pub compare : Comparator → ℤ → ℤ → Bool
@@ -116,9 +116,9 @@ is_true (pos (suc n)) = true
 is_true (negsuc n) = true
 
 -- returns the number that is stored in a cell for a truth value: 0 for FALSE, 1 for TRUE
-abbrev pub as_cell : Bool → ℤ
-as_cell false = pos 0
-as_cell true = pos 1
+abbrev pub truth_as_cell : Bool → ℤ
+truth_as_cell false = pos 0
+truth_as_cell true = pos 1
 
 -- Returns the value of an expression that is a `Truth`. The right side of `both` or `either` is
 -- evaluated only if the left side doesn't decide the value. The run ends with the first fault that

@@ -5,7 +5,7 @@
 -- Rule: docs/LANGUAGE.md, Runs 5 to 10.
 use Rattle.std.specs.Prelude.{ℕ, zero, suc, ◌+◌, ◌-◌, ◌^◌, Bool, true, false, ◌&&◌, List, [], ◌∷◌, ◌++◌, length, take, drop, replicate, ℤ, pos, Some, None, Option, if◌then◌else◌, nat_le, nat_lt, slice_get, slice_set}
 use Rattle.ob0_run_machine.specs.Lowered.{LoweredArgument, by_place, by_number, by_truth, by_block, Instruction, stores_number, stores_truth, copies, reads, writes, writes_line, chooses, while_loop, repeat_loop, calls, Instructions, no_statement, next_statement, Branches, no_branch, branch, Routine, LoweredCode}
-use Rattle.ob0_run_machine.specs.Evaluation.{CallBound, Done, Halt, InputEnd, StepResult, Levels, TurnBound, address, as_cell, ends, gives, innermost_level, number, truth, ◌>>=◌}
+use Rattle.ob0_run_machine.specs.Evaluation.{CallBound, Done, Halt, InputEnd, StepResult, Levels, TurnBound, address, truth_as_cell, ends, gives, innermost_level, number, truth, ◌>>=◌}
 
 -- An item of output: a number, or the end of a line.
 pub data OutputItem : Type 0 where
@@ -29,10 +29,10 @@ pub data MachineProgress : Type 0 where
 
 -- Continues a run by applying `next` to the value of an evaluation. If the evaluation ends the run,
 -- `next` is skipped, and the run ends with the output of the state `s`.
-abbrev pub use_result : {A : Type 0} → MachineState → StepResult A → (A → MachineProgress)
+abbrev pub continue_with_result : {A : Type 0} → MachineState → StepResult A → (A → MachineProgress)
     → MachineProgress
-use_result s (gives a) next = next a
-use_result s (ends e) next = stopped e s.output
+continue_with_result s (gives a) next = next a
+continue_with_result s (ends e) next = stopped e s.output
 
 -- Applies the step `next` to the state of a run. Changes nothing if the run has ended or is
 -- `no_room`.
@@ -72,13 +72,14 @@ cells_after_copy cells to from n =
 abbrev pub zeros : ℕ → List ℤ
 zeros n = replicate n (pos 0)
 
--- returns the `n` cells that begin at the address `from`, or `n` zeros if fewer cells begin there
-abbrev pub block_at : List ℤ → (from n : ℕ) → List ℤ
-block_at cells from n =
+-- returns the `n` cells that begin at the address `from`, or `n` zeros if fewer than `n` cells
+-- begin there
+abbrev pub block_or_zeros_at : List ℤ → (from n : ℕ) → List ℤ
+block_or_zeros_at cells from n =
     if nat_le (from + n) (length cells) then take n (drop from cells) else zeros n
 
 -- Returns the progress of a run after `Read`, which stores the next number of the input in the cell
--- at the address `a`. The list is the input that is left. If it is empty, the run ends with
+-- at the address `a`. The last argument is the remaining input. If it is empty, the run ends with
 -- InputEnd.
 abbrev pub read_number : MachineState → ℕ → List ℤ → MachineProgress
 read_number s a [] = stopped InputEnd s.output
@@ -95,22 +96,23 @@ pub record CallArguments : Type 0 where
 abbrev pub pass_cells : CallArguments → List ℤ → CallArguments
 pass_cells p more = record p { cells = p.cells ++ more }
 
--- Evaluates an argument, and returns the passed arguments with this one added: an address for a VAR
--- parameter, otherwise the cells of a value. If the evaluation ends the run, returns this end.
+-- Evaluates an argument and passes it. For a VAR parameter, returns the passed arguments with the
+-- argument's address added, otherwise with the cells of its value added. If the evaluation ends the
+-- run, returns this end.
 abbrev pub pass_argument : Levels → LoweredArgument → CallArguments → StepResult CallArguments
 pass_argument ls (by_place p) done =
     address ls done.cells p >>= (λ a. gives record done { addresses = done.addresses ++ a ∷ [] })
 pass_argument ls (by_number n) done = number ls done.cells n >>= (λ a. gives (pass_cells done (a ∷ [])))
 pass_argument ls (by_truth t) done =
-    truth ls done.cells t >>= (λ a. gives (pass_cells done (as_cell a ∷ [])))
+    truth ls done.cells t >>= (λ a. gives (pass_cells done (truth_as_cell a ∷ [])))
 pass_argument ls (by_block p n) done =
-    address ls done.cells p >>= (λ a. gives (pass_cells done (block_at done.cells a n)))
+    address ls done.cells p >>= (λ a. gives (pass_cells done (block_or_zeros_at done.cells a n)))
 
 -- Evaluates and passes a list of arguments, from left to right, and returns the passed arguments
 -- with these added. If an evaluation ends the run, returns this end.
-abbrev pub pass_all : Levels → List LoweredArgument → CallArguments → StepResult CallArguments
-pass_all ls [] done = gives done
-pass_all ls (a ∷ as_given) done = pass_argument ls a done >>= pass_all ls as_given
+abbrev pub pass_arguments : Levels → List LoweredArgument → CallArguments → StepResult CallArguments
+pass_arguments ls [] done = gives done
+pass_arguments ls (a ∷ as_given) done = pass_argument ls a done >>= pass_arguments ls as_given
 
 -- Returns the run of a WHILE, with at most `t` iterations. If the condition is FALSE, the statement
 -- ends. If the condition is TRUE, one more iteration is made. If no iteration is left, the run ends
@@ -157,17 +159,17 @@ unfoldable mutual
   -- make at most `t` iterations.
   pub execute : CallEffect → ℕ → Levels → Instruction → MachineState → MachineProgress
   execute enter t ls (stores_number p n) s =
-      use_result s (address ls s.cells p)
-      (λ a. use_result s (number ls s.cells n) (λ v. running (store_at s a v)))
+      continue_with_result s (address ls s.cells p)
+      (λ a. continue_with_result s (number ls s.cells n) (λ v. running (store_at s a v)))
   execute enter t ls (stores_truth p u) s =
-      use_result s (address ls s.cells p)
-      (λ a. use_result s (truth ls s.cells u) (λ v. running (store_at s a (as_cell v))))
+      continue_with_result s (address ls s.cells p)
+      (λ a. continue_with_result s (truth ls s.cells u) (λ v. running (store_at s a (truth_as_cell v))))
   execute enter t ls (copies p q n) s =
-      use_result s (address ls s.cells p) (λ to. use_result s (address ls s.cells q)
+      continue_with_result s (address ls s.cells p) (λ to. continue_with_result s (address ls s.cells q)
       (λ from. running record s { cells = cells_after_copy s.cells to from n }))
-  execute enter t ls (reads p) s = use_result s (address ls s.cells p) (λ a. read_number s a s.input)
+  execute enter t ls (reads p) s = continue_with_result s (address ls s.cells p) (λ a. read_number s a s.input)
   execute enter t ls (writes n) s =
-      use_result s (number ls s.cells n) (λ v. running (append_output s (number_out v)))
+      continue_with_result s (number ls s.cells n) (λ v. running (append_output s (number_out v)))
   execute enter t ls writes_line s = running (append_output s line_out)
   execute enter t ls (chooses bs otherwise) s =
       execute_branches enter t ls bs (execute_sequence enter t ls otherwise) s
@@ -176,7 +178,7 @@ unfoldable mutual
   execute enter t ls (repeat_loop body c) s =
       execute_repeat (t - 1) (λ s'. truth ls s'.cells c) (execute_sequence enter t ls body) s
   execute enter t ls (calls k up args) s =
-      use_result s (pass_all ls args record { cells = s.cells; addresses = [] })
+      continue_with_result s (pass_arguments ls args record { cells = s.cells; addresses = [] })
       (λ p. enter k (levels_in_call ls (length s.cells) up p) record s { cells = p.cells })
 
   -- returns the run of a list of statements, one after the other

@@ -1,5 +1,5 @@
 -- Converts the machine's activations (`Level`), and the addresses that it passes for VAR parameters
--- (`VarAddresses`), to the lists by which runs are defined.
+-- (`VarAddresses`), to the lists that the definitions of runs use.
 -- Rule: none; used in contracts of the machine.
 use Rattle.std.specs.Prelude.{ℕ, List, Option, Some, None, [], ◌∷◌}
 use denote.Ref.{Bor}
@@ -21,7 +21,8 @@ abbrev mutual
   enclosing_levels code.None' = []
   enclosing_levels (code.Some' pointer l) = levels_of l
 
--- Returns the activations that a `Level` can see, itself first. Returns the empty list for None.
+-- Returns the activations that code in a `Level` can see, as `levels_of` does. Returns the empty
+-- list for None.
 abbrev pub levels_of_option : Option (Bor code.Level) → Levels
 levels_of_option None = []
 levels_of_option (Some l) = levels_of l.now

@@ -133,9 +133,10 @@ IsOutcomeOfPassing (Err s) memory cells addresses o = StopsPassing (end_of_stop 
 abbrev pub activation_effect : Option Routine → ℕ → Levels → CodeEffect
 activation_effect o t ls enters s = activate enters t ls o s
 
--- States that a call of the procedure with the index `k` leads from the machine `m` to the machine
--- `m'` with the result `r`, according to `call`. `c` calls may still be opened, this one included.
--- Each execution of a loop may make at most `t` iterations.
+-- States that `m'` and `r` are the machine and the result after a call of a procedure in the
+-- machine `m`, as `call` defines it (`IsProgressAfterStep`). `k` is the procedure's index, and `l`
+-- is the level of the called activation. At most `c` calls may still be opened, including this
+-- call. Each execution of a loop may make at most `t` iterations.
 abbrev pub IsProgressAfterCall : Result (Unit {0}) Stop
     → Machine
     → Machine

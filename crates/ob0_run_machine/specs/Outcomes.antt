@@ -1,5 +1,5 @@
 -- Converts the values that the machine returns at the end of a run (`End`, `Outcome`) to the values
--- by which runs are defined (`Halt`, `MachineRun`).
+-- that the definitions of runs use (`Halt`, `MachineRun`).
 -- Rule: none; used in contracts to give values of the code a meaning.
 use Rattle.std.specs.Prelude.{◌≡◌, ℕ, IsErr, Ok, Err, None, Option, Result, Some}
 use Rattle.std.specs.declared.alloc.AllocError.{AllocError}
@@ -29,12 +29,12 @@ abbrev pub ReturnsEnd : Option Halt → Result End AllocError → Type 0
 ReturnsEnd (Some e) r = (x : End) × (r ≡ Ok x) × (meaning_of_end x ≡ e)
 ReturnsEnd None r = IsErr r
 
--- States that the second result follows from the first one, which is the result of a program's
--- statements. It is Done if the statements returned normally, an error if an allocation failed,
--- otherwise the end for their `Stop`.
-abbrev pub IsEndOf : Result (Unit {0}) Stop → Result End AllocError → Type 0
-IsEndOf (Ok done) r = r ≡ Ok code.Done
-IsEndOf (Err s) r = ReturnsEnd (end_of_stop s) r
+-- States that the second result is the end of a run whose statements returned the first result. It
+-- is Done if the statements returned normally, an error if an allocation failed, otherwise the end
+-- for their `Stop`.
+abbrev pub IsEndAfterExecution : Result (Unit {0}) Stop → Result End AllocError → Type 0
+IsEndAfterExecution (Ok done) r = r ≡ Ok code.Done
+IsEndAfterExecution (Err s) r = ReturnsEnd (end_of_stop s) r
 
 -- converts an outcome that the machine returns to a `MachineRun` with the same output and the same
 -- end
@@ -43,5 +43,5 @@ run_of o = record { output = output_items o.output.items; ending = meaning_of_en
 
 -- returns the progress of a run after a program's body, starting in the state `s`, with the bounds
 -- `c` on open calls and `t` on the iterations of each execution of a loop
-abbrev pub body_run : LoweredCode → ℕ → ℕ → MachineState → MachineProgress
-body_run program c t s = execute_sequence (call program.procedures c t) t module_levels program.body s
+abbrev pub progress_after_body : LoweredCode → ℕ → ℕ → MachineState → MachineProgress
+progress_after_body program c t s = execute_sequence (call program.procedures c t) t module_levels program.body s

@@ -12,7 +12,7 @@ use Rattle.ob0_run_machine.specs.declared.code.FirstOperand.{FirstOperand}
 use Rattle.ob0_run_machine.specs.declared.code.Chain as chain
 use Rattle.ob0_run_machine.specs.declared.code.Variable.{Variable}
 use Rattle.ob0_run_machine.specs.declared.code.Variable.TheVariants as variable
-use Rattle.ob0_run_machine.specs.declared.code.Reference.{Reference}
+use Rattle.ob0_run_machine.specs.declared.code.VarParameterPlace.{VarParameterPlace}
 use Rattle.ob0_run_machine.specs.declared.code.VariableElement.{VariableElement}
 use Rattle.ob0_run_machine.specs.declared.code.Operator.{Operator}
 use Rattle.ob0_run_machine.specs.declared.code.Operator.TheVariants as operator
@@ -20,7 +20,7 @@ use Rattle.ob0_run_machine.specs.declared.code.Operation.{Operation, out-Operati
 use Rattle.ob0_run_machine.specs.declared.code.Link as link
 use Rattle.ob0_run_machine.specs.declared.code.Element.{Element, out-Element}
 use Rattle.ob0_run_machine.specs.declared.code.Link.{Link}
-use Rattle.ob0_run_machine.specs.declared.code.Operands.{Operands}
+use Rattle.ob0_run_machine.specs.declared.code.NumberPair.{NumberPair}
 use Rattle.ob0_run_machine.specs.declared.code.Comparator.{Comparator}
 use Rattle.ob0_run_machine.specs.declared.code.Comparator.TheVariants as relation
 use Rattle.ob0_run_machine.specs.declared.code.Truth as truth
@@ -53,10 +53,10 @@ variable_of (variable.Module offset) = lowered.in_module offset
 variable_of (variable.InOwnActivation offset) = lowered.in_own_activation offset
 variable_of (variable.ByReference index offset) = lowered.passed 0 index offset
 
--- converts a `Reference` to a lowered place: a place at an offset from the address that was passed
+-- converts a `VarParameterPlace` to a lowered place: a place at an offset from the address that was passed
 -- for a VAR parameter
-abbrev pub reference_of : Reference → lowered.Place
-reference_of r = lowered.passed r.up r.index r.offset
+abbrev pub var_parameter_place_of : VarParameterPlace → lowered.Place
+var_parameter_place_of r = lowered.passed r.up r.index r.offset
 
 -- converts a `VariableElement` to a lowered place: a place in an element whose array and index are
 -- variables
@@ -71,7 +71,7 @@ abbrev mutual
   place_of (place.Variable v) = variable_of v
   place_of (place.VariableElement r) = variable_element_of r.value
   place_of (place.Outside up offset) = lowered.outside up offset
-  place_of (place.Passed r) = reference_of r.value
+  place_of (place.Passed r) = var_parameter_place_of r.value
   place_of (place.Element' pointer array index length stride offset) =
       lowered.element (place_of array) (number_of index) length stride offset
 
@@ -81,18 +81,18 @@ abbrev mutual
   number_of (number.Variable v) = lowered.cell (variable_of v)
   number_of (number.Cell p) = lowered.cell (place_of p)
   number_of (number.Negative' pointer n) = lowered.negative (number_of n)
-  number_of (number.Operation' pointer begin l) = operation_with_link l (first_of begin)
-  number_of (number.Chain' pointer begin shape row) = chain_by_row row (first_of begin)
+  number_of (number.Operation' pointer begin l) = operation_with_link l (first_operand_of begin)
+  number_of (number.Chain' pointer begin shape row) = operation_with_row_of_links row (first_operand_of begin)
 
   -- converts the first operand of an operation or a chain to a lowered number
-  pub first_of : FirstOperand → lowered.Number
-  first_of (first.Literal n) = lowered.literal n
-  first_of (first.Variable v) = lowered.cell (variable_of v)
-  first_of (first.Cell p) = lowered.cell (place_of p)
-  first_of (first.Negative' pointer n) = lowered.negative (number_of n)
+  pub first_operand_of : FirstOperand → lowered.Number
+  first_operand_of (first.Literal n) = lowered.literal n
+  first_operand_of (first.Variable v) = lowered.cell (variable_of v)
+  first_operand_of (first.Cell p) = lowered.cell (place_of p)
+  first_operand_of (first.Negative' pointer n) = lowered.negative (number_of n)
 
-  -- returns the lowered operation that applies a link, which is an operator with one operand, to a
-  -- number
+  -- returns the lowered operation that applies a link to a number; a link is a binary operator with
+  -- one of its operands, and the number is the other operand
   pub operation_with_link : Link → lowered.Number → lowered.Number
   operation_with_link (link.SumLiteral n) left = lowered.operation lowered.sum left (lowered.literal n)
   operation_with_link (link.SumVariable v) left =
@@ -121,9 +121,9 @@ abbrev mutual
   operation_with_link (link.Other o n) left = lowered.operation (operator_of o) left (number_of n)
 
   -- returns the lowered operations that apply a row of links to a number, one link after the other
-  pub chain_by_row : {n : _} → number.Row_of-Link n → lowered.Number → lowered.Number
-  chain_by_row number.end_of-Link left = left
-  chain_by_row (number.more_of-Link l row) left = chain_by_row row (operation_with_link l left)
+  pub operation_with_row_of_links : {n : _} → number.Row_of-Link n → lowered.Number → lowered.Number
+  operation_with_row_of_links number.end_of-Link left = left
+  operation_with_row_of_links (number.more_of-Link l row) left = operation_with_row_of_links row (operation_with_link l left)
 
 -- converts an `Element` to a lowered place, as `place_of` does
 abbrev pub element_of : Element → lowered.Place
@@ -133,7 +133,7 @@ element_of e =
 
 -- converts an `Operation` to a lowered number
 abbrev pub operation_of : Operation → lowered.Number
-operation_of o = operation_with_link (out-Operation o).link (first_of (out-Operation o).first)
+operation_of o = operation_with_link (out-Operation o).link (first_operand_of (out-Operation o).first)
 
 -- returns the lowered operations that apply a list of links to the number `left`, one link after
 -- the other
@@ -143,7 +143,7 @@ operation_with_links left (l ∷ ls) = operation_with_links (operation_with_link
 
 -- converts a `Chain` to a lowered number
 abbrev pub chain_of : chain.Chain → lowered.Number
-chain_of c = operation_with_links (first_of (chain.out-Chain c).first) (chain.out-Chain c).rest.items
+chain_of c = operation_with_links (first_operand_of (chain.out-Chain c).first) (chain.out-Chain c).rest.items
 
 -- converts a `Comparator` to a lowered relation
 abbrev pub relation_of : Comparator → lowered.Comparator
@@ -155,16 +155,16 @@ relation_of relation.Greater = lowered.greater
 relation_of relation.GreaterEqual = lowered.greater_equal
 
 -- returns the lowered comparison of two operands
-abbrev pub operands_relation : Comparator → Operands → lowered.Truth
-operands_relation r o = lowered.related (relation_of r) (number_of o.left) (number_of o.right)
+abbrev pub operands_comparison : Comparator → NumberPair → lowered.Truth
+operands_comparison r o = lowered.related (relation_of r) (number_of o.left) (number_of o.right)
 
 -- returns the lowered comparison of a variable with a lowered number
-abbrev pub variable_relation : Comparator → Variable → lowered.Number → lowered.Truth
-variable_relation r v n = lowered.related (relation_of r) (lowered.cell (variable_of v)) n
+abbrev pub variable_comparison : Comparator → Variable → lowered.Number → lowered.Truth
+variable_comparison r v n = lowered.related (relation_of r) (lowered.cell (variable_of v)) n
 
 -- returns the lowered comparison of an array's element with a variable
-abbrev pub element_relation : Comparator → VariableElement → Variable → lowered.Truth
-element_relation r q v =
+abbrev pub element_comparison : Comparator → VariableElement → Variable → lowered.Truth
+element_comparison r q v =
     lowered.related (relation_of r) (lowered.cell (variable_element_of q)) (lowered.cell (variable_of v))
 
 abbrev mutual
@@ -176,44 +176,44 @@ abbrev mutual
   truth_of (truth.Negation' pointer t) = lowered.negation (truth_of t)
   truth_of (truth.Both' pointer left right) = lowered.both (truth_of left) (truth_of right)
   truth_of (truth.Either' pointer left right) = lowered.either (truth_of left) (truth_of right)
-  truth_of (truth.All' pointer first shape row) = conjunction_by_row row (truth_of first)
-  truth_of (truth.Any' pointer first shape row) = disjunction_by_row row (truth_of first)
-  truth_of (truth.Related r o) = operands_relation r o.value
-  truth_of (truth.LessThanLiteral v n) = variable_relation relation.Less v (lowered.literal n)
-  truth_of (truth.ComparedToLiteral r v n) = variable_relation r v (lowered.literal n)
-  truth_of (truth.ComparedToVariable r v w) = variable_relation r v (lowered.cell (variable_of w))
-  truth_of (truth.ElementToVariable r q v) = element_relation r q.value v
+  truth_of (truth.All' pointer first shape row) = conjunction_with_row row (truth_of first)
+  truth_of (truth.Any' pointer first shape row) = disjunction_with_row row (truth_of first)
+  truth_of (truth.Related r o) = operands_comparison r o.value
+  truth_of (truth.LessThanLiteral v n) = variable_comparison relation.Less v (lowered.literal n)
+  truth_of (truth.ComparedToLiteral r v n) = variable_comparison r v (lowered.literal n)
+  truth_of (truth.ComparedToVariable r v w) = variable_comparison r v (lowered.cell (variable_of w))
+  truth_of (truth.ElementToVariable r q v) = element_comparison r q.value v
   truth_of (truth.Same' pointer left right) = lowered.same (truth_of left) (truth_of right)
   truth_of (truth.Different' pointer left right) =
       lowered.different (truth_of left) (truth_of right)
 
   -- returns the conjunction of the truth `left` and the truths of a row, nested on the left
-  pub conjunction_by_row : {n : _} → truth.Row_of-Truth n → lowered.Truth → lowered.Truth
-  conjunction_by_row truth.end_of-Truth left = left
-  conjunction_by_row (truth.more_of-Truth t row) left = conjunction_by_row row (lowered.both left (truth_of t))
+  pub conjunction_with_row : {n : _} → truth.Row_of-Truth n → lowered.Truth → lowered.Truth
+  conjunction_with_row truth.end_of-Truth left = left
+  conjunction_with_row (truth.more_of-Truth t row) left = conjunction_with_row row (lowered.both left (truth_of t))
 
   -- returns the disjunction of the truth `left` and the truths of a row, nested on the left
-  pub disjunction_by_row : {n : _} → truth.Row_of-Truth n → lowered.Truth → lowered.Truth
-  disjunction_by_row truth.end_of-Truth left = left
-  disjunction_by_row (truth.more_of-Truth t row) left = disjunction_by_row row (lowered.either left (truth_of t))
+  pub disjunction_with_row : {n : _} → truth.Row_of-Truth n → lowered.Truth → lowered.Truth
+  disjunction_with_row truth.end_of-Truth left = left
+  disjunction_with_row (truth.more_of-Truth t row) left = disjunction_with_row row (lowered.either left (truth_of t))
 
 -- returns the conjunction of the truth `left` and the truths of a list, nested on the left
-abbrev pub conjunction_from : lowered.Truth → List Truth → lowered.Truth
-conjunction_from left [] = left
-conjunction_from left (t ∷ ts) = conjunction_from (lowered.both left (truth_of t)) ts
+abbrev pub conjunction_with_list : lowered.Truth → List Truth → lowered.Truth
+conjunction_with_list left [] = left
+conjunction_with_list left (t ∷ ts) = conjunction_with_list (lowered.both left (truth_of t)) ts
 
 -- returns the disjunction of the truth `left` and the truths of a list, nested on the left
-abbrev pub disjunction_from : lowered.Truth → List Truth → lowered.Truth
-disjunction_from left [] = left
-disjunction_from left (t ∷ ts) = disjunction_from (lowered.either left (truth_of t)) ts
+abbrev pub disjunction_with_list : lowered.Truth → List Truth → lowered.Truth
+disjunction_with_list left [] = left
+disjunction_with_list left (t ∷ ts) = disjunction_with_list (lowered.either left (truth_of t)) ts
 
 -- returns the conjunction of the truths of a `TruthList`
 abbrev pub conjunction_of : TruthList → lowered.Truth
-conjunction_of s = conjunction_from (truth_of (out-TruthList s).first) (out-TruthList s).rest.items
+conjunction_of s = conjunction_with_list (truth_of (out-TruthList s).first) (out-TruthList s).rest.items
 
 -- returns the disjunction of the truths of a `TruthList`
 abbrev pub disjunction_of : TruthList → lowered.Truth
-disjunction_of s = disjunction_from (truth_of (out-TruthList s).first) (out-TruthList s).rest.items
+disjunction_of s = disjunction_with_list (truth_of (out-TruthList s).first) (out-TruthList s).rest.items
 
 -- converts an `Argument` to a lowered argument
 abbrev pub argument_of : argument_type.Argument → lowered.LoweredArgument
@@ -286,10 +286,10 @@ abbrev pub repeat_of : RepeatLoop → lowered.Instruction
 repeat_of r = lowered.repeat_loop (sequence_of r.body.items) (truth_of r.condition)
 
 -- converts a list of branches to lowered branches
-abbrev pub all_branches : List Branch → lowered.Branches
-all_branches [] = lowered.no_branch
-all_branches (b ∷ bs) =
-    lowered.branch (truth_of b.condition) (sequence_of b.body.items) (all_branches bs)
+abbrev pub branches_of_list : List Branch → lowered.Branches
+branches_of_list [] = lowered.no_branch
+branches_of_list (b ∷ bs) =
+    lowered.branch (truth_of b.condition) (sequence_of b.body.items) (branches_of_list bs)
 
 -- converts a `Routine` of the machine's code to a lowered procedure
 abbrev pub procedure_of : procedure.Routine → lowered.Routine
@@ -306,7 +306,7 @@ program_of p =
 
 -- returns the ELSIF parts of an IF as lowered branches
 abbrev pub elsif_branches : if_statement.Conditional → lowered.Branches
-elsif_branches i = all_branches (if_statement.out-Conditional i).others.items
+elsif_branches i = branches_of_list (if_statement.out-Conditional i).others.items
 
 -- returns the lowered statements that run if no condition of an IF is TRUE
 abbrev pub else_statements : if_statement.Conditional → lowered.Instructions

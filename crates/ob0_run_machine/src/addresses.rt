@@ -20,7 +20,7 @@ pub(crate) enum VarAddresses {
 
 /// Returns the addresses `a`, `b` and `c`, in this order, in a list (`VarAddresses::More`). Fails
 /// only if an allocation fails.
-fn var_addresses_from_three(
+fn list_of_three_addresses(
     memory: &mut Memory,
     a: usize,
     b: usize,
@@ -53,7 +53,7 @@ impl VarAddresses {
             }
             VarAddresses::Two(a, b) => {
                 let (a, b) = (*a, *b);
-                *self = var_addresses_from_three(memory, a, b, address)?;
+                *self = list_of_three_addresses(memory, a, b, address)?;
             }
             VarAddresses::More(all) => memory.push(all, address)?,
         }

@@ -2,7 +2,7 @@
 //! cells. For a VAR parameter, the address of the argument is added to a list of addresses.
 
 ghost use Rattle.std.specs.Prelude.{map};
-ghost use Rattle.ob0_run_machine.specs.Execution.{pass_argument, pass_all};
+ghost use Rattle.ob0_run_machine.specs.Execution.{pass_argument, pass_arguments};
 ghost use Rattle.ob0_run_machine.specs.Levels.{addresses_in, levels_of};
 ghost use Rattle.ob0_run_machine.specs.Machines.{IsOutcomeOfPassing, passed_arguments};
 ghost use Rattle.ob0_run_machine.specs.View.{argument_of};
@@ -13,7 +13,7 @@ use crate::ending::Stop;
 use crate::evaluator::{evaluate_number, evaluate_truth, locate};
 use crate::level::Level;
 use crate::memory::Memory;
-use crate::operators::as_cell;
+use crate::operators::truth_as_cell;
 
 /// Evaluates an argument and passes it. Adds the address of an argument for a VAR parameter at the
 /// end of `addresses`, and any other argument's value at the end of `cells`. Fails if the
@@ -41,7 +41,7 @@ fn pass_argument(
         }
         Argument::Truth(t) => {
             let a = evaluate_truth(t, level, cells.as_slice())?;
-            memory.push(cells, as_cell(a))?;
+            memory.push(cells, truth_as_cell(a))?;
         }
         Argument::Block(place, count) => {
             let a = locate(place, level, cells.as_slice())?;
@@ -54,7 +54,7 @@ fn pass_argument(
 /// Evaluates the arguments from left to right, and adds each of them to `cells` or to `addresses`,
 /// as `pass_argument` does. Stops at the first argument that fails.
 #[inline(always)]
-pub(crate) fn pass_all(
+pub(crate) fn pass_arguments(
     memory: &mut Memory,
     arguments: &[Argument],
     level: &Level<'_>,
@@ -62,7 +62,7 @@ pub(crate) fn pass_all(
     addresses: &mut VarAddresses,
 ) -> Result<(), Stop>
     ensures { IsOutcomeOfPassing result memory.new cells.new.items (addresses_in addresses.new)
-        (pass_all (levels_of level.now) (map argument_of arguments.now)
+        (pass_arguments (levels_of level.now) (map argument_of arguments.now)
         (passed_arguments cells.old.items (addresses_in addresses.old))) }
 {
     for argument in arguments {

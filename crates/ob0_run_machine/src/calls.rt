@@ -13,8 +13,8 @@ use crate::level::Level;
 use crate::machine::Machine;
 use crate::statements::run_sequence_inline;
 
-/// Returns the procedure at the index `procedure` of the list, or None if the list has no such
-/// index.
+/// Returns the procedure at the index `procedure` of `procedures`, or None if there is no procedure
+/// at this index.
 #[inline(always)]
 fn procedure_at<'p>(procedures: &'p [Routine], procedure: usize) -> Option<&'p Routine>
     ensures { option_map (λ p. procedure_of p.now) result

@@ -40,10 +40,10 @@ pub enum Operator {
     Remainder,
 }
 
-/// The place of a variable or of its part, if no index has to be evaluated to find it. `Module` is
-/// at an offset in the cells of the module, `InOwnActivation` at an offset in the cells of the
-/// running activation. `ByReference` is at an offset from the address that was passed for a VAR
-/// parameter of the running activation. An offset is a number of cells.
+/// The place of a variable, or of an element or a field in it, if no index has to be evaluated to
+/// find the place. `Module` is at an offset in the cells of the module, `InOwnActivation` at an
+/// offset in the cells of the running activation. `ByReference` is at an offset from the address
+/// that was passed for a VAR parameter of the running activation. An offset is a number of cells.
 #[derive(Clone, Copy, PartialEq, Eq, Debug)]
 pub enum Variable {
     Module(usize),
@@ -63,7 +63,7 @@ pub enum Place {
     /// A place at an offset in the cells of an enclosing activation, which is `up` levels out from
     /// the running activation.
     Outside { up: usize, offset: usize },
-    Passed(Box<Reference>),
+    Passed(Box<VarParameterPlace>),
     /// A place in an element whose array and index are variables. It is a special form of `Element`
     /// that is evaluated in one step.
     VariableElement(Box<VariableElement>),
@@ -73,7 +73,7 @@ pub enum Place {
 /// A place at an offset from the address that was passed for a VAR parameter. The parameter belongs
 /// to the activation `up` levels out. `index` is the parameter's index among the VAR parameters.
 #[derive(Clone, Copy, PartialEq, Eq, Debug)]
-pub struct Reference {
+pub struct VarParameterPlace {
     pub up: usize,
     pub index: usize,
     pub offset: usize,
@@ -146,9 +146,9 @@ pub struct Chain {
     pub rest: Vec<Link>,
 }
 
-/// An operator with one operand: a literal, a variable or another number. A link is applied to the
-/// result so far, which is the left operand. In the cases whose names begin with `Variable`, the
-/// variable is the left operand, and the result so far is the right operand.
+/// A binary operator with one of its two operands: a literal, a variable or another number. The
+/// other operand is the result so far. It is the left operand, except in the cases whose names
+/// begin with `Variable`. In these it is the right operand.
 #[cycle(numbers)]
 #[derive(Drop)]
 pub enum Link {
@@ -181,7 +181,7 @@ pub enum Comparator {
 
 /// The two numbers that a relation compares.
 #[derive(Drop)]
-pub struct Operands {
+pub struct NumberPair {
     pub left: Number,
     pub right: Number,
 }
@@ -201,7 +201,7 @@ pub enum Truth {
     All(Box<TruthList>),
     /// A disjunction (OR) of several truths, which a loop evaluates.
     Any(Box<TruthList>),
-    Related(Comparator, Box<Operands>),
+    Related(Comparator, Box<NumberPair>),
     /// The relation that a variable is less than a literal. This case and the next three are
     /// special forms of `Related`, which are evaluated in one step.
     LessThanLiteral(Variable, i32),
@@ -222,7 +222,7 @@ pub struct TruthPair {
     pub right: Truth,
 }
 
-/// Operands that are joined by `&` or by OR, from left to right.
+/// Truths that are joined by `&` or by OR, from left to right.
 #[cycle(truths)]
 #[derive(Drop)]
 pub struct TruthList {

@@ -1,11 +1,11 @@
-//! Defines the reasons for which an expression or a statement ends a run.
+//! Defines the reasons why an expression or a statement ends a run.
 
 ghost use Rattle.std.specs.Prelude.{◌≡◌, Some};
 
 use std::alloc::{AllocError, AllocFailed};
 
-/// The fault with which the evaluation of an expression ends a run. Each case has the same name as
-/// the end of the run that it causes (`End`).
+/// A fault that ends the evaluation of an expression, and with it the run. Each case has the same
+/// name as the end of the run that it causes (`End`).
 #[derive(Clone, Copy, PartialEq, Eq, Debug)]
 pub(crate) enum EvaluationFault {
     Overflow,
@@ -13,7 +13,7 @@ pub(crate) enum EvaluationFault {
     Index,
 }
 
-/// The reason for which a statement ends a run. A `Stop` has no payload, so a `Result<(), Stop>` is
+/// The reason why a statement ends a run. A `Stop` has no payload, so a `Result<(), Stop>` is
 /// returned in registers.
 #[derive(Clone, Copy, PartialEq, Eq, Debug)]
 pub(crate) enum Stop {

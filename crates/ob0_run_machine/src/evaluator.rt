@@ -8,18 +8,20 @@ ghost use Rattle.ob0_run_machine.specs.Evaluation.{address, cell_at, gives, numb
 ghost use Rattle.ob0_run_machine.specs.declared.code.TruthPair.{out-TruthPair};
 ghost use Rattle.ob0_run_machine.specs.Lowered as lowered;
 ghost use Rattle.ob0_run_machine.specs.Levels.{levels_of};
-ghost use Rattle.ob0_run_machine.specs.View.{conjunction_of, disjunction_of, operation_with_link, chain_of, variable_relation, element_of, first_of, number_of, operation_of, operator_of, place_of, operands_relation, element_relation, variable_element_of, truth_of, variable_of};
+ghost use Rattle.ob0_run_machine.specs.View.{conjunction_of, disjunction_of, operation_with_link, chain_of, variable_comparison, element_of, first_operand_of, number_of, operation_of, operator_of, place_of, operands_comparison, element_comparison, variable_element_of, truth_of, variable_of};
 
 use crate::code::{
-    Chain, Comparator, Element, FirstOperand, Link, Number, Operands, Operation, Operator, Place,
+    Chain, Comparator, Element, FirstOperand, Link, Number, NumberPair, Operation, Operator, Place,
     Truth, TruthList, TruthPair, Variable, VariableElement,
 };
 use crate::ending::EvaluationFault;
 use crate::flat_outcome::{FlatOutcome, into_flat_outcome, into_result};
-use crate::level::{Level, base_at, outer_var_parameter_at, var_parameter_at};
+use crate::level::{
+    Level, base_of_enclosing_level, outer_var_parameter_address, var_parameter_address,
+};
 use crate::operators::{
-    add, add_offset, compare, divide, element_address, equal_truths, is_true, modulo, multiply,
-    negate, operate, subtract,
+    add, add_offset, apply_operator, compare, divide, element_address, equal_truths, is_true,
+    modulo, multiply, negate, subtract,
 };
 
 /// Returns the value of a cell, or 0 if there is no cell at the address.
@@ -43,14 +45,17 @@ pub(crate) fn variable_address(variable: Variable, level: &Level<'_>) -> usize
         Variable::Module(offset) => offset,
         Variable::InOwnActivation(offset) => add_offset(level.base, offset),
         Variable::ByReference { index, offset } => {
-            add_offset(var_parameter_at(level, index as usize), offset as usize)
+            add_offset(
+                var_parameter_address(level, index as usize),
+                offset as usize,
+            )
         }
     }
 }
 
 /// Returns the number in a variable's cell, or 0 if that cell doesn't exist.
 #[inline(always)]
-fn value_of(variable: Variable, level: &Level<'_>, cells: &[i32]) -> i32
+fn variable_value(variable: Variable, level: &Level<'_>, cells: &[i32]) -> i32
     ensures { number (levels_of level.now) cells.now (lowered.cell (variable_of variable))
         ≡ gives result }
 {
@@ -67,7 +72,7 @@ pub(crate) fn variable_element_address(
 ) -> Result<usize, EvaluationFault>
     ensures { outcome_of_result result ≡ address (levels_of level.now) cells.now (variable_element_of row.now) }
 {
-    let index = value_of(row.index, level, cells);
+    let index = variable_value(row.index, level, cells);
     let array = add_offset(variable_address(row.array, level), row.offset);
     element_address(array, row.length, row.stride, index)
 }
@@ -86,8 +91,14 @@ pub(crate) fn locate(
 {
     match place {
         Place::Variable(variable) => Ok(variable_address(*variable, level)),
-        Place::Outside { up, offset } => Ok(add_offset(base_at(level, *up), *offset)),
-        Place::Passed(r) => Ok(add_offset(outer_var_parameter_at(level, r.up, r.index), r.offset)),
+        Place::Outside { up, offset } => Ok(add_offset(
+            base_of_enclosing_level(level, *up),
+            *offset,
+        )),
+        Place::Passed(r) => Ok(add_offset(
+            outer_var_parameter_address(level, r.up, r.index),
+            r.offset,
+        )),
         Place::VariableElement(r) => variable_element_address(r, level, cells),
         Place::Element(e) => into_result(locate_element_flat(e, level, cells)),
     }
@@ -125,7 +136,7 @@ pub(crate) fn evaluate_number(
 {
     match n {
         Number::Literal(n) => Ok(*n),
-        Number::Variable(variable) => Ok(value_of(*variable, level, cells)),
+        Number::Variable(variable) => Ok(variable_value(*variable, level, cells)),
         Number::Cell(place) => {
             let a = locate(place, level, cells)?;
             Ok(cell_at(cells, a))
@@ -145,11 +156,11 @@ fn evaluate_first_operand(
     level: &Level<'_>,
     cells: &[i32],
 ) -> Result<i32, EvaluationFault>
-    ensures { outcome_of_result result ≡ number (levels_of level.now) cells.now (first_of n.now) }
+    ensures { outcome_of_result result ≡ number (levels_of level.now) cells.now (first_operand_of n.now) }
 {
     match n {
         FirstOperand::Literal(n) => Ok(*n),
-        FirstOperand::Variable(variable) => Ok(value_of(*variable, level, cells)),
+        FirstOperand::Variable(variable) => Ok(variable_value(*variable, level, cells)),
         FirstOperand::Cell(place) => {
             let a = locate(place, level, cells)?;
             Ok(cell_at(cells, a))
@@ -181,7 +192,7 @@ fn evaluate_operation(o: &Operation, level: &Level<'_>, cells: &[i32]) -> FlatOu
     match &o.first {
         FirstOperand::Variable(v) => into_flat_outcome(apply(
             &o.link,
-            value_of(*v, level, cells),
+            variable_value(*v, level, cells),
             level,
             cells,
         )),
@@ -226,9 +237,9 @@ pub(crate) fn evaluate_chain(
     Ok(left)
 }
 
-/// Applies a link, which is an operator with one operand, to the number `left`. Returns the result,
-/// or the fault that ends the evaluation. If the link's operand is neither a literal nor a
-/// variable, `apply_to_expression` evaluates it. So `apply` is small enough to be inlined.
+/// Applies a link to the number `left`, which is the result so far. Returns the new result, or the
+/// fault that ends the evaluation. If the link's operand is neither a literal nor a variable,
+/// `apply_to_expression` evaluates it. So `apply` is small enough to be inlined.
 #[inline(always)]
 #[cycle(evaluation)]
 fn apply(link: &Link, left: i32, level: &Level<'_>, cells: &[i32]) -> Result<i32, EvaluationFault>
@@ -236,18 +247,18 @@ fn apply(link: &Link, left: i32, level: &Level<'_>, cells: &[i32]) -> Result<i32
 {
     match link {
         Link::SumLiteral(n) => add(left, *n),
-        Link::SumVariable(v) => add(left, value_of(*v, level, cells)),
+        Link::SumVariable(v) => add(left, variable_value(*v, level, cells)),
         Link::DifferenceLiteral(n) => subtract(left, *n),
-        Link::DifferenceVariable(v) => subtract(left, value_of(*v, level, cells)),
+        Link::DifferenceVariable(v) => subtract(left, variable_value(*v, level, cells)),
         Link::ProductLiteral(n) => multiply(left, *n),
-        Link::ProductVariable(v) => multiply(left, value_of(*v, level, cells)),
+        Link::ProductVariable(v) => multiply(left, variable_value(*v, level, cells)),
         Link::QuotientLiteral(n) => divide(left, *n),
-        Link::QuotientVariable(v) => divide(left, value_of(*v, level, cells)),
+        Link::QuotientVariable(v) => divide(left, variable_value(*v, level, cells)),
         Link::RemainderLiteral(n) => modulo(left, *n),
-        Link::RemainderVariable(v) => modulo(left, value_of(*v, level, cells)),
-        Link::VariableSum(v) => add(value_of(*v, level, cells), left),
-        Link::VariableDifference(v) => subtract(value_of(*v, level, cells), left),
-        Link::VariableProduct(v) => multiply(value_of(*v, level, cells), left),
+        Link::RemainderVariable(v) => modulo(left, variable_value(*v, level, cells)),
+        Link::VariableSum(v) => add(variable_value(*v, level, cells), left),
+        Link::VariableDifference(v) => subtract(variable_value(*v, level, cells), left),
+        Link::VariableProduct(v) => multiply(variable_value(*v, level, cells), left),
         Link::Other(o, n) => into_result(apply_to_expression(*o, left, n, level, cells)),
     }
 }
@@ -268,13 +279,13 @@ fn apply_to_expression(
         (lowered.operation (operator_of operator) (lowered.literal left) (number_of n.now)) }
 {
     match evaluate_number(n, level, cells) {
-        Ok(right) => into_flat_outcome(operate(operator, left, right)),
+        Ok(right) => into_flat_outcome(apply_operator(operator, left, right)),
         Err(ending) => into_flat_outcome(Err(ending)),
     }
 }
 
-/// Applies a link, which is an operator with one operand, to the value of a variable. Returns the
-/// result or the fault.
+/// Applies a link to the value of a variable. Returns the result, or the fault that ends the
+/// evaluation.
 #[inline(always)]
 pub(crate) fn evaluate_update(
     variable: Variable,
@@ -286,7 +297,7 @@ pub(crate) fn evaluate_update(
         ≡ number (levels_of level.now) cells.now
         (operation_with_link link.now (lowered.cell (variable_of variable))) }
 {
-    let left = value_of(variable, level, cells);
+    let left = variable_value(variable, level, cells);
     apply(link, left, level, cells)
 }
 
@@ -338,7 +349,7 @@ pub(crate) fn evaluate_truth(
         }
         Truth::ComparedToLiteral(r, v, n) => Ok(compare_variable(*r, *v, *n, level, cells)),
         Truth::ComparedToVariable(r, v, w) => {
-            let right = value_of(*w, level, cells);
+            let right = variable_value(*w, level, cells);
             Ok(compare_variable(*r, *v, right, level, cells))
         }
         Truth::ElementToVariable(r, q, v) => into_result(compare_element(*r, q, *v, level, cells)),
@@ -393,7 +404,7 @@ fn evaluate_general_truth(
         }
         Truth::ComparedToLiteral(r, v, n) => Ok(compare_variable(*r, *v, *n, level, cells)),
         Truth::ComparedToVariable(r, v, w) => {
-            let right = value_of(*w, level, cells);
+            let right = variable_value(*w, level, cells);
             Ok(compare_variable(*r, *v, right, level, cells))
         }
         Truth::ElementToVariable(r, q, v) => into_result(compare_element(*r, q, *v, level, cells)),
@@ -412,9 +423,9 @@ fn compare_variable(
     cells: &[i32],
 ) -> bool
     ensures { truth (levels_of level.now) cells.now
-        (variable_relation relation variable (lowered.literal right)) ≡ gives result }
+        (variable_comparison relation variable (lowered.literal right)) ≡ gives result }
 {
-    compare(relation, value_of(variable, level, cells), right)
+    compare(relation, variable_value(variable, level, cells), right)
 }
 
 /// Returns whether a relation holds between an array's element and the value of a variable. Returns
@@ -428,11 +439,11 @@ fn compare_element(
     cells: &[i32],
 ) -> FlatOutcome<bool>
     ensures { outcome_of result
-        ≡ truth (levels_of level.now) cells.now (element_relation relation left.now right) }
+        ≡ truth (levels_of level.now) cells.now (element_comparison relation left.now right) }
 {
     match variable_element_address(left, level, cells) {
         Ok(a) => {
-            let right = value_of(right, level, cells);
+            let right = variable_value(right, level, cells);
             FlatOutcome::Value(compare(relation, cell_at(cells, a), right))
         }
         Err(ending) => into_flat_outcome(Err(ending)),
@@ -444,12 +455,12 @@ fn compare_element(
 #[inline(always)]
 fn compare_operands(
     relation: Comparator,
-    operands: &Operands,
+    operands: &NumberPair,
     level: &Level<'_>,
     cells: &[i32],
 ) -> Result<bool, EvaluationFault>
     ensures { outcome_of_result result
-        ≡ truth (levels_of level.now) cells.now (operands_relation relation operands.now) }
+        ≡ truth (levels_of level.now) cells.now (operands_comparison relation operands.now) }
 {
     let left = evaluate_number(&operands.left, level, cells)?;
     let right = evaluate_number(&operands.right, level, cells)?;

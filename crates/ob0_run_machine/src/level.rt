@@ -38,13 +38,13 @@ pub(crate) fn enclosing_level<'l>(level: &'l Level<'l>, up: usize) -> Option<&'l
             if up == 1 {
                 return Some(level);
             }
-            find_enclosing_level(level, up - 1)
+            enclosing_level_out_of_line(level, up - 1)
         }
     }
 }
 
 #[inline(never)]
-fn find_enclosing_level<'l>(level: &'l Level<'l>, up: usize) -> Option<&'l Level<'l>>
+fn enclosing_level_out_of_line<'l>(level: &'l Level<'l>, up: usize) -> Option<&'l Level<'l>>
     ensures { levels_of_option result ≡ drop up (levels_of level.now) }
 {
     if up == 0 {
@@ -52,13 +52,13 @@ fn find_enclosing_level<'l>(level: &'l Level<'l>, up: usize) -> Option<&'l Level
     }
     match level.enclosing {
         None => None,
-        Some(level) => find_enclosing_level(level, up - 1),
+        Some(level) => enclosing_level_out_of_line(level, up - 1),
     }
 }
 
 /// Returns the address of the first cell of the activation that is `up` levels out from `level`.
 /// Returns 0 if there are fewer levels.
-pub(crate) fn base_at(level: &Level<'_>, up: usize) -> usize
+pub(crate) fn base_of_enclosing_level(level: &Level<'_>, up: usize) -> usize
     ensures { result ≡ (level_at (levels_of level.now) up).base }
 {
     match enclosing_level(level, up) {
@@ -70,7 +70,7 @@ pub(crate) fn base_at(level: &Level<'_>, up: usize) -> usize
 /// Returns the address that was passed for a VAR parameter of the activation `level`. `index` is
 /// the parameter's index among the VAR parameters. Returns 0 if there is no such parameter.
 #[inline(always)]
-pub(crate) fn var_parameter_at(level: &Level<'_>, index: usize) -> usize
+pub(crate) fn var_parameter_address(level: &Level<'_>, index: usize) -> usize
     ensures { result ≡ slice_index_or (innermost_level (levels_of level.now)).addresses index 0 }
 {
     match level.addresses.get(index) {
@@ -82,11 +82,11 @@ pub(crate) fn var_parameter_at(level: &Level<'_>, index: usize) -> usize
 /// Returns the address that was passed for a VAR parameter of the activation that is `up` levels
 /// out from `level`. `index` is the parameter's index among the VAR parameters. Returns 0 if there
 /// is no such parameter.
-pub(crate) fn outer_var_parameter_at(level: &Level<'_>, up: usize, index: usize) -> usize
+pub(crate) fn outer_var_parameter_address(level: &Level<'_>, up: usize, index: usize) -> usize
     ensures { result ≡ slice_index_or (level_at (levels_of level.now) up).addresses index 0 }
 {
     match enclosing_level(level, up) {
         None => 0,
-        Some(level) => var_parameter_at(level, index),
+        Some(level) => var_parameter_address(level, index),
     }
 }

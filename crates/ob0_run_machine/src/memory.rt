@@ -7,7 +7,7 @@
 //! states that the run needed a larger list, or that the allocator refused the request.
 
 ghost use Rattle.std.specs.Prelude.{◌≡◌, ◌+◌, ◌++◌, ◌∷◌, ◌<◌, ◌≤◌, ◌^◌, [], OnErr, OnOk, false, length, true, vec_capacity, vec_len};
-ghost use Rattle.ob0_run_machine.specs.Execution.{block_at, zeros};
+ghost use Rattle.ob0_run_machine.specs.Execution.{block_or_zeros_at, zeros};
 ghost use Rattle.ob0_run_machine.specs.Allocations.{has_failed};
 
 use crate::cell_copies::copy_up;
@@ -107,7 +107,7 @@ impl Memory {
         count: usize,
     ) -> Result<(), AllocError>
         ensures items { OnOk result
-            (cells.new.items ≡ cells.old.items ++ block_at cells.old.items from count) }
+            (cells.new.items ≡ cells.old.items ++ block_or_zeros_at cells.old.items from count) }
         ensures failed { OnErr result (has_failed self.new ≡ true) }
         ensures full { OnErr result (vec_capacity cells.old < vec_len cells.old + count) }
     {

@@ -3,7 +3,7 @@
 ghost use Rattle.std.specs.Int.{w32};
 ghost use Rattle.std.specs.Prelude.{◌≡◌, ◌+ℤ◌, FitsSigned, SomeIff, neg_ℤ};
 ghost use Rattle.ob0_run_machine.specs.Answers.{number_or_overflow, outcome_of_result};
-ghost use Rattle.ob0_run_machine.specs.Evaluation.{compare, division_outcome, element_address, add_offset, checked_number, is_true, as_cell, operate, same_truth};
+ghost use Rattle.ob0_run_machine.specs.Evaluation.{compare, division_outcome, element_address, add_offset, checked_number, is_true, truth_as_cell, apply_operator, same_truth};
 ghost use Rattle.ob0_run_machine.specs.Lowered.{difference, product, quotient, remainder, sum};
 ghost use Rattle.ob0_run_machine.specs.View.{operator_of, relation_of};
 
@@ -37,7 +37,7 @@ fn number_or_divisor_fault(number: Option<i32>) -> Result<i32, EvaluationFault>
 /// Returns the quotient, rounded down. Returns the fault Divisor if the divisor is below 1.
 #[inline(always)]
 pub(crate) fn divide(left: i32, right: i32) -> Result<i32, EvaluationFault>
-    ensures { outcome_of_result result ≡ operate quotient left right }
+    ensures { outcome_of_result result ≡ apply_operator quotient left right }
 {
     number_or_divisor_fault(ob0_language_values::divide(left, right))
 }
@@ -46,7 +46,7 @@ pub(crate) fn divide(left: i32, right: i32) -> Result<i32, EvaluationFault>
 /// below 1.
 #[inline(always)]
 pub(crate) fn modulo(left: i32, right: i32) -> Result<i32, EvaluationFault>
-    ensures { outcome_of_result result ≡ operate remainder left right }
+    ensures { outcome_of_result result ≡ apply_operator remainder left right }
 {
     number_or_divisor_fault(ob0_language_values::modulo(left, right))
 }
@@ -73,29 +73,33 @@ fn checked_sum(left: i32, right: i32) -> Option<i32>
 /// the same for the difference and the product.
 #[inline(always)]
 pub(crate) fn add(left: i32, right: i32) -> Result<i32, EvaluationFault>
-    ensures { outcome_of_result result ≡ operate sum left right }
+    ensures { outcome_of_result result ≡ apply_operator sum left right }
 {
     checked_number(checked_sum(left, right))
 }
 
 #[inline(always)]
 pub(crate) fn subtract(left: i32, right: i32) -> Result<i32, EvaluationFault>
-    ensures { outcome_of_result result ≡ operate difference left right }
+    ensures { outcome_of_result result ≡ apply_operator difference left right }
 {
     checked_number(left.checked_sub(right))
 }
 
 #[inline(always)]
 pub(crate) fn multiply(left: i32, right: i32) -> Result<i32, EvaluationFault>
-    ensures { outcome_of_result result ≡ operate product left right }
+    ensures { outcome_of_result result ≡ apply_operator product left right }
 {
     checked_number(left.checked_mul(right))
 }
 
 /// Applies an operator to two numbers. Returns the result, or the fault Overflow or Divisor.
 #[inline(always)]
-pub(crate) fn operate(operator: Operator, left: i32, right: i32) -> Result<i32, EvaluationFault>
-    ensures { outcome_of_result result ≡ operate (operator_of operator) left right }
+pub(crate) fn apply_operator(
+    operator: Operator,
+    left: i32,
+    right: i32,
+) -> Result<i32, EvaluationFault>
+    ensures { outcome_of_result result ≡ apply_operator (operator_of operator) left right }
 {
     match operator {
         Operator::Sum => add(left, right),
@@ -147,8 +151,8 @@ pub(crate) fn is_true(number: i32) -> bool
 
 /// Returns the number that is stored in a cell for a truth value: 1 for TRUE, 0 for FALSE.
 #[inline(always)]
-pub(crate) fn as_cell(truth: bool) -> i32
-    ensures { result ≡ as_cell truth }
+pub(crate) fn truth_as_cell(truth: bool) -> i32
+    ensures { result ≡ truth_as_cell truth }
 {
     if truth { 1 } else { 0 }
 }

@@ -2,7 +2,7 @@
 
 ghost use Rattle.std.specs.Prelude.{◌≡◌, IfOk, Some};
 ghost use Rattle.ob0_run_machine.specs.Execution.{run};
-ghost use Rattle.ob0_run_machine.specs.Outcomes.{IsEndOf, body_run, run_of};
+ghost use Rattle.ob0_run_machine.specs.Outcomes.{IsEndAfterExecution, progress_after_body, run_of};
 ghost use Rattle.ob0_run_machine.specs.Machines.{IsProgressAfterStep, state_of};
 ghost use Rattle.ob0_run_machine.specs.View.{program_of};
 
@@ -50,7 +50,7 @@ fn execute(
     machine: &mut Machine<'_>,
 ) -> Result<(), Stop>
     ensures { IsProgressAfterStep result machine.new
-        (body_run (program_of program.now) calls turns (state_of machine.old)) }
+        (progress_after_body (program_of program.now) calls turns (state_of machine.old)) }
 {
     let level = Level {
         base: 0,
@@ -67,7 +67,7 @@ fn execute(
 /// end with the same name as the `Stop`. Returns an error exactly if an allocation failed
 /// (`Stop::Memory`).
 fn end_of(executed: Result<(), Stop>) -> Result<End, AllocError>
-    ensures { IsEndOf executed result }
+    ensures { IsEndAfterExecution executed result }
 {
     match executed {
         Ok(()) => Ok(End::Done),

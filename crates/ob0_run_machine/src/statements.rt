@@ -4,17 +4,17 @@
 ghost use Rattle.std.specs.Prelude.{◌≡◌, ◌++◌, ◌∷◌, [], IfSome, List, ℕ, ℤ};
 ghost use Rattle.ob0_run_machine.specs.Answers.{outcome_of_result};
 ghost use Rattle.ob0_run_machine.specs.Evaluation.{Levels, address as address_of, gives, number, truth};
-ghost use Rattle.ob0_run_machine.specs.CountingLoops.{HasLimit, IsCountCondition, limit_value};
+ghost use Rattle.ob0_run_machine.specs.CountingLoops.{IsCountingLimit, IsCountingCondition, limit_value};
 ghost use Rattle.ob0_run_machine.specs.declared.code.Comparator.TheVariants.{Less};
 ghost use Rattle.ob0_run_machine.specs.declared.code.Instruction.{Increase};
 ghost use Rattle.ob0_run_machine.specs.Execution.{CallEffect, execute};
 ghost use Rattle.ob0_run_machine.specs.Levels.{levels_of};
 ghost use Rattle.ob0_run_machine.specs.Lowered as lowered;
 ghost use Rattle.ob0_run_machine.specs.Machines.{StepHasEffect, IsProgressAfterStep, entry_effect, statement_effect, sequence_effect, elsifs_effect, progress_after_step, state_of};
-ghost use Rattle.ob0_run_machine.specs.View.{operation_with_link, conditional_of, call_of, chain_of, variable_relation, variable_increase, number_of, elsif_branches, else_statements, place_of, repeat_of, variable_element_of, sequence_of, statement_of, truth_of, variable_of, while_of};
+ghost use Rattle.ob0_run_machine.specs.View.{operation_with_link, conditional_of, call_of, chain_of, variable_comparison, variable_increase, number_of, elsif_branches, else_statements, place_of, repeat_of, variable_element_of, sequence_of, statement_of, truth_of, variable_of, while_of};
 
 use crate::addresses::VarAddresses;
-use crate::argument_passing::pass_all;
+use crate::argument_passing::pass_arguments;
 use crate::code::{
     Chain, Comparator, Conditional, Instruction, Link, Number, Place, ProcedureCall, RepeatLoop,
     Truth, Variable, VariableElement, WhileLoop,
@@ -26,7 +26,7 @@ use crate::evaluator::{
 };
 use crate::level::{Level, enclosing_level};
 use crate::machine::{Item, Machine, copy, store};
-use crate::operators::{add, as_cell, compare};
+use crate::operators::{add, compare, truth_as_cell};
 
 /// Assigns the value of `n` to a place of any form. Returns a fault if the evaluation of the place
 /// or of `n` has one. This function isn't inlined, so `run_statement` is small enough to be
@@ -156,7 +156,7 @@ fn store_truth(
 {
     let a = locate(place, level, machine.cells.as_slice())?;
     let v = evaluate_truth(t, level, machine.cells.as_slice())?;
-    store(&mut machine.cells, a, as_cell(v));
+    store(&mut machine.cells, a, truth_as_cell(v));
     Ok(())
 }
 
@@ -176,7 +176,7 @@ fn store_constant(
         (lowered.stores_truth (variable_element_of r.now) (lowered.constant b)) (state_of machine.old) }
 {
     let a = variable_element_address(r, level, machine.cells.as_slice())?;
-    store(&mut machine.cells, a, as_cell(b));
+    store(&mut machine.cells, a, truth_as_cell(b));
     Ok(())
 }
 
@@ -269,7 +269,7 @@ fn run_call<F: Fn(&mut Machine<'_>, usize, &Level<'_>) -> Result<(), Stop>>(
 {
     let base = machine.cell_count();
     let mut addresses = VarAddresses::Empty;
-    pass_all(
+    pass_arguments(
         &mut machine.memory,
         c.arguments.as_slice(),
         level,
@@ -352,8 +352,8 @@ pub(crate) fn run_sequence_inline<F: Fn(&mut Machine<'_>, usize, &Level<'_>) -> 
     Ok(())
 }
 
-/// Runs statements in order, until one of them ends the run. This function isn't inlined. An IF
-/// calls it to run one of its parts.
+/// Runs statements in order, until one of them ends the run. This function isn't inlined. It runs
+/// the chosen statements of an IF, and the program's own statements.
 #[inline(never)]
 #[cycle(execution)]
 pub(crate) fn run_sequence<F: Fn(&mut Machine<'_>, usize, &Level<'_>) -> Result<(), Stop>>(
@@ -370,10 +370,11 @@ pub(crate) fn run_sequence<F: Fn(&mut Machine<'_>, usize, &Level<'_>) -> Result<
     run_sequence_inline(statements, level, turns, machine, enter)
 }
 
-/// Runs statements in order. If the list is empty, as in an IF without ELSE, no function is called.
+/// Runs statements in order. If there are no statements, as in an IF without ELSE, no function is
+/// called.
 #[inline(always)]
 #[cycle(execution)]
-fn run_unless_empty<F: Fn(&mut Machine<'_>, usize, &Level<'_>) -> Result<(), Stop>>(
+fn run_sequence_unless_empty<F: Fn(&mut Machine<'_>, usize, &Level<'_>) -> Result<(), Stop>>(
     statements: &[Instruction],
     level: &Level<'_>,
     turns: u32,
@@ -412,7 +413,7 @@ fn run_conditional<F: Fn(&mut Machine<'_>, usize, &Level<'_>) -> Result<(), Stop
     let others = i.others.as_slice();
     let count = others.len();
     if count == 0 {
-        return run_unless_empty(&i.otherwise, level, turns, machine, enter);
+        return run_sequence_unless_empty(&i.otherwise, level, turns, machine, enter);
     }
     run_elsifs(i, level, turns, machine, enter)
 }
@@ -437,7 +438,7 @@ fn run_elsifs<F: Fn(&mut Machine<'_>, usize, &Level<'_>) -> Result<(), Stop>>(
             return run_sequence(&branch.body, level, turns, machine, enter);
         }
     }
-    run_unless_empty(&i.otherwise, level, turns, machine, enter)
+    run_sequence_unless_empty(&i.otherwise, level, turns, machine, enter)
 }
 
 /// Adds the number `by` to the variable at an address, as `increase_at` does. Returns a fault as a
@@ -455,33 +456,33 @@ fn increase_or_stop(address: usize, by: i32, machine: &mut Machine<'_>) -> Resul
 
 /// The limit of a counting loop: a literal, or the address of the variable that is the limit.
 #[derive(Clone, Copy, PartialEq, Eq, Debug)]
-enum CountLimit {
+enum CountingLimit {
     Literal(i32),
     Address(usize),
 }
 
 /// A condition `variable < limit`.
 #[derive(Clone, Copy, PartialEq, Eq, Debug)]
-struct CountCondition {
+struct CountingCondition {
     variable: Variable,
-    limit: CountLimit,
+    limit: CountingLimit,
 }
 
 /// Returns the variable and the limit of a condition that compares a variable by `<` with a literal
 /// or a variable. Returns None for any other condition.
 #[inline(always)]
-fn count_condition(condition: &Truth, level: &Level<'_>) -> Option<CountCondition>
-    ensures { IfSome result (λ c. IsCountCondition (levels_of level.now) condition.now c) }
+fn counting_condition(condition: &Truth, level: &Level<'_>) -> Option<CountingCondition>
+    ensures { IfSome result (λ c. IsCountingCondition (levels_of level.now) condition.now c) }
 {
     match condition {
-        Truth::LessThanLiteral(v, n) => Some(CountCondition {
+        Truth::LessThanLiteral(v, n) => Some(CountingCondition {
             variable: *v,
-            limit: CountLimit::Literal(*n),
+            limit: CountingLimit::Literal(*n),
         }),
         Truth::ComparedToVariable(relation, v, w) => match relation {
-            Comparator::Less => Some(CountCondition {
+            Comparator::Less => Some(CountingCondition {
                 variable: *v,
-                limit: CountLimit::Address(variable_address(*w, level)),
+                limit: CountingLimit::Address(variable_address(*w, level)),
             }),
             _ => None,
         },
@@ -489,31 +490,31 @@ fn count_condition(condition: &Truth, level: &Level<'_>) -> Option<CountConditio
     }
 }
 
-/// Returns the number that a loop's limit is, in these cells.
+/// Returns the value of a limit: its literal, or the number in the cell at its address.
 #[inline(always)]
-fn limit_in(limit: CountLimit, cells: &[i32]) -> i32
+fn current_limit(limit: CountingLimit, cells: &[i32]) -> i32
     ensures { result ≡ limit_value cells.now limit }
 {
     match limit {
-        CountLimit::Literal(n) => n,
-        CountLimit::Address(address) => cell_at(cells, address),
+        CountingLimit::Literal(n) => n,
+        CountingLimit::Address(address) => cell_at(cells, address),
     }
 }
 
-/// Returns whether the variable at an address is less than a limit.
+/// Returns whether the number in the cell at an address is less than the value of a limit.
 #[tactic(auto, using(crate::proofs::Executing::compared_at))]
 #[inline(always)]
-fn is_below(address: usize, limit: CountLimit, machine: &Machine<'_>) -> bool
+fn is_below_limit(address: usize, limit: CountingLimit, machine: &Machine<'_>) -> bool
     ensures { (ls : Levels) (v : Variable) (n : lowered.Number)
         → address_of ls machine.now.cells.items (variable_of v) ≡ gives address
         → number ls machine.now.cells.items n ≡ gives (limit_value machine.now.cells.items limit)
-        → gives result ≡ truth ls machine.now.cells.items (variable_relation Less v n) }
+        → gives result ≡ truth ls machine.now.cells.items (variable_comparison Less v n) }
 {
     let cells = machine.cells.as_slice();
     compare(
         Comparator::Less,
         cell_at(cells, address),
-        limit_in(limit, cells),
+        current_limit(limit, cells),
     )
 }
 
@@ -521,7 +522,7 @@ fn is_below(address: usize, limit: CountLimit, machine: &Machine<'_>) -> bool
 /// The last one adds the number `by` to the variable at `address`.
 #[inline(always)]
 #[cycle(execution)]
-fn run_counted_body<F: Fn(&mut Machine<'_>, usize, &Level<'_>) -> Result<(), Stop>>(
+fn run_counting_loop_body<F: Fn(&mut Machine<'_>, usize, &Level<'_>) -> Result<(), Stop>>(
     statements: &[Instruction],
     address: usize,
     by: i32,
@@ -549,7 +550,7 @@ fn run_counted_body<F: Fn(&mut Machine<'_>, usize, &Level<'_>) -> Result<(), Sto
 #[inline(always)]
 #[cycle(execution)]
 fn run_counting_loop<F: Fn(&mut Machine<'_>, usize, &Level<'_>) -> Result<(), Stop>>(
-    condition: CountCondition,
+    condition: CountingCondition,
     statements: &[Instruction],
     increased: Variable,
     by: i32,
@@ -560,24 +561,24 @@ fn run_counting_loop<F: Fn(&mut Machine<'_>, usize, &Level<'_>) -> Result<(), St
 ) -> Result<(), Stop>
     requires { F.IsAlwaysCallable enter.now }
     ensures { (n : lowered.Number)
-        → HasLimit (levels_of level.now) n condition.limit
+        → IsCountingLimit (levels_of level.now) n condition.limit
         → StepHasEffect (F.post enter.now) result machine.old machine.new
         (statement_effect turns (levels_of level.now) (lowered.while_loop
-        (variable_relation Less condition.variable n)
+        (variable_comparison Less condition.variable n)
         (sequence_of (statements.now ++ Increase increased by ∷ [])))) }
 {
     let compared = variable_address(condition.variable, level);
     let changed = variable_address(increased, level);
     let mut left = turns;
     'again: loop {
-        if !is_below(compared, condition.limit, machine) {
+        if !is_below_limit(compared, condition.limit, machine) {
             return Ok(());
         }
         if left == 0 {
             return Err(Stop::TurnBound);
         }
         left -= 1;
-        run_counted_body(statements, changed, by, level, turns, machine, enter)?;
+        run_counting_loop_body(statements, changed, by, level, turns, machine, enter)?;
     }
 }
 
@@ -596,7 +597,7 @@ fn run_while<F: Fn(&mut Machine<'_>, usize, &Level<'_>) -> Result<(), Stop>>(
     ensures { StepHasEffect (F.post enter.now) result machine.old machine.new
         (statement_effect turns (levels_of level.now) (while_of w.now)) }
 {
-    if let Some(condition) = count_condition(&w.condition, level)
+    if let Some(condition) = counting_condition(&w.condition, level)
         && let Some((Instruction::Increase(u, by), statements)) = w.body.as_slice().split_last()
     {
         return run_counting_loop(condition, statements, *u, *by, level, turns, machine, enter);

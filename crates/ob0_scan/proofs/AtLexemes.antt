@@ -9,8 +9,8 @@ use Rattle.ob0_scan.specs.declared.lexeme.LexemeKind.{LexemeKind}
 use Rattle.ob0_scan.specs.declared.lexeme.LexemeKind.TheVariants as lexeme
 use Rattle.ob0_scan.specs.declared.lexeme.Span.{Span}
 use Rattle.ob0_scan.specs.declared.lexeme.Token.{Token}
-use Rattle.ob0_scan.specs.Lexed.{Lexeme, text_of_lexemes, AreLexemes}
-use Rattle.ob0_scan.specs.TextWithTokens.{span_from, token_at, comment_at, tokens_from, comments_from}
+use Rattle.ob0_scan.specs.Lexed.{Lexeme, text_of_lexemes, AreLeadingLexemes}
+use Rattle.ob0_scan.specs.TextWithTokens.{span_from, tokens_of_lexeme, comments_of_lexeme, tokens_from, comments_from}
 use Rattle.ob0_scan.specs.Reused.{span_after_shift, token_after_shift}
 use Rattle.ob0_scan.proofs.Cuts.{nonempty}
 
@@ -24,12 +24,12 @@ pub record AtLexemes (X : Type 0) : Type 0 where
   pub step : (s : ℕ) (l : Lexeme) (ls : List Lexeme) → all s (l ∷ ls) ≡ head s l ++ all (s + length l.text) ls
   pub one : (s : ℕ) (l : Lexeme) → (head s l ≡ []) ⊎ ((x : X) × (head s l ≡ x ∷ []) × (span x ≡ span_from s (length l.text)))
 
-pub token_one : (k : LexemeKind) (place : Span) → (token_at k place ≡ []) ⊎ ((x : Token) × (token_at k place ≡ x ∷ []) × (x.span ≡ place))
+pub token_one : (k : LexemeKind) (place : Span) → (tokens_of_lexeme k place ≡ []) ⊎ ((x : Token) × (tokens_of_lexeme k place ≡ x ∷ []) × (x.span ≡ place))
 token_one lexeme.Space place = inl refl
 token_one lexeme.Comment place = inl refl
 token_one (lexeme.Token k) place = inr (record { kind = k; span = place }, refl, refl)
 
-pub comment_one : (k : LexemeKind) (place : Span) → (comment_at k place ≡ []) ⊎ ((x : Span) × (comment_at k place ≡ x ∷ []) × (x ≡ place))
+pub comment_one : (k : LexemeKind) (place : Span) → (comments_of_lexeme k place ≡ []) ⊎ ((x : Span) × (comments_of_lexeme k place ≡ x ∷ []) × (x ≡ place))
 comment_one lexeme.Space place = inl refl
 comment_one lexeme.Comment place = inr (place, refl, refl)
 comment_one (lexeme.Token k) place = inl refl
@@ -37,7 +37,7 @@ comment_one (lexeme.Token k) place = inl refl
 abbrev pub of_tokens : AtLexemes Token
 of_tokens = record {
   span = λ (t : Token). t.span;
-  head = λ s l. token_at l.kind (span_from s (length l.text));
+  head = λ s l. tokens_of_lexeme l.kind (span_from s (length l.text));
   all = tokens_from;
   none = λ s. refl;
   step = λ s l ls. refl;
@@ -47,7 +47,7 @@ of_tokens = record {
 abbrev pub of_comments : AtLexemes Span
 of_comments = record {
   span = λ (c : Span). c;
-  head = λ s l. comment_at l.kind (span_from s (length l.text));
+  head = λ s l. comments_of_lexeme l.kind (span_from s (length l.text));
   all = comments_from;
   none = λ s. refl;
   step = λ s l ls. refl;
@@ -59,7 +59,7 @@ abbrev pub Full : List Lexeme → Type 0
 Full [] = Unit {0}
 Full (l ∷ ls) = (0 < length l.text) × Full ls
 
-pub full : (ls : List Lexeme) (after : List ℕ) → AreLexemes ls after → Full ls
+pub full : (ls : List Lexeme) (after : List ℕ) → AreLeadingLexemes ls after → Full ls
 full [] after f = tt
 full (l ∷ ls) after f = (nonempty l.kind l.text f.0.belongs, full ls after f.1)
 
@@ -273,24 +273,24 @@ module _ (removed added : ℕ) where
       let end : at + n ≡ place + n + added - removed = omega arith in
       ap₂ make_span start end
 
-  token_moved : (k : LexemeKind) (here there : Span) → here ≡ span_after_shift removed added there → token_at k here ≡ map (token_after_shift removed added) (token_at k there)
+  token_moved : (k : LexemeKind) (here there : Span) → here ≡ span_after_shift removed added there → tokens_of_lexeme k here ≡ map (token_after_shift removed added) (tokens_of_lexeme k there)
   token_moved lexeme.Space here there e = refl
   token_moved lexeme.Comment here there e = refl
-  token_moved (lexeme.Token k) here there e = ap (token_at (lexeme.Token k)) e
+  token_moved (lexeme.Token k) here there e = ap (tokens_of_lexeme (lexeme.Token k)) e
 
-  comment_moved : (k : LexemeKind) (here there : Span) → here ≡ span_after_shift removed added there → comment_at k here ≡ map (span_after_shift removed added) (comment_at k there)
+  comment_moved : (k : LexemeKind) (here there : Span) → here ≡ span_after_shift removed added there → comments_of_lexeme k here ≡ map (span_after_shift removed added) (comments_of_lexeme k there)
   comment_moved lexeme.Space here there e = refl
-  comment_moved lexeme.Comment here there e = ap (comment_at lexeme.Comment) e
+  comment_moved lexeme.Comment here there e = ap (comments_of_lexeme lexeme.Comment) e
   comment_moved (lexeme.Token k) here there e = refl
 
   pub tokens_moved : (at place : ℕ) (ls : List Lexeme) → at + removed ≡ place + added → removed ≤ place → tokens_from at ls ≡ map (token_after_shift removed added) (tokens_from place ls)
   tokens_moved at place [] e h = refl
   tokens_moved at place (l ∷ ls) e h =
       ap₂ (λ xs ys. xs ++ ys) (token_moved l.kind (span_from at (length l.text)) (span_from place (length l.text)) (moved_span at place (length l.text) e h)) (tokens_moved (at + length l.text) (place + length l.text) ls (omega arith) (omega arith))
-      ∙ sym (map-append (token_after_shift removed added) (token_at l.kind (span_from place (length l.text))) (tokens_from (place + length l.text) ls))
+      ∙ sym (map-append (token_after_shift removed added) (tokens_of_lexeme l.kind (span_from place (length l.text))) (tokens_from (place + length l.text) ls))
 
   pub comments_moved : (at place : ℕ) (ls : List Lexeme) → at + removed ≡ place + added → removed ≤ place → comments_from at ls ≡ map (span_after_shift removed added) (comments_from place ls)
   comments_moved at place [] e h = refl
   comments_moved at place (l ∷ ls) e h =
       ap₂ (λ xs ys. xs ++ ys) (comment_moved l.kind (span_from at (length l.text)) (span_from place (length l.text)) (moved_span at place (length l.text) e h)) (comments_moved (at + length l.text) (place + length l.text) ls (omega arith) (omega arith))
-      ∙ sym (map-append (span_after_shift removed added) (comment_at l.kind (span_from place (length l.text))) (comments_from (place + length l.text) ls))
+      ∙ sym (map-append (span_after_shift removed added) (comments_of_lexeme l.kind (span_from place (length l.text))) (comments_from (place + length l.text) ls))

@@ -11,8 +11,8 @@ use Rattle.ob0_scan.specs.declared.lexeme.LexemeKind.TheVariants as lexeme
 use Rattle.ob0_scan.specs.declared.lexeme.Span.{Span}
 use Rattle.ob0_scan.specs.declared.lexeme.Token.{Token}
 use Rattle.ob0_scan.specs.Lexed.{Lexeme, text_of_lexemes}
-use Rattle.ob0_scan.specs.TextWithTokens.{span_from, token_at, comment_at, tokens_from, comments_from}
-use Rattle.ob0_scan.specs.RescanState.{token_end, comment_end, last_end}
+use Rattle.ob0_scan.specs.TextWithTokens.{span_from, tokens_of_lexeme, comments_of_lexeme, tokens_from, comments_from}
+use Rattle.ob0_scan.specs.RescanState.{token_end_or_zero, comment_end_or_zero, end_of_last_lexeme}
 use Rattle.ob0_scan.proofs.Cuts.{joined_push, tokens_push, comments_push}
 use Rattle.ob0_scan.proofs.AtLexemes.{of_tokens, of_comments, Full, full_parts, Lies, lies, none_end}
 
@@ -68,9 +68,9 @@ module _ (place s : ℕ) (l : Lexeme) (ls : List Lexeme) where
         at_is = add-zero s;
         near = λ h. absurd (omega (arith, h));
         shape = inl refl;
-        tokens_done = ap (λ k. prefix_len (λ (t : Token). ltb t.span.end place) (token_at k (span_from s (length l.text)) ++ tokens_from (s + length l.text) ls)) white
+        tokens_done = ap (λ k. prefix_len (λ (t : Token). ltb t.span.end place) (tokens_of_lexeme k (span_from s (length l.text)) ++ tokens_from (s + length l.text) ls)) white
             ∙ ap₂ (λ n t. prefix_len (λ (t : Token). ltb t.span.end place) (tokens_from n t)) (no_bytes r e) rest ∙ r.tokens_done;
-        comments_done = ap (λ k. prefix_len (λ (c : Span). ltb c.end place) (comment_at k (span_from s (length l.text)) ++ comments_from (s + length l.text) ls)) white
+        comments_done = ap (λ k. prefix_len (λ (c : Span). ltb c.end place) (comments_of_lexeme k (span_from s (length l.text)) ++ comments_from (s + length l.text) ls)) white
             ∙ ap₂ (λ n t. prefix_len (λ (c : Span). ltb c.end place) (comments_from n t)) (no_bytes r e) rest ∙ r.comments_done;
       }
 
@@ -115,17 +115,17 @@ last_of xs x =
     let place : length (xs ++ x ∷ []) - 1 ≡ length xs = omega (arith, length_push xs x) in
     ap (slice_get (xs ++ x ∷ [])) place ∙ seam xs x
 
-tokens_low : (ts : List Token) (n : ℕ) → All (λ (t : Token). t.span.end ≤ n) ts → token_end (slice_get ts (length ts - 1)) ≤ n
+tokens_low : (ts : List Token) (n : ℕ) → All (λ (t : Token). t.span.end ≤ n) ts → token_end_or_zero (slice_get ts (length ts - 1)) ≤ n
 tokens_low [] n h = omega arith
 tokens_low (t ∷ ts) n h =
     let inside : length (t ∷ ts) - 1 < length (t ∷ ts) = omega arith in
-    subst (λ o. token_end o ≤ n) (sym (slice_get-get_or (t ∷ ts) (length (t ∷ ts) - 1) t inside)) (h (length (t ∷ ts) - 1) t inside)
+    subst (λ o. token_end_or_zero o ≤ n) (sym (slice_get-get_or (t ∷ ts) (length (t ∷ ts) - 1) t inside)) (h (length (t ∷ ts) - 1) t inside)
 
-comments_low : (cs : List Span) (n : ℕ) → All (λ (c : Span). c.end ≤ n) cs → comment_end (slice_get cs (length cs - 1)) ≤ n
+comments_low : (cs : List Span) (n : ℕ) → All (λ (c : Span). c.end ≤ n) cs → comment_end_or_zero (slice_get cs (length cs - 1)) ≤ n
 comments_low [] n h = omega arith
 comments_low (c ∷ cs) n h =
     let inside : length (c ∷ cs) - 1 < length (c ∷ cs) = omega arith in
-    subst (λ o. comment_end o ≤ n) (sym (slice_get-get_or (c ∷ cs) (length (c ∷ cs) - 1) c inside)) (h (length (c ∷ cs) - 1) c inside)
+    subst (λ o. comment_end_or_zero o ≤ n) (sym (slice_get-get_or (c ∷ cs) (length (c ∷ cs) - 1) c inside)) (h (length (c ∷ cs) - 1) c inside)
 
 max_right : (a b : ℕ) → a ≤ b → max a b ≡ b
 max_right a b h = omega arith
@@ -133,19 +133,19 @@ max_right a b h = omega arith
 max_left : (a b : ℕ) → b ≤ a → max a b ≡ a
 max_left a b h = omega arith
 
-one_further : (k : LexemeKind) (ts : List Token) (cs : List Span) (n len : ℕ) → k ≢ lexeme.Space → All (λ (t : Token). t.span.end ≤ n) ts → All (λ (c : Span). c.end ≤ n) cs → last_end (ts ++ token_at k (span_from n len)) (cs ++ comment_at k (span_from n len)) ≡ n + len
+one_further : (k : LexemeKind) (ts : List Token) (cs : List Span) (n len : ℕ) → k ≢ lexeme.Space → All (λ (t : Token). t.span.end ≤ n) ts → All (λ (c : Span). c.end ≤ n) cs → end_of_last_lexeme (ts ++ tokens_of_lexeme k (span_from n len)) (cs ++ comments_of_lexeme k (span_from n len)) ≡ n + len
 one_further lexeme.Space ts cs n len black ht hc = absurd (black refl)
 one_further lexeme.Comment ts cs n len black ht hc =
     let low = tokens_low ts n ht in
-    ap₂ (λ (us : List Token) o. max (token_end (slice_get us (length us - 1))) (comment_end o)) (append-nil ts) (last_of cs (span_from n len))
-    ∙ max_right (token_end (slice_get ts (length ts - 1))) (n + len) (omega arith)
+    ap₂ (λ (us : List Token) o. max (token_end_or_zero (slice_get us (length us - 1))) (comment_end_or_zero o)) (append-nil ts) (last_of cs (span_from n len))
+    ∙ max_right (token_end_or_zero (slice_get ts (length ts - 1))) (n + len) (omega arith)
 one_further (lexeme.Token k) ts cs n len black ht hc =
     let low = comments_low cs n hc in
-    ap₂ (λ o (us : List Span). max (token_end o) (comment_end (slice_get us (length us - 1)))) (last_of ts (record { kind = k; span = span_from n len })) (append-nil cs)
-    ∙ max_left (n + len) (comment_end (slice_get cs (length cs - 1))) (omega arith)
+    ap₂ (λ o (us : List Span). max (token_end_or_zero o) (comment_end_or_zero (slice_get us (length us - 1)))) (last_of ts (record { kind = k; span = span_from n len })) (append-nil cs)
+    ∙ max_left (n + len) (comment_end_or_zero (slice_get cs (length cs - 1))) (omega arith)
 
-pub front_end : (ls : List Lexeme) → Full ls → (ls ≡ []) ⊎ Last ls → last_end (tokens_from 0 ls) (comments_from 0 ls) ≡ length (text_of_lexemes ls)
-front_end ls f (inl e) = ap (λ t. last_end (tokens_from 0 t) (comments_from 0 t)) e ∙ sym (ap (λ t. length (text_of_lexemes t)) e)
+pub front_end : (ls : List Lexeme) → Full ls → (ls ≡ []) ⊎ Last ls → end_of_last_lexeme (tokens_from 0 ls) (comments_from 0 ls) ≡ length (text_of_lexemes ls)
+front_end ls f (inl e) = ap (λ t. end_of_last_lexeme (tokens_from 0 t) (comments_from 0 t)) e ∙ sym (ap (λ t. length (text_of_lexemes t)) e)
 front_end ls f (inr w) =
     let init = w.init in
     let l = w.last in
@@ -156,7 +156,7 @@ front_end ls f (inr w) =
     let low_tokens : All (λ (t : Token). t.span.end ≤ n) ts = All-weaker (λ (t : Token). Lies 0 n t.span) (λ (t : Token). t.span.end ≤ n) (λ t h. h.ends) ts (lies of_tokens 0 init parts.0) in
     let low_comments : All (λ (c : Span). c.end ≤ n) cs = All-weaker (λ (c : Span). Lies 0 n c) (λ (c : Span). c.end ≤ n) (λ c h. h.ends) cs (lies of_comments 0 init parts.0) in
     let long : length (text_of_lexemes ls) ≡ n + length l.text = ap (λ t. length (text_of_lexemes t)) w.are ∙ ap length (joined_push init l) ∙ omega (arith, length-append (text_of_lexemes init) l.text) in
-    ap (λ t. last_end (tokens_from 0 t) (comments_from 0 t)) w.are
-    ∙ ap₂ last_end (tokens_push 0 init l) (comments_push 0 init l)
+    ap (λ t. end_of_last_lexeme (tokens_from 0 t) (comments_from 0 t)) w.are
+    ∙ ap₂ end_of_last_lexeme (tokens_push 0 init l) (comments_push 0 init l)
     ∙ one_further l.kind ts cs n (length l.text) w.black low_tokens low_comments
     ∙ sym long

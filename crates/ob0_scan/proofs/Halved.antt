@@ -8,7 +8,7 @@ use Rattle.std.proofs.lemmas.List.Sums.{prefix_len_is}
 use Rattle.ob0_scan.specs.declared.lexeme.Span.{Span}
 use Rattle.ob0_scan.specs.declared.lexeme.Token.{Token}
 use Rattle.ob0_scan.specs.TextWithTokens.{TextWithTokens, IsScan}
-use Rattle.ob0_scan.specs.RescanState.{AreInOrder}
+use Rattle.ob0_scan.specs.RescanState.{SpansAreInOrder}
 use Rattle.ob0_scan.proofs.AtLexemes.{of_tokens, of_comments, full, AreAscending, ascending, starts_after, ends_after}
 
 rising : {X : Type 0} (n : X → ℕ) (xs : List X) → AreAscending n xs → IsNonDecreasingBy n xs
@@ -18,7 +18,7 @@ rising n (x ∷ xs) h (suc i) zero d le less = absurd (omega (arith, le))
 rising n (x ∷ xs) h zero (suc j) d le less = let later : n x < n (get_or xs j d) = All-get_or (λ y. n x < n y) xs j d (omega (arith, less)) h.0 in omega (arith, later)
 rising n (x ∷ xs) h (suc i) (suc j) d le less = rising n xs h.1 i j d (omega (arith, le)) (omega (arith, less))
 
-pub in_order : (s : TextWithTokens) → IsScan s → AreInOrder s.tokens s.comments
+pub in_order : (s : TextWithTokens) → IsScan s → SpansAreInOrder s.tokens s.comments
 in_order s o =
     let some = full o.lexemes [] o.lexed.each in
     record {

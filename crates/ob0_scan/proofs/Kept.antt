@@ -13,8 +13,8 @@ use Rattle.ob0_scan.specs.declared.scanner.Scanner.{Scanner}
 use Rattle.ob0_scan.specs.declared.incremental_scan.RescannedMiddle.{RescannedMiddle}
 use Rattle.ob0_scan.specs.Lexed.{Lexeme, text_of_lexemes}
 use Rattle.ob0_scan.specs.TextWithTokens.{TextWithTokens, IsScan}
-use Rattle.ob0_scan.specs.Reused.{span_after_shift, token_after_shift, tokens_before_change, comments_before_change, tokens_beginning_from}
-use Rattle.ob0_scan.specs.RescanState.{IsMovable, IsRescannedMiddle, AddsNewLexemes, scan_with_new_middle}
+use Rattle.ob0_scan.specs.Reused.{span_after_shift, token_after_shift, tokens_ending_before, comments_ending_before, tokens_beginning_from}
+use Rattle.ob0_scan.specs.RescanState.{IsShiftable, IsRescannedMiddle, AddsNewLexemes, scan_with_new_middle}
 use Rattle.ob0_scan.proofs.AtLexemes.{AtLexemes, of_tokens, of_comments, Full, Lies, full, lies, AreAscending, ascending, starts_after, back_later, front_all}
 use Rattle.ob0_scan.proofs.RescannedMiddle.{Settled, reused}
 
@@ -57,7 +57,7 @@ parts xs fs rs p q n m less ef er en em =
     }
 
 module _ (old : TextWithTokens) (o : IsScan old) (new : List ℕ) (from removed added : ℕ) (s t : Scanner) (fs rs : List Token) (gs qs : List Span) (b : RescannedMiddle) where
-  token_parts : fs ≡ tokens_before_change from old.tokens → Settled old new from removed added t rs qs → b.old_start.tokens ≡ length fs → b.old_end.tokens ≡ length old.tokens - length rs → Parts old.tokens fs rs b.old_start.tokens b.old_end.tokens
+  token_parts : fs ≡ tokens_ending_before from old.tokens → Settled old new from removed added t rs qs → b.old_start.tokens ≡ length fs → b.old_end.tokens ≡ length old.tokens - length rs → Parts old.tokens fs rs b.old_start.tokens b.old_end.tokens
   token_parts ef w en em =
       let place : ℕ = t.at + removed - added in
       let less = apart of_tokens from place o.lexemes (full o.lexemes [] o.lexed.each) (omega (arith, w.met.behind_change)) in
@@ -65,7 +65,7 @@ module _ (old : TextWithTokens) (o : IsScan old) (new : List ℕ) (from removed 
       (subst (λ (xs : List Token). prefix_len (λ (x : Token). ltb x.span.end from) xs ≤ prefix_len (λ (x : Token). ltb x.span.start place) xs) (sym o.tokens) less)
       ef w.met.tokens_are en em
 
-  comment_parts : gs ≡ comments_before_change from old.comments → Settled old new from removed added t rs qs → b.old_start.comments ≡ length gs → b.old_end.comments ≡ length old.comments - length qs → Parts old.comments gs qs b.old_start.comments b.old_end.comments
+  comment_parts : gs ≡ comments_ending_before from old.comments → Settled old new from removed added t rs qs → b.old_start.comments ≡ length gs → b.old_end.comments ≡ length old.comments - length qs → Parts old.comments gs qs b.old_start.comments b.old_end.comments
   comment_parts ef w en em =
       let place : ℕ = t.at + removed - added in
       let less = apart of_comments from place o.lexemes (full o.lexemes [] o.lexed.each) (omega (arith, w.met.behind_change)) in
@@ -74,7 +74,7 @@ module _ (old : TextWithTokens) (o : IsScan old) (new : List ℕ) (from removed 
       ef w.met.comments_are en em
 
   -- The items that a scanner has read after the front are between the reused ones.
-  pub lies_between : fs ≡ tokens_before_change from old.tokens → gs ≡ comments_before_change from old.comments → t.front.tokens.now ≡ fs → t.front.comments.now ≡ gs → s.tokens.items ≡ [] → s.comments.items ≡ []
+  pub lies_between : fs ≡ tokens_ending_before from old.tokens → gs ≡ comments_ending_before from old.comments → t.front.tokens.now ≡ fs → t.front.comments.now ≡ gs → s.tokens.items ≡ [] → s.comments.items ≡ []
       → AddsNewLexemes old from removed added s t → Settled old new from removed added t rs qs
       → b.old_start.tokens ≡ length fs → b.old_end.tokens ≡ length old.tokens - length rs → b.old_start.comments ≡ length gs → b.old_end.comments ≡ length old.comments - length qs
       → b.tokens.items ≡ t.tokens.items → b.comments.items ≡ t.comments.items → IsRescannedMiddle old new from removed added b
@@ -91,12 +91,12 @@ module _ (old : TextWithTokens) (o : IsScan old) (new : List ℕ) (from removed 
         comments_ordered = cs.ordered;
         comments_inside = cs.inside;
         tokens_before = All-weaker (λ (x : Token). ltb x.span.end from ≡ true) (λ (x : Token). x.span.end ≤ from) (λ x w. omega (arith, ltb-true x.span.end from w)) (take b.old_start.tokens old.tokens)
-            (All-same (λ (x : Token). ltb x.span.end from ≡ true) (take b.old_start.tokens old.tokens) (tokens_before_change from old.tokens) (ts.front ∙ ef) (front_all (λ (x : Token). ltb x.span.end from) old.tokens));
+            (All-same (λ (x : Token). ltb x.span.end from ≡ true) (take b.old_start.tokens old.tokens) (tokens_ending_before from old.tokens) (ts.front ∙ ef) (front_all (λ (x : Token). ltb x.span.end from) old.tokens));
         tokens_after = All-weaker (λ (x : Token). t.at + removed - added ≤ x.span.start) (λ (x : Token). from + removed ≤ x.span.start) (λ x later. omega (arith, later, w.met.behind_change)) (drop b.old_end.tokens old.tokens)
             (All-same (λ (x : Token). t.at + removed - added ≤ x.span.start) (drop b.old_end.tokens old.tokens) (tokens_beginning_from (t.at + removed - added) old.tokens) (ts.back ∙ w.met.tokens_are)
             (back_later (λ (x : Token). x.span.start) (t.at + removed - added) old.tokens (subst (AreAscending (λ (x : Token). x.span.start)) (sym o.tokens) (ascending of_tokens (λ (v : Span). v.start) starts_after 0 o.lexemes (full o.lexemes [] o.lexed.each)))));
-        tokens_are_movable = All-same (λ (x : Token). IsMovable removed added x.span) (drop b.old_end.tokens old.tokens) rs ts.back w.tokens_are_movable;
-        comments_are_movable = All-same (λ (x : Span). IsMovable removed added x) (drop b.old_end.comments old.comments) qs cs.back w.comments_are_movable;
+        tokens_are_movable = All-same (λ (x : Token). IsShiftable removed added x.span) (drop b.old_end.tokens old.tokens) rs ts.back w.tokens_are_movable;
+        comments_are_movable = All-same (λ (x : Span). IsShiftable removed added x) (drop b.old_end.comments old.comments) qs cs.back w.comments_are_movable;
         scan = subst (λ (x : List Token). IsScan (record { text = new; tokens = x; comments = (scan_with_new_middle old new removed added b).comments })) (sym tokens)
             (subst (λ (y : List Span). IsScan (record { text = new; tokens = (fs ++ t.tokens.items) ++ map (token_after_shift removed added) rs; comments = y })) (sym comments)
             (subst (λ (x : List Token). IsScan (record { text = new; tokens = (x ++ t.tokens.items) ++ map (token_after_shift removed added) rs; comments = (gs ++ t.comments.items) ++ map (span_after_shift removed added) qs })) tf

@@ -5,10 +5,10 @@ use Rattle.std.proofs.lemmas.List.Elements.{All-nil, All-same, All-append, All-d
 use Rattle.ob0_scan.specs.declared.lexeme.Span.{Span}
 use Rattle.ob0_scan.specs.declared.lexeme.Token.{Token}
 use Rattle.ob0_scan.specs.declared.scanner.Scanner.{Scanner}
-use Rattle.ob0_scan.specs.TextWithTokens.{TextWithTokens, IsScan, max_text, span_from, token_at, comment_at, tokens_from, comments_from}
-use Rattle.ob0_scan.specs.Reused.{ReplacesRange, NoLexemeBeginsAt, IsNewBehindChange, Reuses, span_after_shift, token_after_shift, tokens_before_change, comments_before_change, tokens_beginning_from, comments_beginning_from}
-use Rattle.ob0_scan.specs.RescanState.{first_token_begins_at, first_comment_begins_at, IsMovable, AddsOneLexeme, AddsNewLexemes, CanStopAt}
-use Rattle.ob0_scan.specs.Progress.{ScanProgress}
+use Rattle.ob0_scan.specs.TextWithTokens.{TextWithTokens, IsScan, max_text_length, span_from, tokens_of_lexeme, comments_of_lexeme, tokens_from, comments_from}
+use Rattle.ob0_scan.specs.Reused.{ReplacesRange, NoLexemeBeginsAt, IsNewBehindChange, Reuses, span_after_shift, token_after_shift, tokens_ending_before, comments_ending_before, tokens_beginning_from, comments_beginning_from}
+use Rattle.ob0_scan.specs.RescanState.{first_token_begins_at, first_comment_begins_at, IsShiftable, AddsOneLexeme, AddsNewLexemes, CanStopRescanAt}
+use Rattle.ob0_scan.specs.Progress.{IsScannedUpTo}
 use Rattle.ob0_scan.specs.UnderWay.{IsConsistentScanner}
 use Rattle.ob0_scan.proofs.Spans.{token_with, comment_with}
 use Rattle.ob0_scan.proofs.AtLexemes.{of_tokens, of_comments, full, AreAscending, ascending, starts_after, first_at, none_at, at_first, Border, begin_at_borders}
@@ -44,12 +44,12 @@ pub reads_more : (old : TextWithTokens) (from removed added : ℕ) (s t u : Scan
 reads_more old from removed added s t u r w new =
     let place = span_from t.at w.len in
     record {
-      tokens = r.tokens ++ token_at w.kind place;
-      comments = r.comments ++ comment_at w.kind place;
-      tokens_are = w.tokens ∙ ap (λ x. x ++ token_at w.kind place) r.tokens_are ∙ append_assoc s.tokens.items r.tokens (token_at w.kind place);
-      comments_are = w.comments ∙ ap (λ x. x ++ comment_at w.kind place) r.comments_are ∙ append_assoc s.comments.items r.comments (comment_at w.kind place);
-      tokens_new_behind_change = All-append (λ (x : Token). IsNewBehindChange old from removed added x.span) r.tokens (token_at w.kind place) r.tokens_new_behind_change (token_with (λ (x : Token). IsNewBehindChange old from removed added x.span) w.kind place (λ kind. new));
-      comments_new_behind_change = All-append (λ (x : Span). IsNewBehindChange old from removed added x) r.comments (comment_at w.kind place) r.comments_new_behind_change (comment_with (λ (x : Span). IsNewBehindChange old from removed added x) w.kind place new);
+      tokens = r.tokens ++ tokens_of_lexeme w.kind place;
+      comments = r.comments ++ comments_of_lexeme w.kind place;
+      tokens_are = w.tokens ∙ ap (λ x. x ++ tokens_of_lexeme w.kind place) r.tokens_are ∙ append_assoc s.tokens.items r.tokens (tokens_of_lexeme w.kind place);
+      comments_are = w.comments ∙ ap (λ x. x ++ comments_of_lexeme w.kind place) r.comments_are ∙ append_assoc s.comments.items r.comments (comments_of_lexeme w.kind place);
+      tokens_new_behind_change = All-append (λ (x : Token). IsNewBehindChange old from removed added x.span) r.tokens (tokens_of_lexeme w.kind place) r.tokens_new_behind_change (token_with (λ (x : Token). IsNewBehindChange old from removed added x.span) w.kind place (λ kind. new));
+      comments_new_behind_change = All-append (λ (x : Span). IsNewBehindChange old from removed added x) r.comments (comments_of_lexeme w.kind place) r.comments_new_behind_change (comment_with (λ (x : Span). IsNewBehindChange old from removed added x) w.kind place new);
     }
 
 module _ (old : TextWithTokens) (o : IsScan old) where
@@ -77,7 +77,7 @@ module _ (old : TextWithTokens) (o : IsScan old) where
         let same : length old.text - (from + removed) ≡ length new - (from + added) = sym (length-drop (from + removed) old.text) ∙ ap length r.behind ∙ length-drop (from + added) new in
         omega (arith, same, r.inside_old, r.inside_new)
 
-    pub end_met : (at : ℕ) → at ≡ length new → CanStopAt old (length new) from removed added at [] []
+    pub end_met : (at : ℕ) → at ≡ length new → CanStopRescanAt old (length new) from removed added at [] []
     end_met at e =
         let place = end_place at e in
         let none = none_following old o new from removed added r in
@@ -88,7 +88,7 @@ module _ (old : TextWithTokens) (o : IsScan old) where
           border = inl e;
         }
 
-    pub met_border : (at : ℕ) (tokens : List Token) (comments : List Span) → CanStopAt old (length new) from removed added at tokens comments → Border 0 o.lexemes (at + removed - added)
+    pub met_border : (at : ℕ) (tokens : List Token) (comments : List Span) → CanStopRescanAt old (length new) from removed added at tokens comments → Border 0 o.lexemes (at + removed - added)
     met_border at tokens comments m = ⊎_elim
         (λ end. subst (Border 0 o.lexemes) (sym (end_place at end)) (end_border old o new from removed added r))
         (λ begins. ⊎_elim
@@ -100,8 +100,8 @@ module _ (old : TextWithTokens) (o : IsScan old) where
 
 -- The old tokens and comments before the change, the newly read ones and the later old ones
 -- together meet `Reuses`.
-pub reused : (old new : TextWithTokens) (from removed added : ℕ) (s t : Scanner) (tokens : List Token) (comments : List Span) (end : ℕ) (fs : List Token) (gs : List Span) → fs ≡ tokens_before_change from old.tokens → gs ≡ comments_before_change from old.comments → s.tokens.items ≡ [] → s.comments.items ≡ []
-    → AddsNewLexemes old from removed added s t → CanStopAt old end from removed added t.at tokens comments
+pub reused : (old new : TextWithTokens) (from removed added : ℕ) (s t : Scanner) (tokens : List Token) (comments : List Span) (end : ℕ) (fs : List Token) (gs : List Span) → fs ≡ tokens_ending_before from old.tokens → gs ≡ comments_ending_before from old.comments → s.tokens.items ≡ [] → s.comments.items ≡ []
+    → AddsNewLexemes old from removed added s t → CanStopRescanAt old end from removed added t.at tokens comments
     → new.tokens ≡ (fs ++ t.tokens.items) ++ map (token_after_shift removed added) tokens → new.comments ≡ (gs ++ t.comments.items) ++ map (span_after_shift removed added) comments
     → (read : ℕ) → read ≡ length t.tokens.items + length t.comments.items → Reuses old new from removed added read
 reused old new from removed added s t tokens comments end fs gs ft fc st sc r m et ec read e =
@@ -122,21 +122,21 @@ reused old new from removed added s t tokens comments end fs gs ft fc st sc r m 
 -- Holds if the scanner t has stopped without error, and its tokens and comments can be completed
 -- with the remaining old ones, shifted, to a scan of the new text.
 pub record Settled (old : TextWithTokens) (new : List ℕ) (from removed added : ℕ) (t : Scanner) (tokens : List Token) (comments : List Span) : Type 0 where
-  pub met : CanStopAt old (length new) from removed added t.at tokens comments
-  pub tokens_are_movable : All (λ (x : Token). IsMovable removed added x.span) tokens
-  pub comments_are_movable : All (λ (x : Span). IsMovable removed added x) comments
+  pub met : CanStopRescanAt old (length new) from removed added t.at tokens comments
+  pub tokens_are_movable : All (λ (x : Token). IsShiftable removed added x.span) tokens
+  pub comments_are_movable : All (λ (x : Span). IsShiftable removed added x) comments
   pub scan : IsScan (record { text = new; tokens = (t.front.tokens.now ++ t.tokens.items) ++ map (token_after_shift removed added) tokens; comments = (t.front.comments.now ++ t.comments.items) ++ map (span_after_shift removed added) comments })
 
 abbrev make_scan : List ℕ → List Token → List Span → TextWithTokens
 make_scan text tokens comments = record { text = text; tokens = tokens; comments = comments }
 
-pub settled : (old : TextWithTokens) (o : IsScan old) (new : List ℕ) (from removed added : ℕ) (r : ReplacesRange old.text new from removed added) (t : Scanner) (tokens : List Token) (comments : List Span) → t.text.now ≡ new → IsConsistentScanner t → length t.faults.items ≡ 0 → length new ≤ max_text
-    → (length t.faults.items ≡ 0 → CanStopAt old (length t.text.now) from removed added t.at tokens comments) → Settled old new from removed added t tokens comments
+pub settled : (old : TextWithTokens) (o : IsScan old) (new : List ℕ) (from removed added : ℕ) (r : ReplacesRange old.text new from removed added) (t : Scanner) (tokens : List Token) (comments : List Span) → t.text.now ≡ new → IsConsistentScanner t → length t.faults.items ≡ 0 → length new ≤ max_text_length
+    → (length t.faults.items ≡ 0 → CanStopRescanAt old (length t.text.now) from removed added t.at tokens comments) → Settled old new from removed added t tokens comments
 settled old o new from removed added r t tokens comments text under none short found =
-    let met : CanStopAt old (length new) from removed added t.at tokens comments = subst (λ x. CanStopAt old (length x) from removed added t.at tokens comments) text (found none) in
+    let met : CanStopRescanAt old (length new) from removed added t.at tokens comments = subst (λ x. CanStopRescanAt old (length x) from removed added t.at tokens comments) text (found none) in
     let ts = t.front.tokens.now ++ t.tokens.items in
     let cs = t.front.comments.now ++ t.comments.items in
-    let p : ScanProgress new t.at ts cs t.faults.items = subst (λ x. ScanProgress x t.at ts cs t.faults.items) text under in
+    let p : IsScannedUpTo new t.at ts cs t.faults.items = subst (λ x. IsScannedUpTo x t.at ts cs t.faults.items) text under in
     let place : ℕ = t.at + removed - added in
     let border = met_border old o new from removed added r t.at tokens comments met in
     let low : removed ≤ place = omega (arith, met.behind_change) in
@@ -145,8 +145,8 @@ settled old o new from removed added r t tokens comments text under none short f
     let whole = finished old o new from removed added r t.at place ts cs p.utf8 short p.place.0 met.behind_change same (p.cut none) border in
     record {
       met = met;
-      tokens_are_movable = All-same (λ (x : Token). IsMovable removed added x.span) tokens (tokens_beginning_from place old.tokens) met.tokens_are move.0;
-      comments_are_movable = All-same (λ (x : Span). IsMovable removed added x) comments (comments_beginning_from place old.comments) met.comments_are move.1;
+      tokens_are_movable = All-same (λ (x : Token). IsShiftable removed added x.span) tokens (tokens_beginning_from place old.tokens) met.tokens_are move.0;
+      comments_are_movable = All-same (λ (x : Span). IsShiftable removed added x) comments (comments_beginning_from place old.comments) met.comments_are move.1;
       scan = subst (λ x. IsScan (make_scan new (ts ++ map (token_after_shift removed added) x) (cs ++ map (span_after_shift removed added) comments))) (sym met.tokens_are)
           (subst (λ x. IsScan (make_scan new (ts ++ map (token_after_shift removed added) (tokens_beginning_from place old.tokens)) (cs ++ map (span_after_shift removed added) x))) (sym met.comments_are) whole);
     }

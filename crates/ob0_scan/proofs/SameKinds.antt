@@ -2,9 +2,9 @@
 use Rattle.std.proofs.Common.{◌≡◌, ℕ, ◌+◌, ◌-◌, ◌≤◌, List, ◌++◌, map, take, drop, length, sym, ap, ◌∙◌, arith, append_assoc, length-append, length-drop}
 use Rattle.std.proofs.lemmas.List.{take-map, drop-map, take_at, drop_at, length-map, length-take-le}
 use Rattle.ob0_scan.specs.declared.lexeme.Token.{Token}
-use Rattle.ob0_scan.specs.declared.tokens.SameParts.{SameParts}
+use Rattle.ob0_scan.specs.declared.tokens.CommonPrefixAndSuffix.{CommonPrefixAndSuffix}
 use Rattle.ob0_scan.specs.Reused.{kind_without_value, kinds, token_after_shift}
-use Rattle.ob0_scan.specs.SameKinds.{HasSameKinds}
+use Rattle.ob0_scan.specs.SameKinds.{PrefixAndSuffixHaveSameKinds}
 use Rattle.ob0_scan.proofs.Alike.{kinds-append, kinds-moved}
 
 -- Returns the tokens of a changed text: the old ones before the change, the new ones, and the old
@@ -35,10 +35,10 @@ back_kinds old first following back removed added at =
     ∙ kinds-moved removed added (drop following old)
     ∙ sym (drop-map kind following old)
 
-pub same_tokens : (old between : List Token) (front following removed added : ℕ) (s : SameParts)
+pub same_tokens : (old between : List Token) (front following removed added : ℕ) (s : CommonPrefixAndSuffix)
     → front ≤ following → following ≤ length old → s.prefix ≡ front → s.old_suffix ≡ following
     → s.new_suffix ≡ length (joined_tokens old between front following removed added) - (length old - following)
-    → HasSameKinds s old (joined_tokens old between front following removed added)
+    → PrefixAndSuffixHaveSameKinds s old (joined_tokens old between front following removed added)
 same_tokens old between front following removed added s ordered inside is_front is_old_back is_back =
     let moved : List Token = map (token_after_shift removed added) (drop following old) in
     let all : List Token = joined_tokens old between front following removed added in

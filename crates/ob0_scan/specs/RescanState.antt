@@ -8,25 +8,25 @@ use Rattle.ob0_scan.specs.declared.lexeme.Token.{Token}
 use Rattle.ob0_scan.specs.declared.lexeme.LexemeKind.{LexemeKind}
 use Rattle.ob0_scan.specs.declared.scanner.Scanner.{Scanner}
 use Rattle.ob0_scan.specs.declared.incremental_scan.RescannedMiddle.{RescannedMiddle}
-use Rattle.ob0_scan.specs.TextWithTokens.{TextWithTokens, IsScan, span_from, token_at, comment_at}
+use Rattle.ob0_scan.specs.TextWithTokens.{TextWithTokens, IsScan, span_from, tokens_of_lexeme, comments_of_lexeme}
 use Rattle.ob0_scan.specs.Reused.{tokens_beginning_from, comments_beginning_from, span_after_shift, token_after_shift, Reuses, IsNewBehindChange}
 
 -- Returns the byte offset at which a token ends, or 0 for None.
-abbrev pub token_end : Option Token → ℕ
-token_end None = 0
-token_end (Some t) = t.span.end
+abbrev pub token_end_or_zero : Option Token → ℕ
+token_end_or_zero None = 0
+token_end_or_zero (Some t) = t.span.end
 
 -- Returns the byte offset at which a comment ends, or 0 for None.
-abbrev pub comment_end : Option Span → ℕ
-comment_end None = 0
-comment_end (Some c) = c.end
+abbrev pub comment_end_or_zero : Option Span → ℕ
+comment_end_or_zero None = 0
+comment_end_or_zero (Some c) = c.end
 
 -- Returns the byte offset at which the last token ends or the last comment ends, whichever is
 -- greater. Returns 0 if there are neither tokens nor comments.
-abbrev pub last_end : List Token → List Span → ℕ
-last_end tokens comments =
-    max (token_end (slice_get tokens (length tokens - 1)))
-    (comment_end (slice_get comments (length comments - 1)))
+abbrev pub end_of_last_lexeme : List Token → List Span → ℕ
+end_of_last_lexeme tokens comments =
+    max (token_end_or_zero (slice_get tokens (length tokens - 1)))
+    (comment_end_or_zero (slice_get comments (length comments - 1)))
 
 -- Returns whether the first token begins at this byte offset. Returns false if there is no token.
 abbrev pub first_token_begins_at : ℕ → List Token → Bool
@@ -41,7 +41,7 @@ first_comment_begins_at place (c ∷ comments) = c.start == place
 
 -- States that the tokens are in text order and the comments are in text order: neither the starts
 -- nor the ends of their spans decrease.
-pub record AreInOrder (tokens : List Token) (comments : List Span) : Type 0 where
+pub record SpansAreInOrder (tokens : List Token) (comments : List Span) : Type 0 where
   pub token_starts_ascend : IsNonDecreasingBy (λ (t : Token). t.span.start) tokens
   pub token_ends_ascend : IsNonDecreasingBy (λ (t : Token). t.span.end) tokens
   pub comment_starts_ascend : IsNonDecreasingBy (λ (c : Span). c.start) comments
@@ -49,7 +49,7 @@ pub record AreInOrder (tokens : List Token) (comments : List Span) : Type 0 wher
 
 -- States that the span can be shifted by `added - removed` bytes without leaving the numbers from 0
 -- to 2^32 - 1: its start is at least `removed`, and its end plus `added` is below 2^32.
-pub record IsMovable (removed added : ℕ) (span : Span) : Type 0 where
+pub record IsShiftable (removed added : ℕ) (span : Span) : Type 0 where
   pub start_at_least_removed : removed ≤ span.start
   pub ordered : span.start ≤ span.end
   pub small : span.end + added < 2 ^ 32
@@ -61,13 +61,13 @@ pub record AddsOneLexeme (s t : Scanner) : Type 0 where
   pub kind : LexemeKind
   pub len : ℕ
   pub had_no_fault : length s.faults.items ≡ 0
-  pub tokens : t.tokens.items ≡ s.tokens.items ++ token_at kind (span_from s.at len)
-  pub comments : t.comments.items ≡ s.comments.items ++ comment_at kind (span_from s.at len)
+  pub tokens : t.tokens.items ≡ s.tokens.items ++ tokens_of_lexeme kind (span_from s.at len)
+  pub comments : t.comments.items ≡ s.comments.items ++ comments_of_lexeme kind (span_from s.at len)
 
 -- States that the scanner `t` has the tokens and comments of the scanner `s`, followed by newly
--- read ones. If a newly read token or comment begins behind the change, no old token or comment
--- begins at the same place in the old text. The change replaces `removed` bytes at the byte offset
--- `from` by `added` bytes.
+-- read ones. If a newly read token or comment begins after the change, no old token or comment
+-- begins at the corresponding offset in the old text. The change replaces the `removed` bytes that
+-- start at the byte offset `from` by `added` bytes.
 pub record AddsNewLexemes (old : TextWithTokens) (from removed added : ℕ) (s t : Scanner) : Type 0 where
   pub tokens : List Token
   pub comments : List Span
@@ -76,11 +76,11 @@ pub record AddsNewLexemes (old : TextWithTokens) (from removed added : ℕ) (s t
   pub tokens_new_behind_change : All (λ (t : Token). IsNewBehindChange old from removed added t.span) tokens
   pub comments_new_behind_change : All (λ (c : Span). IsNewBehindChange old from removed added c) comments
 
--- States that a scan of the new text can stop at the byte offset `at`, which is behind the change.
+-- States that a scan of the new text can stop at the byte offset `at`, which is after the change.
 -- Either the new text ends there (`end` is its length in bytes), or an old token or comment begins
--- at the same place in the old text. `tokens` and `comments` are the old tokens and comments that
--- begin at this place or later.
-pub record CanStopAt (old : TextWithTokens) (end from removed added at : ℕ) (tokens : List Token)
+-- at the corresponding offset in the old text. `tokens` and `comments` are the old tokens and
+-- comments that begin at this offset or later.
+pub record CanStopRescanAt (old : TextWithTokens) (end from removed added at : ℕ) (tokens : List Token)
     (comments : List Span) : Type 0 where
   pub behind_change : from + added ≤ at
   pub tokens_are : tokens ≡ tokens_beginning_from (at + removed - added) old.tokens
@@ -89,8 +89,8 @@ pub record CanStopAt (old : TextWithTokens) (end from removed added at : ℕ) (t
       ⊎ IsTrue
       (first_token_begins_at (at + removed - added) tokens || first_comment_begins_at (at + removed - added) comments)
 
--- Returns the scan of the new text `new` in three parts: the old tokens and comments in front of
--- the change, the newly read ones in `b`, and the old ones behind the change with shifted spans.
+-- Returns the scan of the new text `new` in three parts: the old tokens and comments before the
+-- change, the newly read ones in `b`, and the old ones after the change with shifted spans.
 abbrev pub scan_with_new_middle : TextWithTokens → List ℕ → ℕ → ℕ → RescannedMiddle → TextWithTokens
 scan_with_new_middle old new removed added b = record {
   text = new;
@@ -103,10 +103,10 @@ scan_with_new_middle old new removed added b = record {
       ++ map (span_after_shift removed added) (drop b.old_end.comments old.comments));
 }
 
--- States that `b` is a right middle part of the scan of the new text. If the tokens and comments in
--- `b` replace the old ones with the indexes in `b`, and the spans of the later old ones are
--- shifted, the result is the scan of the new text. The old tokens and comments that are kept are
--- the ones that `Reuses` describes.
+-- States that `b` has the correct middle part of the scan of the new text. If the tokens and
+-- comments in `b` replace the old ones with the indexes in `b`, and the spans of the later old ones
+-- are shifted, the result is the scan of the new text. The old tokens and comments that are kept
+-- are the ones that `Reuses` describes.
 pub record IsRescannedMiddle (old : TextWithTokens) (new : List ℕ) (from removed added : ℕ) (b : RescannedMiddle)
     : Type 0 where
   pub tokens_ordered : b.old_start.tokens ≤ b.old_end.tokens
@@ -116,9 +116,9 @@ pub record IsRescannedMiddle (old : TextWithTokens) (new : List ℕ) (from remov
   pub tokens_before : All (λ (t : Token). t.span.end ≤ from) (take b.old_start.tokens old.tokens)
   pub tokens_after : All (λ (t : Token). from + removed ≤ t.span.start)
       (drop b.old_end.tokens old.tokens)
-  pub tokens_are_movable : All (λ (t : Token). IsMovable removed added t.span)
+  pub tokens_are_movable : All (λ (t : Token). IsShiftable removed added t.span)
       (drop b.old_end.tokens old.tokens)
-  pub comments_are_movable : All (λ (c : Span). IsMovable removed added c)
+  pub comments_are_movable : All (λ (c : Span). IsShiftable removed added c)
       (drop b.old_end.comments old.comments)
   pub scan : IsScan (scan_with_new_middle old new removed added b)
   pub reuses : Reuses old (scan_with_new_middle old new removed added b) from removed added

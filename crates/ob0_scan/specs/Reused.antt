@@ -9,8 +9,8 @@ use Rattle.ob0_scan.specs.declared.lexeme.TokenKind.TheVariants as kind
 use Rattle.ob0_scan.specs.TextWithTokens.{TextWithTokens, Word, word_of_token, text_in_span}
 
 -- States that the new text is the old text with one change: the `removed` bytes that start at the
--- byte offset `from` are replaced by `added` bytes. In front of these bytes and behind them, the
--- two texts are equal.
+-- byte offset `from` are replaced by `added` bytes. Before and after these bytes, the two texts are
+-- equal.
 pub record ReplacesRange (old new : List ℕ) (from removed added : ℕ) : Type 0 where
   pub inside_old : from + removed ≤ length old
   pub inside_new : from + added ≤ length new
@@ -44,25 +44,25 @@ names_in text tokens = map (λ (t : Token). name_or_empty t.kind (text_in_span t
 abbrev pub words_of_tokens : List ℕ → List Token → List Word
 words_of_tokens text tokens = map (word_of_token text) tokens
 
--- Returns the span of the new text that corresponds to a span of the old text behind the change.
--- The start and the end are shifted by `added - removed` bytes.
+-- Returns the span of the new text that corresponds to a span of the old text after the change. The
+-- start and the end are shifted by `added - removed` bytes.
 abbrev pub span_after_shift : ℕ → ℕ → Span → Span
 span_after_shift removed added span =
     record { start = span.start + added - removed; end = span.end + added - removed }
 
--- Returns the token of the new text that corresponds to a token of the old text behind the change.
+-- Returns the token of the new text that corresponds to a token of the old text after the change.
 -- Its span is shifted by `added - removed` bytes.
 abbrev pub token_after_shift : ℕ → ℕ → Token → Token
 token_after_shift removed added token =
     record { kind = token.kind; span = span_after_shift removed added token.span }
 
 -- Returns the leading tokens that end before the byte offset `place`.
-abbrev pub tokens_before_change : ℕ → List Token → List Token
-tokens_before_change place tokens = take (prefix_len (λ t. nat_lt t.span.end place) tokens) tokens
+abbrev pub tokens_ending_before : ℕ → List Token → List Token
+tokens_ending_before place tokens = take (prefix_len (λ t. nat_lt t.span.end place) tokens) tokens
 
 -- Returns the leading comments that end before the byte offset `place`.
-abbrev pub comments_before_change : ℕ → List Span → List Span
-comments_before_change place comments =
+abbrev pub comments_ending_before : ℕ → List Span → List Span
+comments_ending_before place comments =
     take (prefix_len (λ c. nat_lt c.end place) comments) comments
 
 -- Returns the tokens without the leading ones that begin before the byte offset `place`.
@@ -78,8 +78,8 @@ pub record NoLexemeBeginsAt (s : TextWithTokens) (place : ℕ) : Type 0 where
   pub tokens : All (λ (t : Token). t.span.start ≢ place) s.tokens
   pub comments : All (λ (c : Span). c.start ≢ place) s.comments
 
--- States that a span of the new text, if it begins behind the change, begins at a place at which no
--- token or comment of the old text begins. A span that begins before the end of the changed bytes
+-- States that if a span of the new text begins after the change, no token or comment begins at the
+-- corresponding offset in the old text. A span that begins before the end of the changed bytes
 -- always meets this condition.
 abbrev pub IsNewBehindChange : TextWithTokens → ℕ → ℕ → ℕ → Span → Type 0
 IsNewBehindChange old from removed added span =
@@ -87,20 +87,20 @@ IsNewBehindChange old from removed added span =
 
 -- States that the tokens and comments of the new text have three parts. The first part has the old
 -- ones that end before the change. The last part has the old ones that begin at `place` or later,
--- behind the change, with shifted spans. The part between them has `read` tokens and comments. If
--- one of these begins behind the change, no old token or comment begins at the same place in the
--- old text. So the last part, unless it is empty, starts at the first place behind the change at
--- which tokens or comments of both texts begin.
+-- after the change, with shifted spans. The part between them has `read` tokens and comments. If
+-- one of these begins after the change, no old token or comment begins at the corresponding place
+-- in the old text. So the last part, unless it is empty, starts at the first place after the change
+-- at which tokens or comments of both texts begin.
 pub record Reuses (old new : TextWithTokens) (from removed added read : ℕ) : Type 0 where
   pub place : ℕ
   pub behind_change : from + removed ≤ place
   pub tokens_between : List Token
   pub comments_between : List Span
   pub tokens : new.tokens
-      ≡ (tokens_before_change from old.tokens ++ tokens_between)
+      ≡ (tokens_ending_before from old.tokens ++ tokens_between)
       ++ map (token_after_shift removed added) (tokens_beginning_from place old.tokens)
   pub comments : new.comments
-      ≡ (comments_before_change from old.comments ++ comments_between)
+      ≡ (comments_ending_before from old.comments ++ comments_between)
       ++ map (span_after_shift removed added) (comments_beginning_from place old.comments)
   pub read_count : read ≡ length tokens_between + length comments_between
   pub tokens_new_behind_change : All (λ (t : Token). IsNewBehindChange old from removed added t.span) tokens_between

@@ -2,7 +2,7 @@
 -- Rule: none; used in contracts of `rescan_in_place`.
 use Rattle.std.specs.Prelude.{◌≡◌, ◌≤◌, List, length, take, drop}
 use Rattle.ob0_scan.specs.declared.lexeme.Token.{Token}
-use Rattle.ob0_scan.specs.declared.tokens.SameParts.{SameParts}
+use Rattle.ob0_scan.specs.declared.tokens.CommonPrefixAndSuffix.{CommonPrefixAndSuffix}
 use Rattle.ob0_scan.specs.Reused.{kinds, words_of_tokens}
 use Rattle.ob0_scan.specs.TextWithTokens.{TextWithTokens}
 
@@ -10,7 +10,7 @@ use Rattle.ob0_scan.specs.TextWithTokens.{TextWithTokens}
 -- the first `prefix` tokens of both texts. The second part reaches to the last token. This part
 -- starts at the index `old_suffix` among the old tokens, and at the index `new_suffix` among the
 -- new tokens. No token is in both parts. The values of integers may differ.
-pub record HasSameKinds (s : SameParts) (old new : List Token) : Type 0 where
+pub record PrefixAndSuffixHaveSameKinds (s : CommonPrefixAndSuffix) (old new : List Token) : Type 0 where
   pub old_range : s.prefix ≤ s.old_suffix
   pub new_range : s.prefix ≤ s.new_suffix
   pub old_inside : s.old_suffix ≤ length old
@@ -20,7 +20,7 @@ pub record HasSameKinds (s : SameParts) (old new : List Token) : Type 0 where
 
 -- States that the tokens in the two parts that `s` describes have the same kinds and spellings in
 -- both texts.
-pub record HasSameWords (s : SameParts) (old new : TextWithTokens) : Type 0 where
+pub record PrefixAndSuffixHaveSameWords (s : CommonPrefixAndSuffix) (old new : TextWithTokens) : Type 0 where
   pub front : take s.prefix (words_of_tokens new.text new.tokens)
       ≡ take s.prefix (words_of_tokens old.text old.tokens)
   pub back : drop s.new_suffix (words_of_tokens new.text new.tokens)

@@ -15,17 +15,17 @@ pub record Word : Type 0 where
   pub kind : TokenKind
   pub text : List ℕ
 
--- Returns a list with one word, of the lexeme's kind and text, if the lexeme is a token. For white
--- space and comments the list is empty. The second argument is the lexeme's kind.
-abbrev pub word_of : Lexeme → LexemeKind → List Word
-word_of l lexeme.Space = []
-word_of l lexeme.Comment = []
-word_of l (lexeme.Token kind) = record { kind = kind; text = l.text } ∷ []
+-- If the lexeme is a token, returns a list with one word: the kind and the text of this token. For
+-- white space and comments the list is empty. The second argument is the lexeme's kind.
+abbrev pub words_of_lexeme : Lexeme → LexemeKind → List Word
+words_of_lexeme l lexeme.Space = []
+words_of_lexeme l lexeme.Comment = []
+words_of_lexeme l (lexeme.Token kind) = record { kind = kind; text = l.text } ∷ []
 
 -- Returns the tokens among the lexemes, as kinds and spellings, in order. White space and comments
 -- are left out.
 abbrev pub words_of_lexemes : List Lexeme → List Word
-words_of_lexemes lexemes = flat_map (λ l. word_of l l.kind) lexemes
+words_of_lexemes lexemes = flat_map (λ l. words_of_lexeme l l.kind) lexemes
 
 -- Returns the bytes of a text that are in a span.
 abbrev pub text_in_span : List ℕ → Span → List ℕ
@@ -39,37 +39,37 @@ word_of_token text token = record { kind = token.kind; text = text_in_span text 
 abbrev pub span_from : ℕ → ℕ → Span
 span_from start len = record { start = start; end = start + len }
 
--- Returns a list with one token, of the lexeme's kind and span, if the lexeme is a token. For white
--- space and comments the list is empty.
-abbrev pub token_at : LexemeKind → Span → List Token
-token_at lexeme.Space span = []
-token_at lexeme.Comment span = []
-token_at (lexeme.Token kind) span = record { kind = kind; span = span } ∷ []
+-- If the lexeme is a token, returns a list with this token: its kind and span. For white space and
+-- comments the list is empty.
+abbrev pub tokens_of_lexeme : LexemeKind → Span → List Token
+tokens_of_lexeme lexeme.Space span = []
+tokens_of_lexeme lexeme.Comment span = []
+tokens_of_lexeme (lexeme.Token kind) span = record { kind = kind; span = span } ∷ []
 
 -- Returns a list with the lexeme's span if the lexeme is a comment, otherwise an empty list.
-abbrev pub comment_at : LexemeKind → Span → List Span
-comment_at lexeme.Space span = []
-comment_at lexeme.Comment span = span ∷ []
-comment_at (lexeme.Token kind) span = []
+abbrev pub comments_of_lexeme : LexemeKind → Span → List Span
+comments_of_lexeme lexeme.Space span = []
+comments_of_lexeme lexeme.Comment span = span ∷ []
+comments_of_lexeme (lexeme.Token kind) span = []
 
 -- Returns the tokens among these lexemes, with their spans. The first lexeme begins at the byte
 -- offset `start`.
 abbrev pub tokens_from : ℕ → List Lexeme → List Token
 tokens_from start [] = []
 tokens_from start (l ∷ lexemes) =
-    token_at l.kind (span_from start (length l.text)) ++ tokens_from (start + length l.text) lexemes
+    tokens_of_lexeme l.kind (span_from start (length l.text)) ++ tokens_from (start + length l.text) lexemes
 
 -- Returns the spans of the comments among these lexemes. The first lexeme begins at the byte offset
 -- `start`.
 abbrev pub comments_from : ℕ → List Lexeme → List Span
 comments_from start [] = []
 comments_from start (l ∷ lexemes) =
-    comment_at l.kind (span_from start (length l.text))
+    comments_of_lexeme l.kind (span_from start (length l.text))
     ++ comments_from (start + length l.text) lexemes
 
 -- The greatest length in bytes of a text that is scanned.
-abbrev pub max_text : ℕ
-max_text = 1048576
+abbrev pub max_text_length : ℕ
+max_text_length = 1048576
 
 -- The greatest number of faults that are reported for a text.
 abbrev pub max_faults : ℕ
@@ -77,7 +77,7 @@ max_faults = 100
 
 -- States that the text isn't too long and can be cut into lexemes.
 abbrev pub IsScannable : List ℕ → Type 0
-IsScannable text = (length text ≤ max_text) × ((lexemes : List Lexeme) × LexesInto text lexemes)
+IsScannable text = (length text ≤ max_text_length) × ((lexemes : List Lexeme) × LexesInto text lexemes)
 
 -- A text with its tokens and comments.
 pub record TextWithTokens : Type 0 where
@@ -89,7 +89,7 @@ pub record TextWithTokens : Type 0 where
 -- text order, and that the text isn't too long.
 pub record IsScan (s : TextWithTokens) : Type 0 where
   pub utf8 : IsUtf8 s.text
-  pub short : length s.text ≤ max_text
+  pub short : length s.text ≤ max_text_length
   pub lexemes : List Lexeme
   pub lexed : LexesInto s.text lexemes
   pub tokens : s.tokens ≡ tokens_from 0 lexemes

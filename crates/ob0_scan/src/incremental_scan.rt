@@ -1,48 +1,48 @@
 //! Scans a text that was changed at one place, and reuses the tokens and comments that an older
-//! scan found in front of the change and behind it.
+//! scan found before the change and after it.
 //!
 //! `rescan_in_place` takes the tokens of the old text and turns them into the tokens of the new
 //! text. If the new text has faults, the function returns the faults and the old tokens. `rescan`
 //! does the same with a copy of the old tokens. Both functions return the tokens and comments that
 //! `scan` of the new text returns. `Reuses` (`specs/Reused`) says which of these are old:
-//! - In front of the change: each token and comment that ends before the change. (A token that ends
-//!   right at the change may continue with the inserted text.)
-//! - Behind the change, shifted by `added - removed` bytes: each token and comment that begins at a
-//!   certain place or later. This is the first place behind the change at which a token or comment
+//! - Before the change: each token and comment that ends before it. (A token that ends right at the
+//!   change may continue with the inserted text.)
+//! - After the change, shifted by `added - removed` bytes: each token and comment that begins at a
+//!   certain place or later. This is the first place after the change at which a token or comment
 //!   begins in both texts (`IsNewBehindChange`).
 //!
 //! If `same_kinds` is true in the result, the new tokens have the same kinds as the old tokens. If
 //! `same_names` is true, the identifiers have the same spellings. If `same_words` is true, all
 //! tokens have the same kinds and spellings.
 //!
-//! Binary search finds the old tokens and comments in front of the change
+//! Binary search finds the old tokens and comments before the change
 //! (`LexemeSlices::lexemes_ending_before`). A scanner continues at the end of the last of them.
-//! White space isn't kept, so the white space there is read again. Once the scanner is behind the
-//! change, it tests before each step whether an old token or comment begins at the scanner's place.
-//! Binary search also finds the first old tokens and comments behind the change
-//! (`lexemes_beginning_from`). Before each step, `skip_lexemes_before` skips the old ones that
-//! begin before the scanner's place. So all these tests together visit each old token at most once.
-//! The spans of a scan are in order (`AreInOrder`), so binary search finds the same number as
+//! White space isn't kept, so the white space there is read again. Once the scanner is after the
+//! change, it tests before each step whether an old token or comment begins at the corresponding
+//! place in the old text. Binary search also finds the first old tokens and comments after the
+//! change (`lexemes_beginning_from`). Before each step, `skip_lexemes_before` skips the old ones
+//! that begin before that place. So all these tests together visit each old token at most once. The
+//! spans of a scan are in order (`SpansAreInOrder`), so binary search finds the same number as
 //! visiting them one by one (`proofs/Halved`).
 //!
 //! The newly read tokens and comments are placed between the two reused parts
 //! (`IsRescannedMiddle`). When reading is complete, the second reused part is moved within its
-//! list, and the newly read tokens are inserted in front of it (`splice_tokens`,
-//! `splice_comments`). So memory holds the tokens of only one text at a time, and the heap isn't
-//! fragmented by a second list. Only the changed bytes of the text are replaced, and the bytes
-//! behind them are moved (`ReplacedRange::replace`). If a change begins or ends inside a character,
-//! the new text is written over the old text.
+//! list, and the newly read tokens are inserted before it (`splice_tokens`, `splice_comments`). So
+//! memory holds the tokens of only one text at a time, and the heap isn't fragmented by a second
+//! list. Only the changed bytes of the text are replaced, and the bytes after them are moved
+//! (`ReplacedRange::replace`). If a change begins or ends inside a character, the new text is
+//! written over the old text.
 //!
 //! The change needn't begin and end between characters: a lexeme's last byte is ASCII, so the scan
 //! begins and stops at character borders anyway. After a fault, the scanner doesn't look for
 //! reusable tokens but reads to the end. So the faults are the same as the faults that `scan`
-//! reports, each once. Spans fit in 32 bits because of the text's length: `ScanProgress` says so
-//! for a scanner's spans (`short`), and `IsMovable` says so for shifted spans. Callers have to show
-//! `ReplacesRange`. The law `new_middle_replaces_range` proves this fact for texts joined from
+//! reports, each once. Spans fit in 32 bits because of the text's length: `IsScannedUpTo` says so
+//! for a scanner's spans (`short`), and `IsShiftable` says so for shifted spans. Callers have to
+//! show `ReplacesRange`. The law `new_middle_replaces_range` proves this fact for texts joined from
 //! parts, and `Difference::between` of `ob0_analysis` ensures it for any two texts.
 //!
 //! In the proof, `proofs/AtLexemes` gives the places of the tokens and comments in a list of
-//! lexemes. `Fronts` splits off the old lexemes in front of the change. `Reusing` joins old and new
+//! lexemes. `Fronts` splits off the old lexemes before the change. `Reusing` joins old and new
 //! lexemes at both borders of the reread part: a lexeme depends only on its bytes and the next
 //! byte, and texts with equal rests have equal lexemes there. `RescannedMiddle` collects the newly
 //! read tokens, and `Kept` is about the reused old tokens. `Named` shows that reused tokens have
@@ -56,20 +56,19 @@ ghost use Rattle.ob0_scan.specs.TextWithTokens.{IsScanOf, word_of_token, text_in
 ghost use Rattle.ob0_scan.specs.Refused.{IsRightRefusal, IsRightRescanRefusal};
 ghost use Rattle.ob0_scan.specs.UnderWay.{IsConsistentScanner};
 ghost use Rattle.ob0_scan.specs.Reused.{ReplacesRange, Reuses, kinds, kind_without_value, name_or_empty, names_in, words_of_tokens};
-ghost use Rattle.ob0_scan.specs.SameKinds.{HasSameKinds, HasSameWords};
+ghost use Rattle.ob0_scan.specs.SameKinds.{PrefixAndSuffixHaveSameKinds, PrefixAndSuffixHaveSameWords};
 ghost use Rattle.ob0_scan.specs.Rescanned.{IsRescanOf};
-ghost use Rattle.ob0_scan.specs.RescanState.{AddsNewLexemes, CanStopAt, IsRescannedMiddle};
+ghost use Rattle.ob0_scan.specs.RescanState.{AddsNewLexemes, CanStopRescanAt, IsRescannedMiddle};
 
 use crate::fault::{Fault, ScanRefusal};
 use crate::lexeme::{Span, Token, TokenKind};
 use crate::old_lexemes::{LexemeSlices, ReplacedRange};
-use crate::scanner::{MAX_TEXT, Scanner, too_long_faults};
-use crate::tokens::{Rescan, RescanInPlace, SameParts, Tokens};
+use crate::scanner::{MAX_TEXT_LENGTH, Scanner, too_long_faults};
+use crate::tokens::{CommonPrefixAndSuffix, Rescan, RescanWithComparison, Tokens};
 use std::alloc::{AllocError, Global};
 use thiserror::Error;
 
-/// Two counts. As a place in a scan, they are the numbers of the tokens and of the comments in
-/// front of this place.
+/// The number of tokens and the number of comments before a place in a scanned text.
 #[derive(Clone, Copy)]
 pub(crate) struct LexemeCounts {
     pub(crate) tokens: usize,
@@ -89,7 +88,7 @@ pub(crate) struct RescannedMiddle {
 
 impl RescannedMiddle {
     /// Returns whether the new tokens have the same kinds as the old tokens that they replace.
-    fn has_kinds_of_replaced(&self, old: &[Token]) -> bool
+    fn has_same_kinds_as_replaced(&self, old: &[Token]) -> bool
         requires ordered { self.now.old_start.tokens ≤ self.now.old_end.tokens }
         requires inside { self.now.old_end.tokens ≤ length old.now }
         ensures { result ≡ true → kinds self.now.tokens.items
@@ -102,9 +101,9 @@ impl RescannedMiddle {
         )
     }
 
-    /// Returns whether the new tokens have the same names as the old tokens that they replace. Both
-    /// lists must have the same length, and the same identifiers at the same indexes.
-    fn has_names_of_replaced(&self, new_text: &str, old: &Tokens) -> bool
+    /// Returns whether the new tokens have the same names as the old tokens that they replace: both
+    /// lists are equally long and have the same identifiers at the same indexes.
+    fn has_same_names_as_replaced(&self, new_text: &str, old: &Tokens) -> bool
         requires ordered { self.now.old_start.tokens ≤ self.now.old_end.tokens }
         requires inside { self.now.old_end.tokens ≤ length old.now.tokens }
         ensures { result ≡ true → names_in new_text.now self.now.tokens.items
@@ -122,7 +121,7 @@ impl RescannedMiddle {
 
     /// Returns whether the new tokens have the same kinds and spellings as the old tokens that they
     /// replace.
-    fn has_words_of_replaced(&self, new_text: &str, old: &Tokens) -> bool
+    fn has_same_words_as_replaced(&self, new_text: &str, old: &Tokens) -> bool
         requires ordered { self.now.old_start.tokens ≤ self.now.old_end.tokens }
         requires inside { self.now.old_end.tokens ≤ length old.now.tokens }
         ensures { result ≡ true → words_of_tokens new_text.now self.now.tokens.items
@@ -240,7 +239,7 @@ fn is_same_kind(a: TokenKind, b: TokenKind) -> bool
         return true;
     }
     match a {
-        TokenKind::Integer(_) => is_integer(b),
+        TokenKind::Integer(_) => is_integer_kind(b),
         TokenKind::Identifier => false,
         TokenKind::ReservedWord(_) => false,
         TokenKind::Symbol(_) => false,
@@ -248,7 +247,7 @@ fn is_same_kind(a: TokenKind, b: TokenKind) -> bool
 }
 
 /// Returns whether a token of this kind is an integer.
-fn is_integer(kind: TokenKind) -> bool
+fn is_integer_kind(kind: TokenKind) -> bool
     ensures { result ≡ true → kind_without_value kind ≡ Integer 0 }
 {
     match kind {
@@ -280,7 +279,7 @@ impl From<AllocError> for RescanRefusal {
 /// Returns the tokens and comments of `new_text`, or the faults of `new_text` if there are any.
 /// `new_text` is the text of `old` with the `removed` bytes that start at the byte offset `from`
 /// replaced by `added` bytes. The old tokens and comments that end before the change are reused.
-/// The scan ends at the first place behind the change at which a token or comment begins in both
+/// The scan ends at the first place after the change at which a token or comment begins in both
 /// texts. The old tokens and comments that begin there or later are also reused.
 pub fn rescan(
     alloc: Global,
@@ -304,11 +303,11 @@ pub fn rescan(
     }
 }
 
-/// Changes the old tokens and comments to the tokens and comments of `new_text`. `from`, `removed`
+/// Turns the old tokens and comments into the tokens and comments of `new_text`. `from`, `removed`
 /// and `added` describe the change, as in `rescan`. In contrast to `rescan`, this function works in
-/// place: the old tokens in front of the change aren't copied. The result also compares the new
-/// tokens with the old tokens. If the new text has faults, the faults are returned with the old
-/// tokens. If an allocation fails, the old tokens are lost.
+/// place: the old tokens before the change aren't copied. The result also compares the new tokens
+/// with the old tokens. If the new text has faults, the faults are returned with the old tokens. If
+/// an allocation fails, the old tokens are lost.
 pub fn rescan_in_place(
     alloc: Global,
     old: Tokens,
@@ -316,7 +315,7 @@ pub fn rescan_in_place(
     from: usize,
     removed: usize,
     added: usize,
-) -> Result<RescanInPlace, RescanRefusal>
+) -> Result<RescanWithComparison, RescanRefusal>
     requires { ReplacesRange old.text new_text.now from removed added }
     ensures ok { IfOk result (λ r. IsScanOf new_text.now r.rescan.tokens) }
     ensures err { IfErr result (IsRightRescanRefusal old new_text.now) }
@@ -331,29 +330,29 @@ pub fn rescan_in_place(
         (λ r. r.same_words ≡ true → words_of_tokens r.rescan.tokens.text r.rescan.tokens.tokens
         ≡ words_of_tokens old.text old.tokens) }
     ensures same { IfOk result
-        (λ r. HasSameKinds r.same old.tokens r.rescan.tokens.tokens) }
-    ensures written { IfOk result (λ r. HasSameWords r.same old r.rescan.tokens) }
+        (λ r. PrefixAndSuffixHaveSameKinds r.same old.tokens r.rescan.tokens.tokens) }
+    ensures written { IfOk result (λ r. PrefixAndSuffixHaveSameWords r.same old r.rescan.tokens) }
 {
     let change = ReplacedRange {
         from,
         removed,
         added,
     };
-    match scan_changed_part(alloc, &old, new_text, change) {
+    match rescan_middle(alloc, &old, new_text, change) {
         Ok(between) => {
             let read = between.tokens.len() + between.comments.len();
-            let same_kinds = between.has_kinds_of_replaced(old.tokens());
-            let same_names = between.has_names_of_replaced(new_text, &old);
-            let same_words = between.has_words_of_replaced(new_text, &old);
+            let same_kinds = between.has_same_kinds_as_replaced(old.tokens());
+            let same_names = between.has_same_names_as_replaced(new_text, &old);
+            let same_words = between.has_same_words_as_replaced(new_text, &old);
             let (prefix, old_suffix) = (between.old_start.tokens, between.old_end.tokens);
             let suffix_len = old.tokens().len() - old_suffix;
             let tokens = old.replace_middle(new_text, between, change)?;
-            let same = SameParts {
+            let same = CommonPrefixAndSuffix {
                 prefix,
                 old_suffix,
                 new_suffix: tokens.tokens().len() - suffix_len,
             };
-            Ok(RescanInPlace {
+            Ok(RescanWithComparison {
                 rescan: Rescan { tokens, read },
                 same,
                 same_kinds,
@@ -365,14 +364,14 @@ pub fn rescan_in_place(
     }
 }
 
-/// Returns `refusal`, the reason why a changed text wasn't scanned, as a `RescanRefusal`. If the
-/// text has faults, the error also has the old tokens.
+/// Returns the error for `refusal`, the reason why a changed text wasn't scanned. If the text has
+/// faults, the error also contains the old tokens.
 fn rescan_refusal(
     old: Tokens,
     new_text: &str,
     change: ReplacedRange,
     refusal: ScanRefusal,
-) -> Result<RescanInPlace, RescanRefusal>
+) -> Result<RescanWithComparison, RescanRefusal>
     requires { IsRightRefusal new_text.now refusal }
     ensures ok { IfOk result
         (IsRescanOf old new_text.now change.from change.removed change.added) }
@@ -386,7 +385,7 @@ fn rescan_refusal(
 
 /// Scans the part of a changed text that has to be read again. Returns the tokens and comments
 /// found there, with the indexes of the old tokens and comments that they replace.
-fn scan_changed_part(
+fn rescan_middle(
     alloc: Global,
     old: &Tokens,
     new_text: &str,
@@ -397,13 +396,13 @@ fn scan_changed_part(
         (IsRescannedMiddle old.now new_text.now change.from change.removed change.added) }
     ensures err { IfErr result (IsRightRefusal new_text.now) }
 {
-    if new_text.len() > MAX_TEXT {
+    if new_text.len() > MAX_TEXT_LENGTH {
         return Err(ScanRefusal::Faults(too_long_faults(alloc)?));
     }
     let all = old.lexeme_slices();
     let front = all.lexemes_ending_before(change.from);
     let mut scanner = Scanner::scanner_after(alloc, new_text, front);
-    let rest = continue_scan(&mut scanner, old, change)?;
+    let rest = scan_until_old_lexeme(&mut scanner, old, change)?;
     let Scanner {
         text: _,
         at: _,
@@ -429,11 +428,11 @@ fn scan_changed_part(
     })
 }
 
-/// Moves the scanner, lexeme by lexeme, to the first place behind the change at which an old token
-/// or comment also begins. Returns the old tokens and comments that begin at this place or later.
-/// If there is no such place or a fault is found, moves the scanner to the end of the text and
-/// returns no tokens or comments.
-fn continue_scan<'o>(
+/// Moves the scanner, one lexeme at a time, until it is after the change and an old token or
+/// comment begins at the corresponding place in the old text. Returns the old tokens and comments
+/// that begin at that place or later. If the scanner reaches no such place, or finds a fault, it
+/// moves to the end of the text, and no tokens or comments are returned.
+fn scan_until_old_lexeme<'o>(
     scanner: &mut Scanner,
     old: &'o Tokens,
     change: ReplacedRange,
@@ -447,7 +446,7 @@ fn continue_scan<'o>(
     ensures reads { OnOk result (length scanner.new.faults.items ≡ 0
         → AddsNewLexemes old.now change.from change.removed change.added scanner.old scanner.new) }
     ensures met { IfOk result (λ rest. length scanner.new.faults.items ≡ 0
-        → CanStopAt old.now (length scanner.new.text.now) change.from change.removed change.added
+        → CanStopRescanAt old.now (length scanner.new.text.now) change.from change.removed change.added
         scanner.new.at rest.tokens.now rest.comments.now) }
     ensures end { OnOk result
         (0 < length scanner.new.faults.items → length scanner.new.text.now ≤ scanner.new.at) }

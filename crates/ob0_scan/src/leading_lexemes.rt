@@ -5,9 +5,9 @@ ghost use Rattle.std.specs.List.{AllPass, prefix_len};
 ghost use Rattle.std.specs.Char.{is_ascii_alphabetic, is_ascii_alphanumeric, is_ascii_digit};
 ghost use Rattle.std.specs.Str.{IsCharBoundary};
 ghost use Rattle.ob0_scan.specs.Comments.{IsComment};
-ghost use Rattle.ob0_scan.specs.Classes.{is_space, max_integer, symbol_text, IsWord, IsLexemeOfKind, decimal_value};
+ghost use Rattle.ob0_scan.specs.Classes.{is_space, max_integer, symbol_text, IsIdentifierOrReservedWord, IsLexemeOfKind, decimal_value};
 ghost use Rattle.ob0_scan.specs.TextStart.{IsLongestSymbol, StartsWithNoSymbol};
-ghost use Rattle.ob0_scan.specs.Begins.{StartsWith};
+ghost use Rattle.ob0_scan.specs.Begins.{StartsWithLexemeOrFault};
 ghost use Rattle.ob0_scan.specs.Faults.{IsFirstCharLength};
 
 use crate::fault::FaultCode;
@@ -32,14 +32,14 @@ pub fn is_space(byte: u8) -> bool
 }
 
 /// Returns the number of leading bytes that are white space.
-fn space_len(bytes: &[u8]) -> usize
+fn leading_space_len(bytes: &[u8]) -> usize
     ensures { result ≡ prefix_len is_space bytes.now }
 {
     bytes.iter().take_while(|byte| is_space(**byte)).count()
 }
 
 /// Returns the number of leading bytes that are digits.
-fn digits_len(bytes: &[u8]) -> usize
+fn leading_digits_len(bytes: &[u8]) -> usize
     ensures { result ≡ prefix_len is_ascii_digit bytes.now }
 {
     bytes
@@ -49,7 +49,7 @@ fn digits_len(bytes: &[u8]) -> usize
 }
 
 /// Returns the number of leading bytes that are letters or digits.
-fn word_len(bytes: &[u8]) -> usize
+fn leading_alphanumeric_len(bytes: &[u8]) -> usize
     ensures { result ≡ prefix_len is_ascii_alphanumeric bytes.now }
 {
     bytes
@@ -146,7 +146,7 @@ fn one_byte_symbol(byte: u8) -> Option<Symbol>
 /// Returns the kind of a word: the reserved word that it spells, or otherwise an identifier.
 #[inline(always)]
 fn word_kind(word: &[u8]) -> TokenKind
-    requires { IsWord word.now }
+    requires { IsIdentifierOrReservedWord word.now }
     ensures { IsLexemeOfKind (LexemeKind.Token result) word.now }
 {
     match ReservedWord::from_bytes(word) {
@@ -159,10 +159,10 @@ fn word_kind(word: &[u8]) -> TokenKind
 #[inline(always)]
 fn first_word(text: &str) -> TextStart
     requires { IsTrue (is_ascii_alphabetic (slice_index text.now 0)) }
-    ensures { StartsWith text.now result }
+    ensures { StartsWithLexemeOrFault text.now result }
 {
     let bytes = text.as_bytes();
-    let len = word_len(bytes);
+    let len = leading_alphanumeric_len(bytes);
     TextStart::Lexeme(LexemeKind::Token(word_kind(&bytes[..len])), len)
 }
 
@@ -171,12 +171,15 @@ fn first_word(text: &str) -> TextStart
 #[inline(always)]
 fn first_integer(text: &str) -> TextStart
     requires { IsTrue (is_ascii_digit (slice_index text.now 0)) }
-    ensures { StartsWith text.now result }
+    ensures { StartsWithLexemeOrFault text.now result }
 {
     let bytes = text.as_bytes();
-    let len = digits_len(bytes);
+    let len = leading_digits_len(bytes);
     if len < bytes.len() && bytes[len].is_ascii_alphabetic() {
-        return TextStart::Fault(FaultCode::NumberJoinsLetter, word_len(bytes));
+        return TextStart::Fault(
+            FaultCode::NumberJoinsLetter,
+            leading_alphanumeric_len(bytes),
+        );
     }
     match integer_value(&bytes[..len]) {
         Some(value) => TextStart::Lexeme(LexemeKind::Token(TokenKind::Integer(value)), len),
@@ -188,7 +191,7 @@ fn first_integer(text: &str) -> TextStart
 /// closed, returns the fault instead.
 fn first_comment(text: &str) -> TextStart
     requires { take 2 text.now ≡ codes "(*" }
-    ensures { StartsWith text.now result }
+    ensures { StartsWithLexemeOrFault text.now result }
 {
     match comment_len(text.as_bytes()) {
         Some(len) => TextStart::Lexeme(LexemeKind::Comment, len),
@@ -200,12 +203,12 @@ fn first_comment(text: &str) -> TextStart
 #[inline(always)]
 pub fn leading_lexeme(text: &str) -> TextStart
     requires { 0 < length text.now }
-    ensures { StartsWith text.now result }
+    ensures { StartsWithLexemeOrFault text.now result }
 {
     let bytes = text.as_bytes();
     let byte = bytes[0];
     if is_space(byte) {
-        TextStart::Lexeme(LexemeKind::Space, space_len(bytes))
+        TextStart::Lexeme(LexemeKind::Space, leading_space_len(bytes))
     } else if byte.is_ascii_alphabetic() {
         first_word(text)
     } else if byte.is_ascii_digit() {

@@ -1,20 +1,21 @@
-//! Finds, by binary search, the tokens and comments of an older scan that lie in front of a change
-//! of the text, and the ones that lie behind the change. Replaces the tokens and comments between
-//! these two parts, and shifts the spans of the part behind the change.
+//! Finds, by binary search, the tokens and comments of an older scan that lie before a change of
+//! the text, and the ones that lie after the change. Replaces the tokens and comments between these
+//! two parts, and shifts the spans of the part after the change.
 //!
-//! The spans of a scan are in order (`AreInOrder`), so binary search finds the same number as
-//! visiting them one by one (`proofs/Halved`). The later part of a `Vec` is changed by a loop over
-//! indexes (`for index in first..items.len()`). The loop's invariant is `ChangedTo`: the items with
-//! smaller indexes are changed, and the other items aren't. A call with `&mut items[first..]` isn't
-//! used, because the proof would have no name for the list after such a call.
+//! The spans of a scan are in order (`SpansAreInOrder`), so binary search finds the same number as
+//! visiting them one by one (`proofs/Halved`). The items of a `Vec` from an index to its end are
+//! changed by a loop over indexes (`for index in first..items.len()`). The loop's invariant is
+//! `ChangedTo`: the items with smaller indexes are changed, and the other items aren't. A call with
+//! `&mut items[first..]` isn't used, because the proof would have no name for the list after such a
+//! call.
 
 ghost use Rattle.std.specs.Prelude.{◌≡◌, ◌+◌, ◌-◌, ◌<◌, ◌≤◌, ◌^◌, ◌||◌, ◌++◌, OnOk, length, map, take, drop, nat_lt, option_copied, string_bytes};
 ghost use Rattle.std.specs.List.{All, prefix_len};
 ghost use Rattle.std.specs.List.Sorted.{IsNonDecreasingBy};
 ghost use Rattle.ob0_scan.specs.declared.lexeme.Span.{Span};
 ghost use Rattle.ob0_scan.specs.declared.lexeme.Token.{Token};
-ghost use Rattle.ob0_scan.specs.Reused.{ReplacesRange, span_after_shift, token_after_shift, tokens_before_change, comments_before_change, tokens_beginning_from, comments_beginning_from};
-ghost use Rattle.ob0_scan.specs.RescanState.{token_end, comment_end, last_end, first_token_begins_at, first_comment_begins_at, AreInOrder, IsMovable};
+ghost use Rattle.ob0_scan.specs.Reused.{ReplacesRange, span_after_shift, token_after_shift, tokens_ending_before, comments_ending_before, tokens_beginning_from, comments_beginning_from};
+ghost use Rattle.ob0_scan.specs.RescanState.{token_end_or_zero, comment_end_or_zero, end_of_last_lexeme, first_token_begins_at, first_comment_begins_at, SpansAreInOrder, IsShiftable};
 
 use crate::lexeme::{Span, Token};
 use std::alloc::AllocError;
@@ -29,8 +30,8 @@ pub(crate) struct ReplacedRange {
 }
 
 impl ReplacedRange {
-    /// Returns the byte offset in the old text of the place that is at the byte offset `offset` in
-    /// the new text. The place must be behind the changed bytes.
+    /// Returns the byte offset in the old text that corresponds to the byte offset `offset` in the
+    /// new text. It is meant for places after the changed bytes.
     pub(crate) fn offset_in_old_text(self, offset: usize) -> usize
         requires following { self.added ≤ offset }
         requires small { offset + self.removed < 2 ^ 64 }
@@ -40,8 +41,8 @@ impl ReplacedRange {
     }
 
     /// Turns the old text into the new text. Only the changed bytes are written, and the bytes
-    /// behind them are moved. If the change begins or ends inside a character, the whole new text
-    /// is copied. If an allocation fails, nothing is promised about `old`.
+    /// after them are moved. If the change begins or ends inside a character, the whole new text is
+    /// copied. If an allocation fails, nothing is promised about `old`.
     pub(crate) fn replace(self, old: &mut String, new: &str) -> Result<(), AllocError>
         requires { ReplacesRange (string_bytes old.old) new.now self.from self.removed self.added }
         ensures { OnOk result (string_bytes old.new ≡ new.now) }
@@ -58,10 +59,10 @@ impl ReplacedRange {
         old.push_str(new)
     }
 
-    /// Returns the span in the new text that corresponds to `span`, a span of the old text behind
+    /// Returns the span in the new text that corresponds to `span`, a span of the old text after
     /// the change.
     fn span_after_shift(self, span: Span) -> Span
-        requires { IsMovable self.removed self.added span }
+        requires { IsShiftable self.removed self.added span }
         ensures { result ≡ span_after_shift self.removed self.added span }
     {
         Span {
@@ -82,10 +83,10 @@ impl<'t> LexemeSlices<'t> {
     /// Returns the leading tokens and comments that end before the byte offset `offset`, by binary
     /// search. A token or comment that ends at `offset` isn't included.
     pub(crate) fn lexemes_ending_before(self, offset: usize) -> LexemeSlices<'t>
-        requires { AreInOrder self.tokens.now self.comments.now }
-        ensures tokens { result.tokens.now ≡ tokens_before_change offset self.entry.tokens.now }
+        requires { SpansAreInOrder self.tokens.now self.comments.now }
+        ensures tokens { result.tokens.now ≡ tokens_ending_before offset self.entry.tokens.now }
         ensures comments { result.comments.now
-            ≡ comments_before_change offset self.entry.comments.now }
+            ≡ comments_ending_before offset self.entry.comments.now }
     {
         let tokens = count_tokens_ending_before(self.tokens, offset);
         let comments = count_comments_ending_before(self.comments, offset);
@@ -98,7 +99,7 @@ impl<'t> LexemeSlices<'t> {
     /// Returns the tokens and comments without the leading ones that begin before the byte offset
     /// `offset`, by binary search.
     pub(crate) fn lexemes_beginning_from(self, offset: usize) -> LexemeSlices<'t>
-        requires { AreInOrder self.tokens.now self.comments.now }
+        requires { SpansAreInOrder self.tokens.now self.comments.now }
         ensures tokens { result.tokens.now ≡ tokens_beginning_from offset self.entry.tokens.now }
         ensures comments { result.comments.now ≡ comments_beginning_from offset self.entry.comments.now }
     {
@@ -116,8 +117,8 @@ impl<'t> LexemeSlices<'t> {
         ensures tokens { result.tokens.now ≡ tokens_beginning_from offset self.entry.tokens.now }
         ensures comments { result.comments.now ≡ comments_beginning_from offset self.entry.comments.now }
     {
-        let tokens = count_tokens_before_linearly(self.tokens, offset);
-        let comments = count_comments_before_linearly(self.comments, offset);
+        let tokens = count_tokens_beginning_before_linearly(self.tokens, offset);
+        let comments = count_comments_beginning_before_linearly(self.comments, offset);
         LexemeSlices {
             tokens: &self.tokens[tokens..],
             comments: &self.comments[comments..],
@@ -136,9 +137,9 @@ impl<'t> LexemeSlices<'t> {
     /// Returns the byte offset at which the last token ends or the last comment ends, whichever is
     /// greater. Returns 0 if there are neither tokens nor comments.
     pub(crate) fn end(self) -> usize
-        ensures { result ≡ last_end self.entry.tokens.now self.entry.comments.now }
+        ensures { result ≡ end_of_last_lexeme self.entry.tokens.now self.entry.comments.now }
     {
-        token_end(self.tokens.last()).max(comment_end(self.comments.last()))
+        token_end_or_zero(self.tokens.last()).max(comment_end_or_zero(self.comments.last()))
     }
 }
 
@@ -165,8 +166,8 @@ fn first_comment_begins_at(comments: &[Span], offset: usize) -> bool
 }
 
 /// Returns the byte offset at which the token ends, or 0 for None.
-fn token_end(token: Option<&Token>) -> usize
-    ensures { result ≡ token_end (option_copied token.entry) }
+fn token_end_or_zero(token: Option<&Token>) -> usize
+    ensures { result ≡ token_end_or_zero (option_copied token.entry) }
 {
     match token {
         Some(token) => token.span.end as usize,
@@ -175,8 +176,8 @@ fn token_end(token: Option<&Token>) -> usize
 }
 
 /// Returns the byte offset at which the comment ends, or 0 for None.
-fn comment_end(comment: Option<&Span>) -> usize
-    ensures { result ≡ comment_end (option_copied comment.entry) }
+fn comment_end_or_zero(comment: Option<&Span>) -> usize
+    ensures { result ≡ comment_end_or_zero (option_copied comment.entry) }
 {
     match comment {
         Some(comment) => comment.end as usize,
@@ -222,7 +223,7 @@ fn count_comments_beginning_before(comments: &[Span], offset: usize) -> usize
 
 /// Returns the number of leading tokens that begin before a byte offset. The tokens are visited one
 /// by one.
-fn count_tokens_before_linearly(tokens: &[Token], offset: usize) -> usize
+fn count_tokens_beginning_before_linearly(tokens: &[Token], offset: usize) -> usize
     ensures bound { result ≤ length tokens.now }
     ensures count { result ≡ prefix_len (λ (t : Token). nat_lt t.span.start offset) tokens.now }
 {
@@ -234,7 +235,7 @@ fn count_tokens_before_linearly(tokens: &[Token], offset: usize) -> usize
 
 /// Returns the number of leading comments that begin before a byte offset. The comments are visited
 /// one by one.
-fn count_comments_before_linearly(comments: &[Span], offset: usize) -> usize
+fn count_comments_beginning_before_linearly(comments: &[Span], offset: usize) -> usize
     ensures bound { result ≤ length comments.now }
     ensures count { result ≡ prefix_len (λ (c : Span). nat_lt c.start offset) comments.now }
 {
@@ -255,7 +256,7 @@ pub(crate) fn splice_tokens(
 ) -> Result<(), AllocError>
     requires ordered { old_start ≤ old_end }
     requires inside { old_end ≤ length tokens.old.items }
-    requires movable { All (λ (t : Token). IsMovable change.removed change.added t.span)
+    requires movable { All (λ (t : Token). IsShiftable change.removed change.added t.span)
         (drop old_end tokens.old.items) }
     ensures { OnOk result (tokens.new.items
         ≡ take old_start tokens.old.items
@@ -278,7 +279,7 @@ pub(crate) fn splice_comments(
 ) -> Result<(), AllocError>
     requires ordered { old_start ≤ old_end }
     requires inside { old_end ≤ length comments.old.items }
-    requires movable { All (λ (c : Span). IsMovable change.removed change.added c)
+    requires movable { All (λ (c : Span). IsShiftable change.removed change.added c)
         (drop old_end comments.old.items) }
     ensures { OnOk result (comments.new.items
         ≡ take old_start comments.old.items
@@ -294,7 +295,7 @@ pub(crate) fn splice_comments(
 /// the changed text.
 fn shift_tokens(tokens: &mut Vec<Token>, first: usize, change: ReplacedRange)
     requires inside { first ≤ length tokens.old.items }
-    requires movable { All (λ (t : Token). IsMovable change.removed change.added t.span)
+    requires movable { All (λ (t : Token). IsShiftable change.removed change.added t.span)
         (drop first tokens.old.items) }
     ensures { tokens.new.items
         ≡ take first tokens.old.items
@@ -313,7 +314,7 @@ fn shift_tokens(tokens: &mut Vec<Token>, first: usize, change: ReplacedRange)
 /// in the changed text.
 fn shift_comments(comments: &mut Vec<Span>, first: usize, change: ReplacedRange)
     requires inside { first ≤ length comments.old.items }
-    requires movable { All (λ (c : Span). IsMovable change.removed change.added c)
+    requires movable { All (λ (c : Span). IsShiftable change.removed change.added c)
         (drop first comments.old.items) }
     ensures { comments.new.items
         ≡ take first comments.old.items

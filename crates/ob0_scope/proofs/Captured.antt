@@ -6,15 +6,15 @@ use Rattle.ob0_tree.specs.Tree.{Tree, module_text}
 use Rattle.ob0_scope.specs.declared.name_conflicts.FirstConflict as reported
 use Rattle.ob0_scope.specs.declared.name_conflicts.FirstConflict.TheVariants as reports
 use Rattle.ob0_language_names.specs.Names.{Name, same_name}
-use Rattle.ob0_language_names.specs.Occurrences.{Free, at_declaration, at_occurrence, bindings, scopes_in_block, declares_ordinal, first_name_conflict, first_difference, is_duplicate_name, another_declaration_has_name}
+use Rattle.ob0_language_names.specs.Occurrences.{IsFreeName, at_declaration, at_occurrence, bindings, scopes_in_block, declares_ordinal, first_name_conflict, first_difference, is_duplicate_name, another_declaration_has_name}
 use Rattle.ob0_language_names.specs.Parts.{module_block}
-use Rattle.ob0_scope.specs.Renames.{namesake, namesake_in_scopes, other_with_name, conflict_of}
+use Rattle.ob0_scope.specs.Renames.{namesake, namesake_in_scopes, other_declaration_with_name, conflict_of}
 use Rattle.ob0_language_names.specs.Scopes.{Scope, renamed}
 use Rattle.ob0_scope.proofs.FirstCaptures.{free_means_no_conflict-holds}
 
-other_is : (own : Scope Name) (d : ℕ) (new : Name) → is_some (other_with_name own d new) ≡ another_declaration_has_name own d new
+other_is : (own : Scope Name) (d : ℕ) (new : Name) → is_some (other_declaration_with_name own d new) ≡ another_declaration_has_name own d new
 other_is [] d new = refl
-other_is (b ∷ own) d new = one (same_name b.0 new && not (b.1 == d)) (other_with_name own d new) (another_declaration_has_name own d new) (other_is own d new)
+other_is (b ∷ own) d new = one (same_name b.0 new && not (b.1 == d)) (other_declaration_with_name own d new) (another_declaration_has_name own d new) (other_is own d new)
   where
     one : (c : Bool) (found : Option ℕ) (rest : Bool) → is_some found ≡ rest → is_some (if c then Some b.1 else found) ≡ (c || rest)
     one true found rest e = refl
@@ -23,14 +23,14 @@ other_is (b ∷ own) d new = one (same_name b.0 new && not (b.1 == d)) (other_wi
 namesake_is : (blocks : List (Scope Name)) (d : ℕ) (new : Name) → is_some (namesake_in_scopes blocks d new) ≡ list_any (λ own. declares_ordinal own d && another_declaration_has_name own d new) blocks
 namesake_is [] d new = refl
 namesake_is (own ∷ blocks) d new =
-    both (if declares_ordinal own d then other_with_name own d new else None) (namesake_in_scopes blocks d new)
+    both (if declares_ordinal own d then other_declaration_with_name own d new else None) (namesake_in_scopes blocks d new)
     ∙ (λ i. (here (declares_ordinal own d) ∙ ap (λ b. declares_ordinal own d && b) (other_is own d new)) i || namesake_is blocks d new i)
   where
     both : (o p : Option ℕ) → is_some (option_or o p) ≡ (is_some o || is_some p)
     both None p = refl
     both (Some k) p = refl
 
-    here : (c : Bool) → is_some (if c then other_with_name own d new else None) ≡ (c && is_some (other_with_name own d new))
+    here : (c : Bool) → is_some (if c then other_declaration_with_name own d new else None) ≡ (c && is_some (other_declaration_with_name own d new))
     here true = refl
     here false = refl
 
@@ -52,7 +52,7 @@ captured_later m d new found e f =
     placed None = refl
     placed (Some k) = refl
 
-pub free_where_none : (m : Tree Name module_text) (d : ℕ) (new : Name) (found : Option reported.FirstConflict) → option_map conflict_of found ≡ first_name_conflict m d new → found ≡ None ↔ Free m d new
+pub free_where_none : (m : Tree Name module_text) (d : ℕ) (new : Name) (found : Option reported.FirstConflict) → option_map conflict_of found ≡ first_name_conflict m d new → found ≡ None ↔ IsFreeName m d new
 free_where_none m d new found e = (
   λ none. (free_means_no_conflict-holds m d new).0 (sym e ∙ ap (option_map conflict_of) none),
   λ free. nothing found (e ∙ (free_means_no_conflict-holds m d new).1 free),

@@ -6,7 +6,7 @@ use Rattle.std.proofs.Math.Seq.{get_or-append_right}
 use Rattle.std.proofs.lemmas.List.{get_or-drop, length-replicate}
 use Rattle.ob0_tree.specs.declared.tree.Role.{Role}
 use Rattle.ob0_tree.specs.declared.tree.Role.TheVariants as role
-use Rattle.ob0_tree.specs.Order.{AreAscending, names_without_roles}
+use Rattle.ob0_tree.specs.Order.{AreAscendingWithin, names_without_roles}
 use Rattle.ob0_tree.proofs.Occurring.{looked_up_only, looked_up_only-append}
 use Rattle.ob0_tree.specs.FirstIdentifier.{token_of_first_identifier}
 use Rattle.ob0_tree.proofs.AscendingNumbers.{AllBelow, AllFrom, ascend_second, ascending_below, ascending_from, before_one, below_more, from_first, from_less, leaves_append}
@@ -14,7 +14,7 @@ use Rattle.ob0_tree.proofs.MappedIdentifiers.{beside_role}
 use Rattle.ob0_scope_table.specs.Resolution.{declaring_names, ordinal_in}
 use Rattle.ob0_scope_table.proofs.Plain.{declaring_names-append}
 use Rattle.ob0_scope_numbering.proofs.Tables.{none_at}
-use Rattle.ob0_scope.specs.Carried.{tokens_after_body, tokens_before_body, carried_tokens, carried_ordinals, shifted_token}
+use Rattle.ob0_scope.specs.Carried.{tokens_after_body, tokens_before_body, tokens_in_changed_text, ordinals_in_changed_text, shifted_token}
 use Rattle.ob0_scope.specs.declared.body_range.BodyRange.{BodyRange}
 
 -- ---- identifiers in three parts
@@ -37,7 +37,7 @@ some_first {x = x} e = ap (λ (o : Option ℕ). number o) e
     number None = x
     number (Some z) = z
 
-pub parted : (before own after : List (Role × ℕ)) (closes : Role) (first closing high : ℕ) → token_of_first_identifier own ≡ Some first → AreAscending 0 (names_without_roles (before ++ (own ++ ((closes, closing) ∷ after)))) high
+pub parted : (before own after : List (Role × ℕ)) (closes : Role) (first closing high : ℕ) → token_of_first_identifier own ≡ Some first → AreAscendingWithin 0 (names_without_roles (before ++ (own ++ ((closes, closing) ∷ after)))) high
     → Parted before own ((closes, closing) ∷ after) first closing high
 parted before [] after closes first closing high e h = absurd (cc)
 parted before (x ∷ own) after closes first closing high e h =
@@ -46,7 +46,7 @@ parted before (x ∷ own) after closes first closing high e h =
     let a = names_without_roles after in
     let here : x.1 ≡ first = some_first e in
     let split : names_without_roles (before ++ ((x ∷ own) ++ ((closes, closing) ∷ after))) ≡ b ++ (x.1 ∷ (o ++ (closing ∷ a))) = leaves_append before ((x ∷ own) ++ ((closes, closing) ∷ after)) ∙ ap (λ z. b ++ (x.1 ∷ z)) (leaves_append own ((closes, closing) ∷ after)) in
-    let rising = subst (λ l. AreAscending 0 l high) split h in
+    let rising = subst (λ l. AreAscendingWithin 0 l high) split h in
     let rest = ascend_second 0 b (x.1 ∷ (o ++ (closing ∷ a))) high rising in
     let last = ascend_second (x.1 + 1) o (closing ∷ a) high rest.1 in
     let bounded = ascending_below (closing + 1) a high last.1 in
@@ -197,7 +197,7 @@ module _ (range : BodyRange) where
   -- Keeping a selection of the old identifiers, with a selection of the new body's, gives the
   -- selection of all new identifiers.
   pub carried_picked : (pick : List (Role × ℕ) → List ℕ) (before own after others : List (Role × ℕ)) (high : ℕ) → Picks pick → Parted before own after range.first range.old_closing high → high + range.closing ≤ 2 ^ 64 - 1
-      → carried_tokens range (pick (before ++ (own ++ after))) (pick others) ≡ pick (before ++ (others ++ map (beside_role far) after))
+      → tokens_in_changed_text range (pick (before ++ (own ++ after))) (pick others) ≡ pick (before ++ (others ++ map (beside_role far) after))
   carried_picked pick before own after others high p parts few =
       let all : pick (before ++ (own ++ after)) ≡ pick before ++ (pick own ++ pick after) = p.joined before (own ++ after) ∙ ap (λ z. pick before ++ z) (p.joined own after) in
       let less = parts.less in
@@ -211,7 +211,7 @@ module _ (range : BodyRange) where
       let last_is = after_all high (pick after) few (p.from range.old_closing after parts.after_from) (p.below high after parts.after_below) in
       let last : tokens_after_body range (pick before ++ (pick own ++ pick after)) ≡ map far (pick after) =
       after_append (pick before) (pick own ++ pick after) ∙ (λ i. before_is i ++ (after_append (pick own) (pick after) ∙ (λ i. body_is i ++ last_is i)) i) in
-      ap (λ tokens. carried_tokens range tokens (pick others)) all
+      ap (λ tokens. tokens_in_changed_text range tokens (pick others)) all
       ∙ ((λ i. first i ++ (pick others ++ last i))
       ∙ sym (p.joined before (others ++ map (beside_role far) after) ∙ ap (λ z. pick before ++ z) (p.joined others (map (beside_role far) after) ∙ ap (λ z. pick others ++ z) (p.renamed far after))))
 
@@ -230,26 +230,26 @@ module _ (range : BodyRange) where
     filler_long : length filler ≡ range.closing - length front
     filler_long = length-replicate (range.closing - length front) (let nothing : Option ℕ = None in nothing)
 
-    table_is : carried_ordinals range table ≡ (front ++ filler) ++ drop range.old_closing table
+    table_is : ordinals_in_changed_text range table ≡ (front ++ filler) ++ drop range.old_closing table
     table_is = ap (λ z. (z ++ filler) ++ drop range.old_closing table) (take_all range.closing front (omega (arith, front_short, less)))
 
     filled_long : length (front ++ filler) ≡ range.closing
     filled_long = omega (arith, length-append front filler, filler_long, front_short, less)
 
-    pub table_before : (i : ℕ) → i < range.first → ordinal_in (carried_ordinals range table) i ≡ ordinal_in table i
+    pub table_before : (i : ℕ) → i < range.first → ordinal_in (ordinals_in_changed_text range table) i ≡ ordinal_in table i
     table_before i h =
         ap (λ (t : List (Option ℕ)). ordinal_in t i) table_is
         ∙ (get_or-append (front ++ filler) (drop range.old_closing table) None i (omega (arith, h, filled_long, less))
         ∙ reads_first range.first (range.closing - length front) table i h)
 
-    pub table_within : (i : ℕ) → range.first ≤ i → i < range.closing → ordinal_in (carried_ordinals range table) i ≡ None
+    pub table_within : (i : ℕ) → range.first ≤ i → i < range.closing → ordinal_in (ordinals_in_changed_text range table) i ≡ None
     table_within i h k =
         ap (λ (t : List (Option ℕ)). ordinal_in t i) table_is
         ∙ (get_or-append (front ++ filler) (drop range.old_closing table) None i (omega (arith, k, filled_long))
         ∙ (get_or-append_right front filler i None (omega (arith, h, front_short))
         ∙ none_at (range.closing - length front) (i - length front)))
 
-    pub table_after : (i : ℕ) → range.closing ≤ i → ordinal_in (carried_ordinals range table) i ≡ ordinal_in table (range.old_closing + (i - range.closing))
+    pub table_after : (i : ℕ) → range.closing ≤ i → ordinal_in (ordinals_in_changed_text range table) i ≡ ordinal_in table (range.old_closing + (i - range.closing))
     table_after i h =
         ap (λ (t : List (Option ℕ)). ordinal_in t i) table_is
         ∙ (get_or-append_right (front ++ filler) (drop range.old_closing table) i None (omega (arith, h, filled_long))

@@ -8,10 +8,10 @@ use Rattle.std.specs.Cmp.Lexicographic.{slice_cmp}
 use Rattle.std.specs.Ordering.{is_eq, nat_cmp}
 use Rattle.ob0_scan.specs.declared.fault.Fault.{Fault}
 use Rattle.ob0_scan.specs.TextWithTokens.{TextWithTokens}
-use Rattle.ob0_tree.specs.declared.tree.Fields.{Fields}
+use Rattle.ob0_tree.specs.declared.tree.OptionalFieldGroup.{OptionalFieldGroup}
 use Rattle.ob0_tree.specs.Tree.{Tree, block, body, constants, declares, declares_procedure, formals, forms_block, items, maybe, procedure, type_definitions, variables}
 use Rattle.ob0_tree.specs.Places.{token_text_at}
-use Rattle.ob0_tree.specs.View.{fields_of, further_fields_of_group, items_of, record_of_list}
+use Rattle.ob0_tree.specs.View.{optional_field_group_of, further_field_group_of, items_of, record_type_of_list}
 use Rattle.ob0_language_names.specs.ConsistentNames.{block_names, further_field_names, is_among, procedure_names}
 use Rattle.ob0_scope_table.specs.DuplicatesAndEndNames.{duplicate_faults, block_declaration_faults, closing_name_faults, duplicate_fault, duplicate_field_faults, duplicate_field_faults_in_formals, duplicate_field_faults_in_group, duplicate_field_faults_in_groups, procedure_declaration_faults, procedures_declaration_faults, duplicate_field_faults_in_types, fault_unless, duplicate_field_faults_in_variables}
 use Rattle.ob0_language_names.specs.Names.{Name, same_name}
@@ -93,13 +93,13 @@ one_further text (x ∷ xs) (suc done) d less q =
     ap (λ b. same_name q (text x) || b) (one_further text xs done d (omega (arith, less)) q) ∙ swapped (same_name q (text x)) (same_name q (text (get_or xs done d))) (is_among q (map text (take done xs)))
 
 -- The faults of a record's fields are reported, whichever group is the first.
-pub record_reported : (source : TextWithTokens) (start own after : List Fault) (gs : List Fields) (fs : List ℕ) → fs ≡ further_field_names (items_of further_fields_of_group gs) → own ≡ start ++ duplicate_faults source [] fs
-    → after ≡ own ++ duplicate_field_faults_in_groups source (items_of further_fields_of_group gs) → after ≡ start ++ duplicate_field_faults source (record_of_list gs)
+pub record_reported : (source : TextWithTokens) (start own after : List Fault) (gs : List OptionalFieldGroup) (fs : List ℕ) → fs ≡ further_field_names (items_of further_field_group_of gs) → own ≡ start ++ duplicate_faults source [] fs
+    → after ≡ own ++ duplicate_field_faults_in_groups source (items_of further_field_group_of gs) → after ≡ start ++ duplicate_field_faults source (record_type_of_list gs)
 record_reported source start own after [] fs are e f = f ∙ (append-nil own ∙ (e ∙ ap (λ ns. start ++ duplicate_faults source [] ns) are))
 record_reported source start own after (g ∷ gs) fs are e f =
-    let rest = items_of further_fields_of_group gs in
-    let inner = duplicate_field_faults_in_group source (fields_of g) ++ duplicate_field_faults_in_groups source rest in
-    let names = further_field_names (items_of further_fields_of_group (g ∷ gs)) in
+    let rest = items_of further_field_group_of gs in
+    let inner = duplicate_field_faults_in_group source (optional_field_group_of g) ++ duplicate_field_faults_in_groups source rest in
+    let names = further_field_names (items_of further_field_group_of (g ∷ gs)) in
     f ∙ (ap (λ d. d ++ inner) (e ∙ ap (λ ns. start ++ duplicate_faults source [] ns) are) ∙ append_assoc start (duplicate_faults source [] names) inner)
 
 five_names : (a b c d e : List ℕ) → (((a ++ b) ++ c) ++ d) ++ e ≡ a ++ (b ++ (c ++ (d ++ e)))

@@ -1,7 +1,7 @@
 -- Proves that a first capture exists exactly if the new name isn't free.
 use Rattle.std.proofs.Common.{List, None, Option, Some, [], ap, arith, eq-eqb, eqb-true, false, if◌then◌else◌, length, option_map, refl, suc, sym, true, ℕ, ◌∙◌, ◌∷◌, ◌≡◌}
 use Rattle.ob0_tree.specs.Tree.{Tree, module_text}
-use Rattle.ob0_language_names.specs.Occurrences.{Free, at_declaration, at_occurrence, bindings, first_difference, is_duplicate_name, same_binding}
+use Rattle.ob0_language_names.specs.Occurrences.{IsFreeName, at_declaration, at_occurrence, bindings, first_difference, is_duplicate_name, same_binding}
 use Rattle.ob0_language_names.specs.RenamingLaws.{FreeMeansNoConflict}
 use Rattle.ob0_language_names.specs.Scopes.{label_from_ordinal, renamed, same_ordinal}
 use Rattle.ob0_language_names.proofs.OccurrenceNames.{as_many-module}
@@ -48,7 +48,7 @@ no_occurrence (Some k) h = absurd (cc)
 
 pub free_means_no_conflict-holds : FreeMeansNoConflict
 free_means_no_conflict-holds m d new = (
-  (elim (is_duplicate_name m d new) as (λ v. is_duplicate_name m d new ≡ v → (if v then Some at_declaration else option_map at_occurrence (first_difference (bindings (renamed m d new)) (bindings m))) ≡ None → Free m d new) [
+  (elim (is_duplicate_name m d new) as (λ v. is_duplicate_name m d new ≡ v → (if v then Some at_declaration else option_map at_occurrence (first_difference (bindings (renamed m d new)) (bindings m))) ≡ None → IsFreeName m d new) [
     | true ↦ λ e h. absurd (cc)
     | false ↦ λ e h. (e, no_difference (bindings (renamed m d new)) (bindings m) (as_many-bindings m d new) (no_occurrence (first_difference (bindings (renamed m d new)) (bindings m)) h))
   ]) refl,

@@ -4,8 +4,8 @@ use Rattle.std.proofs.Common.{◌≡◌, ℕ, suc, ◌∷◌, Some, None, refl}
 use Rattle.ob0_tree.specs.Tree.{Sort, Tree, mapped_tree, block, constant, constants, formals, further_name, further_section, item, items, maybe, module_text, names, procedure, section, type_definition, type_definitions, variable, variables, adds, array_type, assigns, begins, branches, calls, compares, declares, declares_constant, declares_constants, declares_procedure, declares_type, declares_types, declares_variable, declares_variables, designator, else_branch, elsif_branch, empty, end, field, forms_block, index, integer, is_module, listed, more, multiplies, named_type, negation, no_arguments, no_fields, no_formals, none, one, parenthesised, product, record_type, relates, repeat_loop, runs, some_arguments, some_fields, some_formals, sum, then_argument, then_fields, then_name, then_section, then_statement, value_section, variable_section, while_loop}
 use Rattle.ob0_language_names.specs.Mapping.{map_names}
 use Rattle.ob0_language_names.specs.Names.{Naming}
-use Rattle.ob0_language_names.specs.Parts.{formal_names, formal_sections, names_in_list, procedure_name, section_names}
-use Rattle.ob0_language_names.specs.Scopes.{Labelling, Scope, ordinal_after_names, ordinal_after_procedure, body_scope, declare_names, first_procedure_ordinal, first_type_ordinal, first_variable_ordinal, label_of, predeclared_scope, procedures_scope, relabel_block, relabel_constant_section, relabel_constants, relabel_formals, relabel_further_names, relabel_names, relabel_procedure, relabel_procedures, relabel_section, relabel_sections, relabel_type_section, relabel_types, relabel_uses, relabel_variable_section, relabel_variables, relabel_module, types_scope, variables_scope}
+use Rattle.ob0_language_names.specs.Parts.{formal_names, formal_sections, names_in_list, procedure_name, parameter_section_names}
+use Rattle.ob0_language_names.specs.Scopes.{Labelling, Scope, ordinal_after_names, ordinal_after_procedure, body_scope, declare_names, first_procedure_ordinal, first_type_ordinal, first_variable_ordinal, label_of, predeclared_scope, scope_before_procedures, relabel_block, relabel_constant_section, relabel_constants, relabel_formals, relabel_further_names, relabel_names, relabel_procedure, relabel_procedures, relabel_section, relabel_sections, relabel_type_section, relabel_types, relabel_uses, relabel_variable_section, relabel_variables, relabel_module, scope_before_types, scope_before_variables}
 
 fused-uses : {N M K : Type 0} {s : Sort} (f : M → K) (look keep : N → M) (t : Tree N s) → map_names (λ x. f (look x)) (λ x. f (keep x)) t ≡ mapped_tree f (λ n. n) (map_names look keep t)
 fused-uses f look keep none = refl
@@ -96,13 +96,13 @@ module _ {N M K : Type 0} (naming : Naming N) (f : M → K) (label : Labelling N
   sections-mapped_tree : (scope : Scope N) (k : ℕ) (fs : Tree N (items further_section)) → relabel_sections naming then_f scope k fs ≡ mapped_tree f (λ n. n) (relabel_sections naming label scope k fs)
   sections-mapped_tree scope k end = refl
   sections-mapped_tree scope k (more (then_section s) fs) = λ i.
-      more (then_section (section-mapped_tree scope k s i)) (sections-mapped_tree (declare_names k (section_names s) scope) (ordinal_after_names k (section_names s)) fs i)
+      more (then_section (section-mapped_tree scope k s i)) (sections-mapped_tree (declare_names k (parameter_section_names s) scope) (ordinal_after_names k (parameter_section_names s)) fs i)
 
   formals-mapped_tree : (scope : Scope N) (k : ℕ) (fs : Tree N (maybe formals)) → relabel_formals naming then_f scope k fs ≡ mapped_tree f (λ n. n) (relabel_formals naming label scope k fs)
   formals-mapped_tree scope k none = refl
   formals-mapped_tree scope k (one no_formals) = refl
   formals-mapped_tree scope k (one (some_formals s fs)) = λ i.
-      one (some_formals (section-mapped_tree scope k s i) (sections-mapped_tree (declare_names k (section_names s) scope) (ordinal_after_names k (section_names s)) fs i))
+      one (some_formals (section-mapped_tree scope k s i) (sections-mapped_tree (declare_names k (parameter_section_names s) scope) (ordinal_after_names k (parameter_section_names s)) fs i))
 
   constant_section-mapped_tree : (scope : Scope N) (k : ℕ) (cs : Tree N (maybe constants)) → relabel_constant_section naming then_f scope k cs ≡ mapped_tree f (λ n. n) (relabel_constant_section naming label scope k cs)
   constant_section-mapped_tree scope k none = refl
@@ -121,8 +121,8 @@ module _ {N M K : Type 0} (naming : Naming N) (f : M → K) (label : Labelling N
     block-mapped_tree scope k (forms_block (declares cs ts vs ps) statements) =
         let b : Tree N block = forms_block (declares cs ts vs ps) statements in λ i.
         forms_block
-        (declares (constant_section-mapped_tree scope k cs i) (type_section-mapped_tree (types_scope k b scope) (first_type_ordinal k b) ts i)
-        (variable_section-mapped_tree (variables_scope k b scope) (first_variable_ordinal k b) vs i) (procedures-mapped_tree (procedures_scope k b scope) (first_procedure_ordinal k b) ps i))
+        (declares (constant_section-mapped_tree scope k cs i) (type_section-mapped_tree (scope_before_types k b scope) (first_type_ordinal k b) ts i)
+        (variable_section-mapped_tree (scope_before_variables k b scope) (first_variable_ordinal k b) vs i) (procedures-mapped_tree (scope_before_procedures k b scope) (first_procedure_ordinal k b) ps i))
         (uses-mapped_tree (body_scope k b scope) statements i)
 
     procedures-mapped_tree : (scope : Scope N) (k : ℕ) (ps : Tree N (items procedure)) → relabel_procedures naming then_f scope k ps ≡ mapped_tree f (λ n. n) (relabel_procedures naming label scope k ps)

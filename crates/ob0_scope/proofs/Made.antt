@@ -15,7 +15,7 @@ use Rattle.ob0_tree.specs.ParsedModule.{ParsedModule, IsParsed, tree_of}
 use Rattle.ob0_tree.specs.Places.{token_text_at}
 use Rattle.ob0_scope_table.specs.DuplicatesAndEndNames.{declaration_faults}
 use Rattle.ob0_language_names.specs.Names.{Name, naming_by_spelling}
-use Rattle.ob0_scope_table.specs.Resolution.{AreNameFaultsOf, IsNumberingTable, IsResolution, OnlyNamesHaveOrdinals, declaring_names, is_duplicate_or_end_name, is_undeclared_fault, is_unbound, label_at, ordinal_in, span_at, undeclared_faults_by_labels, undeclared_faults, undeclared_faults_by_table, ordinal_and_spelling}
+use Rattle.ob0_scope_table.specs.Resolution.{AreNameFaultsOf, IsNumberingTable, IsResolution, OnlyIdentifiersHaveOrdinals, declaring_names, is_duplicate_or_end_name, is_undeclared_fault, is_unbound, label_at, ordinal_in, span_at, undeclared_faults_by_labels, undeclared_faults, undeclared_faults_by_table, ordinal_and_spelling}
 use Rattle.ob0_language_names.specs.Scopes.{label_from_ordinal}
 use Rattle.ob0_scope_numbering.specs.Marks.{with_marks}
 use Rattle.ob0_scope_numbering.specs.MarkWalk.{WalkState, initial_walk_state, visit_module}
@@ -93,7 +93,7 @@ faults_reported m ordinals numbering =
     }
 
 -- A module with its faults and a table that has all its marks is resolved.
-pub resolution_marked : (m : ParsedModule) (ordinals : List (Option ℕ)) (declaration_tokens uses : List ℕ) (once faults : List Fault) → IsParsed m → HasMarks (ordinal_in ordinals) (visit_module (tree_of m) (initial_walk_state (original_spellings m.source))).marks → OnlyNamesHaveOrdinals m ordinals
+pub resolution_marked : (m : ParsedModule) (ordinals : List (Option ℕ)) (declaration_tokens uses : List ℕ) (once faults : List Fault) → IsParsed m → HasMarks (ordinal_in ordinals) (visit_module (tree_of m) (initial_walk_state (original_spellings m.source))).marks → OnlyIdentifiersHaveOrdinals m ordinals
     → declaration_tokens ≡ declaring_names (identifiers role.Declaring (tree_of m)) → uses ≡ occurrences (tree_of m) → once ≡ declaration_faults m → faults ≡ once ++ undeclared_faults_by_table m.source ordinals uses
     → IsResolution (record { module_read = m; ordinals = ordinals; declaration_tokens = declaration_tokens; uses = uses; faults = faults })
 resolution_marked m ordinals declaration_tokens uses once faults parsed are_there alone declaring occurring twice all =

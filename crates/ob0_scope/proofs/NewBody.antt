@@ -11,11 +11,11 @@ use Rattle.std.proofs.lemmas.List.{map-append}
 use Rattle.std.proofs.lemmas.List.Folds.{list_any-append}
 use Rattle.std.specs.List.{list_any}
 use Rattle.ob0_scan.specs.declared.fault.Fault.{Fault}
-use Rattle.ob0_scan.specs.declared.tokens.SameParts.{SameParts}
+use Rattle.ob0_scan.specs.declared.tokens.CommonPrefixAndSuffix.{CommonPrefixAndSuffix}
 use Rattle.ob0_scan.specs.TextWithTokens.{TextWithTokens}
 use Rattle.ob0_tree.specs.declared.tree.Role.{Role}
 use Rattle.ob0_tree.specs.declared.tree.Role.TheVariants as role
-use Rattle.ob0_tree.specs.Order.{AreAscending, identifier_names, names_without_roles}
+use Rattle.ob0_tree.specs.Order.{AreAscendingWithin, identifier_names, names_without_roles}
 use Rattle.ob0_tree.specs.ParsedModule.{ParsedModule, named_tree_of, tree_of}
 use Rattle.ob0_tree.specs.Places.{tree_with_names, token_text_at, token_value_at}
 use Rattle.ob0_tree.specs.Tree.{identifiers, mapped_tree, occurrences}
@@ -43,7 +43,7 @@ use Rattle.ob0_scope_numbering.proofs.BodyTables.{HasMarksAt, body_renumbered}
 use Rattle.ob0_scope_table.proofs.FewTokens.{few_tokens}
 use Rattle.ob0_scope_numbering.proofs.Passing.{HasMarks, at_start, module_passed, tokens_of}
 use Rattle.ob0_scope_numbering.proofs.Tables.{marks_in_table}
-use Rattle.ob0_scope.specs.Carried.{IsRangeOfNewBody, carried_tokens, carried_ordinals, no_names, old_closing_token, with_identifier}
+use Rattle.ob0_scope.specs.Carried.{IsRangeOfNewBody, tokens_in_changed_text, ordinals_in_changed_text, no_names_seen, old_closing_token, with_identifier}
 use Rattle.ob0_scope.specs.declared.body_range.BodyRange.{BodyRange}
 use Rattle.ob0_scope.proofs.BodyExact.{module_exact}
 use Rattle.ob0_scope.proofs.BodySplit.{split_module}
@@ -61,7 +61,7 @@ later_names ((role.ClosingName, i) ∷ xs) f us = later_names xs f us
 later_names ((role.FieldName, i) ∷ xs) f us = later_names xs f us
 later_names ((role.ModuleName, i) ∷ xs) f us = later_names xs f us
 
-pub names_walked : (xs : List (Role × ℕ)) → state_after_identifiers with_identifier xs no_names ≡ record { first = token_of_first_identifier xs; uses = looked_up_only xs }
+pub names_walked : (xs : List (Role × ℕ)) → state_after_identifiers with_identifier xs no_names_seen ≡ record { first = token_of_first_identifier xs; uses = looked_up_only xs }
 names_walked [] = refl
 names_walked ((role.LookedUp, i) ∷ xs) = later_names xs i (i ∷ [])
 names_walked ((role.Declaring, i) ∷ xs) = later_names xs i []
@@ -71,11 +71,11 @@ names_walked ((role.ModuleName, i) ∷ xs) = later_names xs i []
 
 -- ---- the new indexes of tokens
 
-stays : (s : SameParts) (xs : List (Role × ℕ)) → AllBelow s.prefix (names_without_roles xs) → map (beside_role (moved_token_index s)) xs ≡ xs
+stays : (s : CommonPrefixAndSuffix) (xs : List (Role × ℕ)) → AllBelow s.prefix (names_without_roles xs) → map (beside_role (moved_token_index s)) xs ≡ xs
 stays s [] h = refl
 stays s (x ∷ xs) h = λ i. (x.0, moved_below s x.1 h.0 i) ∷ stays s xs h.1 i
 
-goes_far : (s : SameParts) (range : BodyRange) (xs : List (Role × ℕ)) → s.prefix ≤ s.old_suffix → s.old_suffix < range.old_closing → range.closing ≡ s.new_suffix + (range.old_closing - s.old_suffix) → AllFrom range.old_closing (names_without_roles xs)
+goes_far : (s : CommonPrefixAndSuffix) (range : BodyRange) (xs : List (Role × ℕ)) → s.prefix ≤ s.old_suffix → s.old_suffix < range.old_closing → range.closing ≡ s.new_suffix + (range.old_closing - s.old_suffix) → AllFrom range.old_closing (names_without_roles xs)
     → map (beside_role (moved_token_index s)) xs ≡ map (beside_role (far range)) xs
 goes_far s range [] le less e h = refl
 goes_far s range (x ∷ xs) le less e h =
@@ -108,7 +108,7 @@ record Known (old new : ParsedModule) (path : PathToBody) (range : BodyRange) : 
   new_parts : Parted before others (map (beside_role (far range)) after) range.first range.closing (length new.source.tokens)
   few : high + range.closing ≤ 2 ^ 64 - 1
 
-module _ (old new : ParsedModule) (path : PathToBody) (s : SameParts) (r : IsBodyReplaced old new path s) where
+module _ (old new : ParsedModule) (path : PathToBody) (s : CommonPrefixAndSuffix) (r : IsBodyReplaced old new path s) where
   abbrev old_closing : ℕ
   old_closing = closing_name_at_path path (tree_of old)
 
@@ -124,8 +124,8 @@ module _ (old new : ParsedModule) (path : PathToBody) (s : SameParts) (r : IsBod
       let sn = split_module path (tree_of new) in
       let own = identifiers role.Declaring (body_at_path path (tree_of old)) in
       let others = identifiers role.Declaring (body_at_path path (tree_of new)) in
-      let po = parted so.before own so.after so.closes r.first old_closing (length old.source.tokens) r.first_identifier_of_old_body (subst (λ l. AreAscending 0 (names_without_roles l) (length old.source.tokens)) so.whole_is (leaves_ascend old r.old_parsed)) in
-      let pn = parted sn.before others sn.after sn.closes r.first new_closing (length new.source.tokens) r.first_identifier_of_new_body (subst (λ l. AreAscending 0 (names_without_roles l) (length new.source.tokens)) sn.whole_is (leaves_ascend new r.new_parsed)) in
+      let po = parted so.before own so.after so.closes r.first old_closing (length old.source.tokens) r.first_identifier_of_old_body (subst (λ l. AreAscendingWithin 0 (names_without_roles l) (length old.source.tokens)) so.whole_is (leaves_ascend old r.old_parsed)) in
+      let pn = parted sn.before others sn.after sn.closes r.first new_closing (length new.source.tokens) r.first_identifier_of_new_body (subst (λ l. AreAscendingWithin 0 (names_without_roles l) (length new.source.tokens)) sn.whole_is (leaves_ascend new r.new_parsed)) in
       let old_tail : List (Role × ℕ) = (so.closes, old_closing) ∷ so.after in
       let new_tail : List (Role × ℕ) = (sn.closes, new_closing) ∷ sn.after in
       let old_range = r.old_range in
@@ -165,7 +165,7 @@ module _ (old new : ParsedModule) (path : PathToBody) (s : SameParts) (r : IsBod
   old_inside =
       let so = split_module path (tree_of old) in
       (parted so.before (identifiers role.Declaring (body_at_path path (tree_of old))) so.after so.closes r.first old_closing (length old.source.tokens) r.first_identifier_of_old_body
-      (subst (λ l. AreAscending 0 (names_without_roles l) (length old.source.tokens)) so.whole_is (leaves_ascend old r.old_parsed))).few
+      (subst (λ l. AreAscendingWithin 0 (names_without_roles l) (length old.source.tokens)) so.whole_is (leaves_ascend old r.old_parsed))).few
 
   -- The old index of the closing name follows from the new one.
   place_is : old_closing_token s new_closing ≡ old_closing
@@ -177,7 +177,7 @@ module _ (old new : ParsedModule) (path : PathToBody) (s : SameParts) (r : IsBod
       let there : new_closing - s.new_suffix + s.old_suffix ≡ old_closing = omega (arith, closing, back) in
       min-eq_left (let small : new_closing - s.new_suffix + s.old_suffix ≤ 2 ^ 64 - 1 = omega (arith, there, few, inside) in small) ∙ there
 
-known_in : (old new : ParsedModule) (path : PathToBody) (s : SameParts) (range : BodyRange) (r : IsBodyReplaced old new path s) → range.first ≡ r.first → range.closing ≡ closing_name_at_path path (tree_of new) → range.old_closing ≡ old_closing_token s range.closing → Known old new path range
+known_in : (old new : ParsedModule) (path : PathToBody) (s : CommonPrefixAndSuffix) (range : BodyRange) (r : IsBodyReplaced old new path s) → range.first ≡ r.first → range.closing ≡ closing_name_at_path path (tree_of new) → range.old_closing ≡ old_closing_token s range.closing → Known old new path range
 known_in old new path s range r first closing place =
     let there = place ∙ (ap (old_closing_token s) closing ∙ place_is old new path s r) in
     let is : exact old new path s r ≡ range = λ i. record { first = sym first i; old_closing = sym there i; closing = sym closing i } in
@@ -203,7 +203,7 @@ ordinals_at source ordinals [] = refl
 ordinals_at source ordinals (x ∷ xs) = ap (λ l. ordinal_in ordinals x ∷ l) (ordinals_at source ordinals xs)
 
 -- The bindings of names outside the body are unchanged.
-same_outside : (old new : ParsedModule) (path : PathToBody) (s : SameParts) (before now : List (Option ℕ)) → IsBodyReplaced old new path s → IsBindingTable old before → IsBindingTable new now
+same_outside : (old new : ParsedModule) (path : PathToBody) (s : CommonPrefixAndSuffix) (before now : List (Option ℕ)) → IsBodyReplaced old new path s → IsBindingTable old before → IsBindingTable new now
     → map (ordinal_in now) (identifier_names (module_without_body path (tree_of new))) ≡ map (ordinal_in before) (identifier_names (module_without_body path (tree_of old)))
 same_outside old new path s before now r was is =
     let outside : (m : ParsedModule) (ordinals : List (Option ℕ)) → IsBindingTable m ordinals → relabel_module naming_by_spelling ordinal_and_spelling (tree_with_names m.source (module_without_body path (tree_of m))) ≡ mapped_tree (ordinal_and_spelling_at m.source ordinals) (token_value_at m.source) (module_without_body path (tree_of m)) =
@@ -242,7 +242,7 @@ not_out low high i le less e = one (nat_lt i low) (nat_le high i) refl refl e
 
 module _ (range : BodyRange) (table : List (Option ℕ)) (now : ℕ → Option ℕ) (less : range.first < range.closing) where
   abbrev kept : ℕ → Option ℕ
-  kept = ordinal_in (carried_ordinals range table)
+  kept = ordinal_in (ordinals_in_changed_text range table)
 
   agree_before : (xs : List ℕ) → AllBelow range.first xs → Each (λ i. now i ≡ ordinal_in table i) xs → AgreeAt (is_outside_range range.first range.closing) kept now xs
   agree_before [] h k = tt
@@ -309,7 +309,7 @@ module _ (old new : ParsedModule) (path : PathToBody) (range : BodyRange) (known
   first_less : range.first ≤ range.closing
   first_less = let less = known.new_parts.less in omega (arith, less)
 
-  kept_alone : (token : ℕ) → list_any (λ i. i == token) (identifier_names (tree_of new)) ≡ false → ordinal_in (carried_ordinals range table) token ≡ None
+  kept_alone : (token : ℕ) → list_any (λ i. i == token) (identifier_names (tree_of new)) ≡ false → ordinal_in (ordinals_in_changed_text range table) token ≡ None
   kept_alone token e = one (ltb token range.first) (ltb token range.closing) refl refl
     where
       absent : list_any (λ i. i == token) (before_names ++ (names_without_roles known.others ++ map (far range) ordinal_after_names)) ≡ false
@@ -321,14 +321,14 @@ module _ (old new : ParsedModule) (path : PathToBody) (range : BodyRange) (known
       last : list_any (λ i. i == token) (map (far range) ordinal_after_names) ≡ false
       last = (or_parts (list_any (λ i. i == token) (names_without_roles known.others)) (list_any (λ i. i == token) (map (far range) ordinal_after_names)) (sym (list_any-append (λ i. i == token) (names_without_roles known.others) (map (far range) ordinal_after_names)) ∙ apart.1)).1
 
-      first_case : token < range.first → ordinal_in (carried_ordinals range table) token ≡ None
+      first_case : token < range.first → ordinal_in (ordinals_in_changed_text range table) token ≡ None
       first_case h =
           let less = known.old_parts.less in
           table_before range table first_less token h
           ∙ alone token (ap (list_any (λ i. i == token)) old_names ∙ absent_all token before_names (names_without_roles known.own) ordinal_after_names apart.0
           (absent_from token range.first (names_without_roles known.own) h known.old_parts.own_from) (absent_from token range.old_closing ordinal_after_names (omega (arith, h, less)) known.old_parts.after_from))
 
-      last_case : range.closing ≤ token → ordinal_in (carried_ordinals range table) token ≡ None
+      last_case : range.closing ≤ token → ordinal_in (ordinals_in_changed_text range table) token ≡ None
       last_case h =
           let less = known.old_parts.less in
           let j = range.old_closing + (token - range.closing) in
@@ -338,7 +338,7 @@ module _ (old new : ParsedModule) (path : PathToBody) (range : BodyRange) (known
           (absent_below j range.first before_names (omega (arith, less)) known.old_parts.before_below) (absent_below j range.old_closing (names_without_roles known.own) (omega arith) known.old_parts.own_below)
           (absent_back (far range) j ordinal_after_names (subst (λ t. list_any (λ i. i == t) (map (far range) ordinal_after_names) ≡ false) (sym there) last)))
 
-      one : (b c : Bool) → ltb token range.first ≡ b → ltb token range.closing ≡ c → ordinal_in (carried_ordinals range table) token ≡ None
+      one : (b c : Bool) → ltb token range.first ≡ b → ltb token range.closing ≡ c → ordinal_in (ordinals_in_changed_text range table) token ≡ None
       one true c f g = first_case (ltb-true token range.first f)
       one false true f g = table_within range table first_less token (ltb-false token range.first f) (ltb-true token range.closing g)
       one false false f g = last_case (ltb-false token range.closing g)
@@ -346,8 +346,8 @@ module _ (old new : ParsedModule) (path : PathToBody) (range : BodyRange) (known
 -- ---- the complete result
 
 pub new_body_bound : (m : ParsedModule) (b : Bindings) (range : BodyRange) (own : List ℕ) (ordinals : List (Option ℕ)) (declaration_tokens uses : List ℕ) (once faults : List Fault) → IsRangeOfNewBody m b range own
-    → length m.source.tokens ≤ length (carried_ordinals range b.ordinals.items) → declaration_tokens ≡ carried_tokens range b.declaration_tokens.items []
-    → ordinals ≡ (renumber_module declaration_tokens range.first (tree_of m) (initial_walk_state_with_table (original_spellings m.source) (carried_ordinals range b.ordinals.items))).marks → uses ≡ carried_tokens range b.occurrences.items own
+    → length m.source.tokens ≤ length (ordinals_in_changed_text range b.ordinals.items) → declaration_tokens ≡ tokens_in_changed_text range b.declaration_tokens.items []
+    → ordinals ≡ (renumber_module declaration_tokens range.first (tree_of m) (initial_walk_state_with_table (original_spellings m.source) (ordinals_in_changed_text range b.ordinals.items))).marks → uses ≡ tokens_in_changed_text range b.occurrences.items own
     → once ≡ declaration_faults m → faults ≡ once ++ undeclared_faults_by_table m.source ordinals uses
     → IsResolution (record { module_read = m; ordinals = ordinals; declaration_tokens = declaration_tokens; uses = uses; faults = faults })
 new_body_bound m b range own ordinals declaration_tokens uses once faults n long declared numbered used twice all =
@@ -364,7 +364,7 @@ new_body_bound m b range own ordinals declaration_tokens uses once faults n long
     let lies = module_exact s.prefix s.new_suffix range.first range.closing (omega (arith, first, front)) (tree_of m) (length m.source.tokens) r.new_in_body (leaves_ascend m r.new_parsed) n.first n.closing in
     let known = known_in old m path s range r first (n.closing ∙ ap (λ y. closing_name_at_path y (tree_of m)) there) n.old_closing in
     let table = b.ordinals.items in
-    let kept_table = carried_ordinals range table in
+    let kept_table = ordinals_in_changed_text range table in
     let marks = (visit_module (tree_of m) (initial_walk_state w)).marks in
     let full = with_marks (replicate (length m.source.tokens) None) marks in
     let has : HasMarks (ordinal_in full) marks = marks_in_table m w (visit_module (tree_of m) (initial_walk_state w)) full r.new_parsed refl refl in
@@ -387,13 +387,13 @@ new_body_bound m b range own ordinals declaration_tokens uses once faults n long
     let nothing : declaring_names known.others ≡ [] = ap declaring_names known.others_are ∙ (declares_nothing tt (body_at_path path (tree_of m))).plain in
     let declaring : declaration_tokens ≡ declaring_names (identifiers role.Declaring (tree_of m)) =
     declared
-    ∙ ((λ i. carried_tokens range ((res.declaring ∙ ap declaring_names known.olds) i) (sym nothing i))
+    ∙ ((λ i. tokens_in_changed_text range ((res.declaring ∙ ap declaring_names known.olds) i) (sym nothing i))
     ∙ (carried_picked range declaring_names known.before known.own known.after known.others known.high picks_declaring known.old_parts known.few ∙ ap declaring_names (sym known.news))) in
     let own_is : own ≡ looked_up_only known.others = n.uses ∙ (ap (λ y. occurrences (body_at_path y (tree_of m))) there ∙ (sym (looked_up-occurrences role.Declaring (λ n xs. refl) (body_at_path path (tree_of m))) ∙ ap looked_up_only (sym known.others_are))) in
     let old_uses : b.occurrences.items ≡ looked_up_only (known.before ++ (known.own ++ known.after)) = res.occurring ∙ (sym (looked_up-occurrences role.Declaring (λ n xs. refl) (tree_of old)) ∙ ap looked_up_only known.olds) in
     let occurring : uses ≡ occurrences (tree_of m) =
     used
-    ∙ ((λ i. carried_tokens range (old_uses i) (own_is i))
+    ∙ ((λ i. tokens_in_changed_text range (old_uses i) (own_is i))
     ∙ (carried_picked range looked_up_only known.before known.own known.after known.others known.high picks_looked_up known.old_parts known.few
     ∙ (ap looked_up_only (sym known.news) ∙ looked_up-occurrences role.Declaring (λ n xs. refl) (tree_of m)))) in
     let renumbered = body_renumbered m range.first range.closing kept_table declaration_tokens r.new_parsed r.new_scan lies outside declaring long in

@@ -10,11 +10,11 @@ use Rattle.std.proofs.lemmas.Slice.Eq.{bytes_eq-Decides}
 use Rattle.ob0_tree.specs.Tree.{Sort, Tree, mapped_tree, occurrences, block, constant, constants, formals, further_name, further_section, item, items, maybe, module_text, names, procedure, section, type_definition, type_definitions, variable, variables, adds, array_type, assigns, begins, branches, calls, compares, declares, declares_constant, declares_constants, declares_procedure, declares_type, declares_types, declares_variable, declares_variables, designator, else_branch, elsif_branch, empty, end, field, forms_block, index, integer, is_module, listed, more, multiplies, named_type, negation, no_arguments, no_fields, no_formals, none, one, parenthesised, product, record_type, relates, repeat_loop, runs, some_arguments, some_fields, some_formals, sum, then_argument, then_fields, then_name, then_section, then_statement, value_section, variable_section, while_loop}
 use Rattle.ob0_language_names.specs.Mapping.{map_names}
 use Rattle.ob0_language_names.specs.Names.{Label, Name, naming_by_spelling, as_written, declared, same_name}
-use Rattle.ob0_language_names.specs.Occurrences.{Free, bindings, scopes_in_block, scopes_in_procedure, scopes_in_procedures, declares_ordinal, another_declaration_has_name}
-use Rattle.ob0_language_names.specs.Parts.{constant_names, formal_names, formal_sections, further_names, declared_type_names, names_in_list, procedure_name, section_constants, section_names, section_types, section_variables, variable_names}
-use Rattle.ob0_language_names.specs.Scopes.{Labelling, Scope, ordinal_after_names, ordinal_after_procedure, label_from_ordinal, body_scope, declare_names, declare_procedure_names, first_procedure_ordinal, first_type_ordinal, first_variable_ordinal, label_names, label_of, ordinal_of, predeclared_scope, procedures_scope, relabel_block, relabel_constant_section, relabel_constants, relabel_formals, relabel_names, relabel_procedure, relabel_procedures, relabel_section, relabel_sections, relabel_type_section, relabel_types, relabel_uses, relabel_variable_section, relabel_variables, renamed, same_ordinal, types_scope, variables_scope}
+use Rattle.ob0_language_names.specs.Occurrences.{IsFreeName, bindings, scopes_in_block, scopes_in_procedure, scopes_in_procedures, declares_ordinal, another_declaration_has_name}
+use Rattle.ob0_language_names.specs.Parts.{constant_names, formal_names, formal_sections, further_names, declared_type_names, names_in_list, procedure_name, section_constants, parameter_section_names, section_types, section_variables, variable_names}
+use Rattle.ob0_language_names.specs.Scopes.{Labelling, Scope, ordinal_after_names, ordinal_after_procedure, label_from_ordinal, body_scope, declare_names, declare_procedure_names, first_procedure_ordinal, first_type_ordinal, first_variable_ordinal, labels_of_declared_names, label_of, ordinal_of, predeclared_scope, scope_before_procedures, relabel_block, relabel_constant_section, relabel_constants, relabel_formals, relabel_names, relabel_procedure, relabel_procedures, relabel_section, relabel_sections, relabel_type_section, relabel_types, relabel_uses, relabel_variable_section, relabel_variables, renamed, same_ordinal, scope_before_types, scope_before_variables}
 use Rattle.ob0_language_names.proofs.DistinctNames.{new_name}
-use Rattle.ob0_language_names.proofs.Relabelled.{constants-section, formals-section, names-relabel, section_names-relabel, types-section, variables-section}
+use Rattle.ob0_language_names.proofs.Relabelled.{constants-section, formals-section, names-relabel, parameter_section_names-relabel, types-section, variables-section}
 use Rattle.ob0_language_names.proofs.RenamedDeclarations.{constants-labels, sections-labels, types-labels, variables-labels}
 use Rattle.ob0_language_names.proofs.Renaming.{after_listed, ordinal_after_procedure-relabel, after_section, after_sections, first_procedure_ordinal-relabel, first_type_ordinal-relabel, first_variable_ordinal-relabel, names-twice}
 
@@ -140,13 +140,13 @@ module _ (d : ℕ) (new : Name) (f : ℕ → Name) (g : ℕ → ℕ) (fresh : (i
       ap (λ b. ordinal_of naming_by_spelling ((ren (Some k) x, j) ∷ there) (if b then new else y)) (ordinal-step (same_name y x) k o)
       ∙ step there x y o j k (same_name y x) (k == d) (same_ordinal o d) refl refl refl fx fy jk (agrees y fy)
 
-  agrees_names : (xs : List Name) → AllNew xs → (there here : Scope Name) (j k : ℕ) → j ≡ k → Agrees there here → Agrees (declare_names j (label_names ren k xs) there) (declare_names k xs here)
+  agrees_names : (xs : List Name) → AllNew xs → (there here : Scope Name) (j k : ℕ) → j ≡ k → Agrees there here → Agrees (declare_names j (labels_of_declared_names ren k xs) there) (declare_names k xs here)
   agrees_names [] all there here j k jk agrees = agrees
   agrees_names (x ∷ xs) all there here j k jk agrees =
       agrees_names xs all.1 ((ren (Some k) x, j) ∷ there) ((x, k) ∷ here) (suc j) (suc k) (ap suc jk) (agrees_one there here x j k all.0 jk agrees)
 
   -- Declaring the relabelled names of a list keeps the scopes in agreement.
-  agrees_listed : (j k : ℕ) → j ≡ k → (xs ys : List Name) → ys ≡ label_names ren k xs → AllNew xs → (there here : Scope Name) → Agrees there here → Agrees (declare_names j ys there) (declare_names k xs here)
+  agrees_listed : (j k : ℕ) → j ≡ k → (xs ys : List Name) → ys ≡ labels_of_declared_names ren k xs → AllNew xs → (there here : Scope Name) → Agrees there here → Agrees (declare_names j ys there) (declare_names k xs here)
   agrees_listed j k jk xs ys e all there here agrees =
       subst (λ zs. Agrees (declare_names j zs there) (declare_names k xs here)) (sym e) (agrees_names xs all there here j k jk agrees)
 
@@ -172,14 +172,14 @@ module _ (d : ℕ) (new : Name) (f : ℕ → Name) (g : ℕ → ℕ) (fresh : (i
   new_variables (more (declares_variable ns t) vs) =
       all_new-append (names_in_list (mapped_tree f g ns)) (variable_names (mapped_tree f g vs)) (new_listed ns) (new_variables vs)
 
-  new_section : (s : Tree ℕ section) → AllNew (section_names (mapped_tree f g s))
+  new_section : (s : Tree ℕ section) → AllNew (parameter_section_names (mapped_tree f g s))
   new_section (value_section ns t) = new_listed ns
   new_section (variable_section ns t) = new_listed ns
 
   new_sections : (fs : Tree ℕ (items further_section)) → AllNew (formal_names (mapped_tree f g fs))
   new_sections end = tt
   new_sections (more (then_section s) fs) =
-      all_new-append (section_names (mapped_tree f g s)) (formal_names (mapped_tree f g fs)) (new_section s) (new_sections fs)
+      all_new-append (parameter_section_names (mapped_tree f g s)) (formal_names (mapped_tree f g fs)) (new_section s) (new_sections fs)
 
   new_constant_section : (cs : Tree ℕ (maybe constants)) → AllNew (constant_names (section_constants (mapped_tree f g cs)))
   new_constant_section none = tt
@@ -201,30 +201,30 @@ module _ (d : ℕ) (new : Name) (f : ℕ → Name) (g : ℕ → ℕ) (fresh : (i
   -- The scopes of a block agree if the scopes before it do.
 
   agrees_types : (there here : Scope Name) (j k : ℕ) → j ≡ k → Agrees there here → (b : Tree ℕ block)
-      → Agrees (types_scope j (relabel_block naming_by_spelling ren here k (mapped_tree f g b)) there) (types_scope k (mapped_tree f g b) here)
+      → Agrees (scope_before_types j (relabel_block naming_by_spelling ren here k (mapped_tree f g b)) there) (scope_before_types k (mapped_tree f g b) here)
   agrees_types there here j k jk agrees (forms_block (declares cs ts vs ps) statements) =
       agrees_listed j k jk _ _ (ap constant_names (constants-section naming_by_spelling ren here k (mapped_tree f g cs)) ∙ constants-labels naming_by_spelling ren here k (section_constants (mapped_tree f g cs)))
       (new_constant_section cs) there here agrees
 
   agrees_variables : (there here : Scope Name) (j k : ℕ) → j ≡ k → Agrees there here → (b : Tree ℕ block)
-      → Agrees (variables_scope j (relabel_block naming_by_spelling ren here k (mapped_tree f g b)) there) (variables_scope k (mapped_tree f g b) here)
+      → Agrees (scope_before_variables j (relabel_block naming_by_spelling ren here k (mapped_tree f g b)) there) (scope_before_variables k (mapped_tree f g b) here)
   agrees_variables there here j k jk agrees (forms_block (declares cs ts vs ps) statements) =
       let b : Tree Name block = mapped_tree f g (forms_block (declares cs ts vs ps) statements) in
       let b' : Tree Name block = relabel_block naming_by_spelling ren here k b in
       agrees_listed (first_type_ordinal j b') (first_type_ordinal k b) (first_type_ordinal-relabel naming_by_spelling ren here j k b jk) _ _
-      (ap declared_type_names (types-section naming_by_spelling ren (types_scope k b here) (first_type_ordinal k b) (mapped_tree f g ts)) ∙ types-labels naming_by_spelling ren (types_scope k b here) (first_type_ordinal k b) (section_types (mapped_tree f g ts)))
-      (new_type_section ts) (types_scope j b' there) (types_scope k b here)
+      (ap declared_type_names (types-section naming_by_spelling ren (scope_before_types k b here) (first_type_ordinal k b) (mapped_tree f g ts)) ∙ types-labels naming_by_spelling ren (scope_before_types k b here) (first_type_ordinal k b) (section_types (mapped_tree f g ts)))
+      (new_type_section ts) (scope_before_types j b' there) (scope_before_types k b here)
       (agrees_types there here j k jk agrees (forms_block (declares cs ts vs ps) statements))
 
   agrees_procedures : (there here : Scope Name) (j k : ℕ) → j ≡ k → Agrees there here → (b : Tree ℕ block)
-      → Agrees (procedures_scope j (relabel_block naming_by_spelling ren here k (mapped_tree f g b)) there) (procedures_scope k (mapped_tree f g b) here)
+      → Agrees (scope_before_procedures j (relabel_block naming_by_spelling ren here k (mapped_tree f g b)) there) (scope_before_procedures k (mapped_tree f g b) here)
   agrees_procedures there here j k jk agrees (forms_block (declares cs ts vs ps) statements) =
       let b : Tree Name block = mapped_tree f g (forms_block (declares cs ts vs ps) statements) in
       let b' : Tree Name block = relabel_block naming_by_spelling ren here k b in
       agrees_listed (first_variable_ordinal j b') (first_variable_ordinal k b) (first_variable_ordinal-relabel naming_by_spelling ren here j k b jk) _ _
-      (ap variable_names (variables-section naming_by_spelling ren (variables_scope k b here) (first_variable_ordinal k b) (mapped_tree f g vs))
-      ∙ variables-labels naming_by_spelling ren (variables_scope k b here) (first_variable_ordinal k b) (section_variables (mapped_tree f g vs)))
-      (new_variable_section vs) (variables_scope j b' there) (variables_scope k b here)
+      (ap variable_names (variables-section naming_by_spelling ren (scope_before_variables k b here) (first_variable_ordinal k b) (mapped_tree f g vs))
+      ∙ variables-labels naming_by_spelling ren (scope_before_variables k b here) (first_variable_ordinal k b) (section_variables (mapped_tree f g vs)))
+      (new_variable_section vs) (scope_before_variables j b' there) (scope_before_variables k b here)
       (agrees_variables there here j k jk agrees (forms_block (declares cs ts vs ps) statements))
 
   agrees_procedure_names : (visible there here : Scope Name) (j k : ℕ) → j ≡ k → Agrees there here → (ps : Tree ℕ (items procedure))
@@ -240,7 +240,7 @@ module _ (d : ℕ) (new : Name) (f : ℕ → Name) (g : ℕ → ℕ) (fresh : (i
   agrees_body there here j k jk agrees (forms_block (declares cs ts vs ps) statements) =
       let b : Tree Name block = mapped_tree f g (forms_block (declares cs ts vs ps) statements) in
       let b' : Tree Name block = relabel_block naming_by_spelling ren here k b in
-      agrees_procedure_names (procedures_scope k b here) (procedures_scope j b' there) (procedures_scope k b here) (first_procedure_ordinal j b') (first_procedure_ordinal k b) (first_procedure_ordinal-relabel naming_by_spelling ren here j k b jk)
+      agrees_procedure_names (scope_before_procedures k b here) (scope_before_procedures j b' there) (scope_before_procedures k b here) (first_procedure_ordinal j b') (first_procedure_ordinal k b) (first_procedure_ordinal-relabel naming_by_spelling ren here j k b jk)
       (agrees_procedures there here j k jk agrees (forms_block (declares cs ts vs ps) statements)) ps
 
   -- Each relabelled part has the same numbers.
@@ -289,9 +289,9 @@ module _ (d : ℕ) (new : Name) (f : ℕ → Name) (g : ℕ → ℕ) (fresh : (i
   sections_same there here j k jk agrees (more (then_section s) fs) =
       let s' : Tree Name section = mapped_tree f g s in λ i.
       more (then_section (section_same there here j k jk agrees s i))
-      (sections_same (declare_names j (section_names (relabel_section naming_by_spelling ren here k s')) there) (declare_names k (section_names s') here)
-      (ordinal_after_names j (section_names (relabel_section naming_by_spelling ren here k s'))) (ordinal_after_names k (section_names s')) (after_section naming_by_spelling ren here j k jk s')
-      (agrees_listed j k jk _ _ (section_names-relabel naming_by_spelling ren here k s') (new_section s) there here agrees) fs i)
+      (sections_same (declare_names j (parameter_section_names (relabel_section naming_by_spelling ren here k s')) there) (declare_names k (parameter_section_names s') here)
+      (ordinal_after_names j (parameter_section_names (relabel_section naming_by_spelling ren here k s'))) (ordinal_after_names k (parameter_section_names s')) (after_section naming_by_spelling ren here j k jk s')
+      (agrees_listed j k jk _ _ (parameter_section_names-relabel naming_by_spelling ren here k s') (new_section s) there here agrees) fs i)
 
   formals_same : (there here : Scope Name) (j k : ℕ) → j ≡ k → Agrees there here → (fs : Tree ℕ (maybe formals))
       → relabel_formals naming_by_spelling label there j (relabel_formals naming_by_spelling ren here k (mapped_tree f g fs)) ≡ relabel_formals naming_by_spelling label here k (mapped_tree f g fs)
@@ -300,9 +300,9 @@ module _ (d : ℕ) (new : Name) (f : ℕ → Name) (g : ℕ → ℕ) (fresh : (i
   formals_same there here j k jk agrees (one (some_formals s fs)) =
       let s' : Tree Name section = mapped_tree f g s in λ i.
       one (some_formals (section_same there here j k jk agrees s i)
-      (sections_same (declare_names j (section_names (relabel_section naming_by_spelling ren here k s')) there) (declare_names k (section_names s') here)
-      (ordinal_after_names j (section_names (relabel_section naming_by_spelling ren here k s'))) (ordinal_after_names k (section_names s')) (after_section naming_by_spelling ren here j k jk s')
-      (agrees_listed j k jk _ _ (section_names-relabel naming_by_spelling ren here k s') (new_section s) there here agrees) fs i))
+      (sections_same (declare_names j (parameter_section_names (relabel_section naming_by_spelling ren here k s')) there) (declare_names k (parameter_section_names s') here)
+      (ordinal_after_names j (parameter_section_names (relabel_section naming_by_spelling ren here k s'))) (ordinal_after_names k (parameter_section_names s')) (after_section naming_by_spelling ren here j k jk s')
+      (agrees_listed j k jk _ _ (parameter_section_names-relabel naming_by_spelling ren here k s') (new_section s) there here agrees) fs i))
 
   constant_section_same : (there here : Scope Name) (j k : ℕ) → j ≡ k → Agrees there here → (cs : Tree ℕ (maybe constants))
       → relabel_constant_section naming_by_spelling label there j (relabel_constant_section naming_by_spelling ren here k (mapped_tree f g cs)) ≡ relabel_constant_section naming_by_spelling label here k (mapped_tree f g cs)
@@ -332,9 +332,9 @@ module _ (d : ℕ) (new : Name) (f : ℕ → Name) (g : ℕ → ℕ) (fresh : (i
         let b' : Tree Name block = relabel_block naming_by_spelling ren here k b in λ i.
         forms_block
         (declares (constant_section_same there here j k jk agrees cs i)
-        (type_section_same (types_scope j b' there) (types_scope k b here) (first_type_ordinal j b') (first_type_ordinal k b) (first_type_ordinal-relabel naming_by_spelling ren here j k b jk) (agrees_types there here j k jk agrees b₀) ts i)
-        (variable_section_same (variables_scope j b' there) (variables_scope k b here) (first_variable_ordinal j b') (first_variable_ordinal k b) (first_variable_ordinal-relabel naming_by_spelling ren here j k b jk) (agrees_variables there here j k jk agrees b₀) vs i)
-        (procedures_same (procedures_scope j b' there) (procedures_scope k b here) (first_procedure_ordinal j b') (first_procedure_ordinal k b) (first_procedure_ordinal-relabel naming_by_spelling ren here j k b jk) (agrees_procedures there here j k jk agrees b₀) ps i))
+        (type_section_same (scope_before_types j b' there) (scope_before_types k b here) (first_type_ordinal j b') (first_type_ordinal k b) (first_type_ordinal-relabel naming_by_spelling ren here j k b jk) (agrees_types there here j k jk agrees b₀) ts i)
+        (variable_section_same (scope_before_variables j b' there) (scope_before_variables k b here) (first_variable_ordinal j b') (first_variable_ordinal k b) (first_variable_ordinal-relabel naming_by_spelling ren here j k b jk) (agrees_variables there here j k jk agrees b₀) vs i)
+        (procedures_same (scope_before_procedures j b' there) (scope_before_procedures k b here) (first_procedure_ordinal j b') (first_procedure_ordinal k b) (first_procedure_ordinal-relabel naming_by_spelling ren here j k b jk) (agrees_procedures there here j k jk agrees b₀) ps i))
         (uses_same (body_scope j b' there) (body_scope k b here) (agrees_body there here j k jk agrees b₀) statements i)
 
     procedures_same : (there here : Scope Name) (j k : ℕ) → j ≡ k → Agrees there here → (ps : Tree ℕ (items procedure))
@@ -354,7 +354,7 @@ module _ (d : ℕ) (new : Name) (f : ℕ → Name) (g : ℕ → ℕ) (fresh : (i
         let own : List Name = formal_names (formal_sections fs₁) in
         let fs' : Tree Name (maybe formals) = relabel_formals naming_by_spelling ren here (suc k) fs₁ in
         let own' : List Name = formal_names (formal_sections fs') in
-        let labelled : own' ≡ label_names ren (suc k) own = ap formal_names (formals-section naming_by_spelling ren here (suc k) fs₁) ∙ sections-labels naming_by_spelling ren here (suc k) (formal_sections fs₁) in
+        let labelled : own' ≡ labels_of_declared_names ren (suc k) own = ap formal_names (formals-section naming_by_spelling ren here (suc k) fs₁) ∙ sections-labels naming_by_spelling ren here (suc k) (formal_sections fs₁) in
         let after : ordinal_after_names (suc j) own' ≡ ordinal_after_names (suc k) own =
         ap (λ l. ordinal_after_names (suc j) (formal_names l)) (formals-section naming_by_spelling ren here (suc k) fs₁) ∙ after_sections naming_by_spelling ren here (suc j) (suc k) (formal_sections fs₁) (ap suc jk) in λ i.
         declares_procedure (declared (jk i)) (formals_same there here (suc j) (suc k) (ap suc jk) agrees fs i)
@@ -417,9 +417,9 @@ module _ (d : ℕ) (new : Name) (f : ℕ → Name) (g : ℕ → ℕ) (fresh : (i
     no_clash-block k own others (forms_block (declares cs ts vs ps) statements) =
         let b : Tree Name block = mapped_tree f g (forms_block (declares cs ts vs ps) statements) in
         let mine : NewScope (body_scope k b own) =
-        new_procedures (first_procedure_ordinal k b) ps (procedures_scope k b own)
-        (new_names (first_variable_ordinal k b) (variable_names (section_variables (mapped_tree f g vs))) (variables_scope k b own) (new_variable_section vs)
-        (new_names (first_type_ordinal k b) (declared_type_names (section_types (mapped_tree f g ts))) (types_scope k b own) (new_type_section ts)
+        new_procedures (first_procedure_ordinal k b) ps (scope_before_procedures k b own)
+        (new_names (first_variable_ordinal k b) (variable_names (section_variables (mapped_tree f g vs))) (scope_before_variables k b own) (new_variable_section vs)
+        (new_names (first_type_ordinal k b) (declared_type_names (section_types (mapped_tree f g ts))) (scope_before_types k b own) (new_type_section ts)
         (new_names k (constant_names (section_constants (mapped_tree f g cs))) own (new_constant_section cs) others))) in λ i.
         and-false (declares_ordinal (body_scope k b own) d) _ (none_named (body_scope k b own) mine) i || no_clash-procedures (first_procedure_ordinal k b) ps i
 
@@ -432,5 +432,5 @@ module _ (d : ℕ) (new : Name) (f : ℕ → Name) (g : ℕ → ℕ) (fresh : (i
         || no_clash-procedures (ordinal_after_procedure (suc k) p) ps i)
 
   -- A name that no token has is free.
-  pub new_is_free : 7 ≤ d → (m : Tree ℕ module_text) → Free (mapped_tree f g m) d new
+  pub new_is_free : 7 ≤ d → (m : Tree ℕ module_text) → IsFreeName (mapped_tree f g m) d new
   new_is_free h (is_module x b closing) = (no_clash-block 7 [] tt b, bindings_same h (is_module x b closing))

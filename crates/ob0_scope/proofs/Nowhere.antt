@@ -7,7 +7,7 @@ use Rattle.ob0_scan.specs.TextWithTokens.{TextWithTokens}
 use Rattle.ob0_tree.specs.ParsedModule.{ParsedModule, named_tree_of, tree_of}
 use Rattle.ob0_tree.specs.Places.{token_text_at, token_text_or_empty, token_value_at}
 use Rattle.ob0_language_names.specs.Names.{Name, same_name}
-use Rattle.ob0_language_names.specs.Occurrences.{Free, first_name_conflict}
+use Rattle.ob0_language_names.specs.Occurrences.{IsFreeName, first_name_conflict}
 use Rattle.ob0_scope.specs.declared.name_conflicts.FirstConflict as reported
 use Rattle.ob0_scope.specs.Renames.{OccursNowhere, namesake}
 use Rattle.ob0_scope.proofs.Captured.{free_where_none, no_namesake}
@@ -34,7 +34,7 @@ nowhere source x n named all before i = each (cases_lt i n)
     each (inr more) = ap (λ t. same_name (token_text_or_empty source.text t) x) (slice_get_past source.tokens i (omega (arith, all, more))) ∙ nameless x named
 
 -- A name that no token has is free.
-nowhere_is_free : (m : ParsedModule) (source : TextWithTokens) (d : ℕ) (new : Name) → 7 ≤ d → source ≡ m.source → OccursNowhere source new → Free (named_tree_of m) d new
+nowhere_is_free : (m : ParsedModule) (source : TextWithTokens) (d : ℕ) (new : Name) → 7 ≤ d → source ≡ m.source → OccursNowhere source new → IsFreeName (named_tree_of m) d new
 nowhere_is_free m source d new h is all =
     new_is_free d new (token_text_at m.source) (token_value_at m.source) (subst (λ (s : TextWithTokens). OccursNowhere s new) is all) h (tree_of m)
 
@@ -45,5 +45,5 @@ pub nowhere_namesake : (m : ParsedModule) (source : TextWithTokens) (d : ℕ) (n
 nowhere_namesake m source d new h is all = no_namesake (named_tree_of m) d new (nowhere_is_free m source d new h is all).0
 
 pub free_nowhere : (m : ParsedModule) (source : TextWithTokens) (d : ℕ) (new : Name) → 7 ≤ d → source ≡ m.source → OccursNowhere source new
-    → (let nothing : Option reported.FirstConflict = None in nothing) ≡ None ↔ Free (named_tree_of m) d new
+    → (let nothing : Option reported.FirstConflict = None in nothing) ≡ None ↔ IsFreeName (named_tree_of m) d new
 free_nowhere m source d new h is all = free_where_none (named_tree_of m) d new None (nowhere_captured m source d new h is all)

@@ -10,7 +10,7 @@ use Rattle.ob0_scan.specs.declared.lexeme.TokenKind.TheVariants as kind
 use Rattle.ob0_tree.proofs.Leaves.{leaves_parsed, leaves_spelled, lexeme_names}
 use Rattle.ob0_tree.proofs.Mapped.{spell_mapped}
 use Rattle.ob0_tree.specs.Lexeme.{EndOfText, Terminal, WordOrSymbol, Name, Number, mapped_terminal}
-use Rattle.ob0_tree.specs.Order.{identifier_index, identifier_indexes_from, identifier_names, names_without_roles}
+use Rattle.ob0_tree.specs.Order.{index_if_identifier, identifier_indexes_from, identifier_names, names_without_roles}
 use Rattle.ob0_tree.specs.ParsedModule.{tree_of}
 use Rattle.ob0_tree.specs.Places.{token_text_at, token_value_at}
 use Rattle.ob0_tree.specs.Tree.{Sort, Tree, identifiers, mapped_tree, spell}
@@ -22,20 +22,20 @@ use Rattle.ob0_language_names.specs.Occurrences.{label_ordinal}
 use Rattle.ob0_scope_table.specs.Resolution.{IsResolution, Resolution, label_at, ordinal_in, span_at}
 use Rattle.ob0_scope_table.specs.Spans.{span_or_empty}
 use Rattle.ob0_language_names.specs.Scopes.{label_from_ordinal, same_ordinal}
-use Rattle.ob0_scope.specs.declared.naming.Named as named
+use Rattle.ob0_scope.specs.declared.naming.BoundName as named
 use Rattle.ob0_scope.specs.Listing.{is_identifier, is_identifier_at_offset}
 use Rattle.ob0_scope_table.specs.Spans.{is_on_span}
-use Rattle.ob0_scope.specs.NamesAtPlaces.{BoundIdentifier, is_declaring, name_at_offset, bound_name_of, is_bound_to, bound_identifiers, tokens_bound_to}
+use Rattle.ob0_scope.specs.NamesAtPlaces.{LabelledIdentifier, is_declaring, name_at_offset, bound_name_of, is_bound_to, labelled_identifiers, tokens_bound_to}
 
 -- returns an identifier with the label of its token
-abbrev bound_by : (ℕ → Label) → Role × ℕ → BoundIdentifier
+abbrev bound_by : (ℕ → Label) → Role × ℕ → LabelledIdentifier
 bound_by label x = (x, label x.1)
 
 zipped : (label : ℕ → Label) (xs : List (Role × ℕ)) → zip xs (map label (names_without_roles xs)) ≡ map (bound_by label) xs
 zipped label [] = refl
 zipped label (x ∷ xs) = λ i. bound_by label x ∷ zipped label xs i
 
-pub bound_by_table : (r : Resolution) → IsResolution r → bound_identifiers r.module_read ≡ map (bound_by (label_at r.module_read.source r.ordinals)) (identifiers role.Declaring (tree_of r.module_read))
+pub bound_by_table : (r : Resolution) → IsResolution r → labelled_identifiers r.module_read ≡ map (bound_by (label_at r.module_read.source r.ordinals)) (identifiers role.Declaring (tree_of r.module_read))
 bound_by_table r is =
     let m = r.module_read in
     let ids = identifiers role.Declaring (tree_of m) in
@@ -61,15 +61,15 @@ tokens_listed ordinals include d xs = map (λ x. x.1) (filter (is_listed ordinal
 
 -- Filtering the identifiers and filtering the labelled identifiers give the same tokens.
 listed : (source : TextWithTokens) (ordinals : List (Option ℕ)) (include : Bool) (d : ℕ) (xs : List (Role × ℕ))
-    → tokens_listed ordinals include d xs ≡ map (λ (s : BoundIdentifier). s.0.1) (filter (is_bound_to include d) (map (bound_by (label_at source ordinals)) xs))
+    → tokens_listed ordinals include d xs ≡ map (λ (s : LabelledIdentifier). s.0.1) (filter (is_bound_to include d) (map (bound_by (label_at source ordinals)) xs))
 listed source ordinals include d [] = refl
 listed source ordinals include d (x ∷ xs) =
     let found = filter (is_bound_to include d) (map (bound_by (label_at source ordinals)) xs) in
     one (is_listed ordinals include d x) (filter (is_listed ordinals include d) xs) found (listed source ordinals include d xs)
-    ∙ ap (λ b. map (λ (s : BoundIdentifier). s.0.1) (cond (b && (include || not (is_declaring x.0))) (bound_by (label_at source ordinals) x ∷ found) found)) (sym (bound_to source ordinals d x.1))
+    ∙ ap (λ b. map (λ (s : LabelledIdentifier). s.0.1) (cond (b && (include || not (is_declaring x.0))) (bound_by (label_at source ordinals) x ∷ found) found)) (sym (bound_to source ordinals d x.1))
   where
-    one : (b : Bool) (later : List (Role × ℕ)) (found : List BoundIdentifier) → map (λ (x : Role × ℕ). x.1) later ≡ map (λ (s : BoundIdentifier). s.0.1) found
-        → map (λ (x : Role × ℕ). x.1) (cond b (x ∷ later) later) ≡ map (λ (s : BoundIdentifier). s.0.1) (cond b (bound_by (label_at source ordinals) x ∷ found) found)
+    one : (b : Bool) (later : List (Role × ℕ)) (found : List LabelledIdentifier) → map (λ (x : Role × ℕ). x.1) later ≡ map (λ (s : LabelledIdentifier). s.0.1) found
+        → map (λ (x : Role × ℕ). x.1) (cond b (x ∷ later) later) ≡ map (λ (s : LabelledIdentifier). s.0.1) (cond b (bound_by (label_at source ordinals) x ∷ found) found)
     one true later found e = ap (λ z. x.1 ∷ z) e
     one false later found e = e
 
@@ -78,7 +78,7 @@ pub bound_listed : (r : Resolution) (d : ℕ) (include : Bool) → IsResolution 
 bound_listed r d include is =
     let m = r.module_read in
     listed m.source r.ordinals include d (identifiers role.Declaring (tree_of m))
-    ∙ ap (λ xs. map (λ (s : BoundIdentifier). s.0.1) (filter (is_bound_to include d) xs)) (sym (bound_by_table r is))
+    ∙ ap (λ xs. map (λ (s : LabelledIdentifier). s.0.1) (filter (is_bound_to include d) xs)) (sym (bound_by_table r is))
 
 -- places
 
@@ -101,7 +101,7 @@ all_spans front (t ∷ ts) =
           (subst (λ (all : List Token). SpansAre (λ i. span_or_empty (slice_get all i)) (length (front ++ (t ∷ []))) ts) (sym longer) (all_spans (front ++ (t ∷ [])) ts)),
     )
 
-identifier_first : (i : ℕ) (k : TokenKind) → identifier_index i k ≡ cond (is_identifier k) (i ∷ []) []
+identifier_first : (i : ℕ) (k : TokenKind) → index_if_identifier i k ≡ cond (is_identifier k) (i ∷ []) []
 identifier_first i kind.Identifier = refl
 identifier_first i (kind.ReservedWord word) = refl
 identifier_first i (kind.Integer value) = refl
@@ -119,23 +119,23 @@ found_from offset span i (t ∷ ts) h =
     one false later = refl
 
 -- returns the name at a token, from its ordinal
-abbrev pub named_so : List (Option ℕ) → ℕ → Option named.Named
-named_so ordinals i = option_map {U = named.Named} (λ ordinal. record { token = i; ordinal = ordinal }) (ordinal_in ordinals i)
+abbrev pub named_so : List (Option ℕ) → ℕ → Option named.BoundName
+named_so ordinals i = option_map {U = named.BoundName} (λ ordinal. record { token = i; ordinal = ordinal }) (ordinal_in ordinals i)
 
 label_back : (source : TextWithTokens) (ordinals : List (Option ℕ)) (x : Role × ℕ) → bound_name_of (bound_by (label_at source ordinals) x) ≡ named_so ordinals x.1
 label_back source ordinals x = one (ordinal_in ordinals x.1)
   where
-    one : (o : Option ℕ) → option_map {U = named.Named} (λ ordinal. record { token = x.1; ordinal = ordinal }) (label_ordinal (label_from_ordinal naming_by_spelling o (token_text_at source x.1))) ≡ option_map {U = named.Named} (λ ordinal. record { token = x.1; ordinal = ordinal }) o
+    one : (o : Option ℕ) → option_map {U = named.BoundName} (λ ordinal. record { token = x.1; ordinal = ordinal }) (label_ordinal (label_from_ordinal naming_by_spelling o (token_text_at source x.1))) ≡ option_map {U = named.BoundName} (λ ordinal. record { token = x.1; ordinal = ordinal }) o
     one None = refl
     one (Some k) = refl
 
 found_named : (source : TextWithTokens) (ordinals : List (Option ℕ)) (offset : ℕ) (xs : List (Role × ℕ))
-    → option_and_then bound_name_of (find (λ (s : BoundIdentifier). is_on_span offset (span_at source s.0.1)) (map (bound_by (label_at source ordinals)) xs))
+    → option_and_then bound_name_of (find (λ (s : LabelledIdentifier). is_on_span offset (span_at source s.0.1)) (map (bound_by (label_at source ordinals)) xs))
     ≡ option_and_then (named_so ordinals) (find (λ i. is_on_span offset (span_at source i)) (names_without_roles xs))
 found_named source ordinals offset [] = refl
 found_named source ordinals offset (x ∷ xs) = one (is_on_span offset (span_at source x.1)) _ _ (found_named source ordinals offset xs)
   where
-    one : (b : Bool) (found : Option BoundIdentifier) (later : Option ℕ) → option_and_then bound_name_of found ≡ option_and_then (named_so ordinals) later
+    one : (b : Bool) (found : Option LabelledIdentifier) (later : Option ℕ) → option_and_then bound_name_of found ≡ option_and_then (named_so ordinals) later
         → option_and_then bound_name_of (cond b (Some (bound_by (label_at source ordinals) x)) found) ≡ option_and_then (named_so ordinals) (cond b (Some x.1) later)
     one true found later e = label_back source ordinals x
     one false found later e = e
@@ -145,6 +145,6 @@ pub name_found : (r : Resolution) (offset : ℕ) → IsResolution r → option_a
 name_found r offset is =
     let m = r.module_read in
     let spans = all_spans [] m.source.tokens in
-    sym (ap (λ xs. option_and_then bound_name_of (find (λ (s : BoundIdentifier). is_on_span offset (span_at m.source s.0.1)) xs)) (bound_by_table r is)
+    sym (ap (λ xs. option_and_then bound_name_of (find (λ (s : LabelledIdentifier). is_on_span offset (span_at m.source s.0.1)) xs)) (bound_by_table r is)
     ∙ (found_named m.source r.ordinals offset (identifiers role.Declaring (tree_of m))
     ∙ ap (option_and_then (named_so r.ordinals)) (ap (find (λ i. is_on_span offset (span_at m.source i))) (leaves_parsed m is.parsed) ∙ found_from offset (span_at m.source) 0 m.source.tokens spans)))

@@ -20,17 +20,17 @@ use Rattle.ob0_tree.specs.Tree.{Tree, identifiers, mapped_tree, module_text, occ
 use Rattle.ob0_tree.proofs.Leaves.{leaves_are_identifiers}
 use Rattle.std.proofs.lemmas.Simd.{map-map}
 use Rattle.ob0_scope_table.specs.Bindings.{resolution_with}
-use Rattle.ob0_scope_table.specs.FaultTokens.{AreWrittenAlike, moved_faults}
+use Rattle.ob0_scope_table.specs.FaultTokens.{HaveSameKindsAndSpellings, moved_faults}
 use Rattle.ob0_scope_table.proofs.FaultTokens.{names_same}
 use Rattle.ob0_scope_table.proofs.TokenOrder.{faults_move}
 use Rattle.ob0_language_names.specs.ConsistentNames.{has_consistent_names}
 use Rattle.ob0_scope_table.specs.DuplicatesAndEndNames.{declaration_faults}
 use Rattle.ob0_language_names.specs.Names.{Name, naming_by_spelling}
-use Rattle.ob0_scope_table.specs.Resolution.{AreNameFaultsOf, IsBindingTable, IsNumberingTable, IsResolution, OnlyNamesHaveOrdinals, is_duplicate_or_end_name, is_undeclared_fault, ordinal_in, undeclared_faults, undeclared_faults_by_table, ordinal_and_spelling}
+use Rattle.ob0_scope_table.specs.Resolution.{AreNameFaultsOf, IsBindingTable, IsNumberingTable, IsResolution, OnlyIdentifiersHaveOrdinals, is_duplicate_or_end_name, is_undeclared_fault, ordinal_in, undeclared_faults, undeclared_faults_by_table, ordinal_and_spelling}
 use Rattle.ob0_language_names.specs.Scopes.{Labelling, label_from_ordinal, relabel_module}
 use Rattle.ob0_scope_table.specs.declared.resolved.Bindings.{Bindings}
 use Rattle.ob0_scope_numbering.specs.MarkWalk.{initial_walk_state}
-use Rattle.ob0_scope.specs.Respelled.{AreBindingsWithMovedFaults, HaveSameKindsAndNames, BindingsMoveWithTokens, BindingsDependOnNames}
+use Rattle.ob0_scope.specs.Respelled.{AreBindingsWithMovedFaults, HaveSameKindsAndNames, BindingsMoveWithTokens, BindingsDependOnlyOnNames}
 use Rattle.ob0_scope_numbering.specs.Written.{original_spellings}
 use Rattle.ob0_scope.proofs.Alike.{AllAlike, alike}
 use Rattle.ob0_scope.proofs.Made.{faults_reported, undeclared_unbound}
@@ -124,8 +124,8 @@ module _ (old new : TextWithTokens) (tree : ModuleTree) (b : Bindings) (w : Have
     nothing_at_fault =
         subst (AreNameFaultsOf (parsed_module new tree)) ((λ i. nothing_twice i ++ nothing_unbound i) ∙ sym none) (faults_reported (parsed_module new tree) b.ordinals.items numbering)
 
-pub bindings_depend_on_names : BindingsDependOnNames
-bindings_depend_on_names old new tree b w parsed r none = record {
+pub bindings_depend_only_on_names : BindingsDependOnlyOnNames
+bindings_depend_only_on_names old new tree b w parsed r none = record {
   parsed = parsed;
   numbering = numbering old new tree b w r;
   binding = labelled old new tree b w r ordinal_and_spelling;
@@ -137,14 +137,14 @@ bindings_depend_on_names old new tree b w parsed r none = record {
 
 -- ---- all tokens have the same spellings
 
-pub named_alike : (old new : TextWithTokens) → AreWrittenAlike old new → HaveSameKindsAndNames old new
+pub named_alike : (old new : TextWithTokens) → HaveSameKindsAndSpellings old new → HaveSameKindsAndNames old new
 named_alike old new w = record {
   same_kinds = sym (map-map (λ (x : Word). kind_without_value x.kind) (word_of_token new.text) new.tokens) ∙ (ap (map (λ (x : Word). kind_without_value x.kind)) w.same_words ∙ map-map (λ (x : Word). kind_without_value x.kind) (word_of_token old.text) old.tokens);
   same_names = sym (map-map (λ (x : Word). name_or_empty x.kind x.text) (word_of_token new.text) new.tokens)
       ∙ (ap (map (λ (x : Word). name_or_empty x.kind x.text)) w.same_words ∙ map-map (λ (x : Word). name_or_empty x.kind x.text) (word_of_token old.text) old.tokens);
 }
 
-module _ (old new : TextWithTokens) (tree : ModuleTree) (b c : Bindings) (w : AreWrittenAlike old new) (r : IsResolution (resolution_with (parsed_module old tree) b)) (m : AreBindingsWithMovedFaults old new b c) where
+module _ (old new : TextWithTokens) (tree : ModuleTree) (b c : Bindings) (w : HaveSameKindsAndSpellings old new) (r : IsResolution (resolution_with (parsed_module old tree) b)) (m : AreBindingsWithMovedFaults old new b c) where
   abbrev before : ParsedModule
   before = parsed_module old tree
 
@@ -169,7 +169,7 @@ bindings_move_with_tokens old new tree b c w parsed r m = record {
   parsed = parsed;
   numbering = subst (IsNumberingTable (parsed_module new tree)) (sym m.ordinals) (numbered_alike old new tree b c w r m);
   binding = subst (IsBindingTable (parsed_module new tree)) (sym m.ordinals) (labelled old new tree b (named_alike old new w) r ordinal_and_spelling);
-  ordinals_only_at_names = subst (OnlyNamesHaveOrdinals (parsed_module new tree)) (sym m.ordinals) r.ordinals_only_at_names;
+  ordinals_only_at_names = subst (OnlyIdentifiersHaveOrdinals (parsed_module new tree)) (sym m.ordinals) r.ordinals_only_at_names;
   declaring = m.declaration_tokens ∙ r.declaring;
   occurring = m.occurrences ∙ r.occurring;
   reported = faults_moved old new tree b c w r m;

@@ -9,10 +9,10 @@ use Rattle.ob0_tree.specs.Tree.{Tree, block, constant, constants, declares, decl
 use Rattle.ob0_language_names.specs.ConsistentNames.{block_names, procedure_names}
 use Rattle.ob0_language_names.specs.Names.{Name, naming_by_spelling, same_name}
 use Rattle.ob0_language_names.specs.Occurrences.{scopes_in_block, scopes_in_procedure, scopes_in_procedures, declares_ordinal}
-use Rattle.ob0_language_names.specs.Parts.{constant_names, formal_names, formal_sections, further_names, module_block, declared_type_names, names_in_list, procedure_name, section_constants, section_names, section_types, section_variables, variable_names}
-use Rattle.ob0_scope.specs.Renames.{namesake, namesake_in_scopes, other_with_name}
+use Rattle.ob0_language_names.specs.Parts.{constant_names, formal_names, formal_sections, further_names, module_block, declared_type_names, names_in_list, procedure_name, section_constants, parameter_section_names, section_types, section_variables, variable_names}
+use Rattle.ob0_scope.specs.Renames.{namesake, namesake_in_scopes, other_declaration_with_name}
 use Rattle.ob0_scope_table.specs.Resolution.{IsResolution, Resolution, ordinal_and_spelling_at, ordinal_in, ordinal_and_spelling}
-use Rattle.ob0_language_names.specs.Scopes.{Scope, ordinal_after_names, ordinal_after_procedure, body_scope, declare_names, first_procedure_ordinal, predeclared_scope, procedures_scope, relabel_block, relabel_formals, relabel_procedure, relabel_procedures, relabel_module, same_ordinal}
+use Rattle.ob0_language_names.specs.Scopes.{Scope, ordinal_after_names, ordinal_after_procedure, body_scope, declare_names, first_procedure_ordinal, predeclared_scope, scope_before_procedures, relabel_block, relabel_formals, relabel_procedure, relabel_procedures, relabel_module, same_ordinal}
 use Rattle.ob0_scope.specs.BlockSearches.{BlockSearch, namesake_in_block, namesake_in_procedure, namesake_in_procedures, is_bound_to_declaration, last_namesake, namesake_among}
 use Rattle.ob0_scope.proofs.Finding.{or_assoc}
 use Rattle.ob0_language_names.proofs.DistinctNames.{labels_in, onto, onto-append}
@@ -57,14 +57,14 @@ procedures-with : {N M : Type 0} (f : N → M) (g : ℕ → ℕ) (ps : Tree N (i
 procedures-with f g end = refl
 procedures-with f g (more (declares_procedure x fs b closing) ps) = λ i. f x ∷ procedures-with f g ps i
 
-section-with : {N M : Type 0} (f : N → M) (g : ℕ → ℕ) (s : Tree N section) → section_names (mapped_tree f g s) ≡ map f (section_names s)
+section-with : {N M : Type 0} (f : N → M) (g : ℕ → ℕ) (s : Tree N section) → parameter_section_names (mapped_tree f g s) ≡ map f (parameter_section_names s)
 section-with f g (value_section ns t) = listed-with f g ns
 section-with f g (variable_section ns t) = listed-with f g ns
 
 sections-with : {N M : Type 0} (f : N → M) (g : ℕ → ℕ) (fs : Tree N (items further_section)) → formal_names (mapped_tree f g fs) ≡ map f (formal_names fs)
 sections-with f g end = refl
 sections-with f g (more (then_section s) fs) =
-    (λ i. section-with f g s i ++ sections-with f g fs i) ∙ sym (map-append f (section_names s) (formal_names fs))
+    (λ i. section-with f g s i ++ sections-with f g fs i) ∙ sym (map-append f (parameter_section_names s) (formal_names fs))
 
 pub formals-with : {N M : Type 0} (f : N → M) (g : ℕ → ℕ) (fs : Tree N (maybe formals)) → formal_names (formal_sections (mapped_tree f g fs)) ≡ map f (formal_names (formal_sections fs))
 formals-with f g none = refl
@@ -157,7 +157,7 @@ module _ (d : ℕ) (new : Name) where
   declares_any [] = refl
   declares_any (b ∷ own) = λ i. b.1 == d || declares_any own i
 
-  other_first : (own : Scope Name) → other_with_name own d new ≡ first_new (labels_in ordinal_and_spelling own)
+  other_first : (own : Scope Name) → other_declaration_with_name own d new ≡ first_new (labels_in ordinal_and_spelling own)
   other_first [] = refl
   other_first (b ∷ own) = λ i. if same_name b.0 new && not (b.1 == d) then Some b.1 else other_first own i
 
@@ -179,7 +179,7 @@ module _ (d : ℕ) (new : Name) where
   or_false true = refl
   or_false false = refl
 
-  scope_among : (own : Scope Name) (ps : List Bound) → labels_in ordinal_and_spelling own ≡ onto ps [] → (if declares_ordinal own d then other_with_name own d new else None) ≡ new_among ps
+  scope_among : (own : Scope Name) (ps : List Bound) → labels_in ordinal_and_spelling own ≡ onto ps [] → (if declares_ordinal own d then other_declaration_with_name own d new else None) ≡ new_among ps
   scope_among own ps e =
       let declared = declares_any own ∙ (ap (list_any is_d) e ∙ (any-onto ps [] ∙ or_false (list_any is_d ps))) in
       let named = other_first own ∙ (ap first_new e ∙ first-onto ps []) in
@@ -188,7 +188,7 @@ module _ (d : ℕ) (new : Name) where
   namesake-append : (xs ys : List (Scope Name)) → namesake_in_scopes (xs ++ ys) d new ≡ option_or (namesake_in_scopes xs d new) (namesake_in_scopes ys d new)
   namesake-append [] ys = refl
   namesake-append (own ∷ xs) ys =
-      let here : Option ℕ = if declares_ordinal own d then other_with_name own d new else None in
+      let here : Option ℕ = if declares_ordinal own d then other_declaration_with_name own d new else None in
       ap (option_or here) (namesake-append xs ys) ∙ sym (or_assoc here (namesake_in_scopes xs d new) (namesake_in_scopes ys d new))
 
   mutual
@@ -198,7 +198,7 @@ module _ (d : ℕ) (new : Name) where
         let b : Tree Name block = forms_block (declares cs ts vs procedures) statements in
         let declared = block_names (relabel_block naming_by_spelling ordinal_and_spelling visible k b) in
         let labels = labels_in-block naming_by_spelling ordinal_and_spelling visible k b own ∙ (ap (onto declared) e ∙ sym (onto-append ps declared [])) in
-        λ i. option_or (sym (scope_among (body_scope k b own) (ps ++ declared) labels) i) (procedures_scopes (procedures_scope k b visible) (first_procedure_ordinal k b) procedures i)
+        λ i. option_or (sym (scope_among (body_scope k b own) (ps ++ declared) labels) i) (procedures_scopes (scope_before_procedures k b visible) (first_procedure_ordinal k b) procedures i)
 
     procedures_scopes : (visible : Scope Name) (k : ℕ) (ps : Tree Name (items procedure)) → new_in_procedures (relabel_procedures naming_by_spelling ordinal_and_spelling visible k ps) ≡ namesake_in_scopes (scopes_in_procedures k ps) d new
     procedures_scopes visible k end = refl

@@ -12,16 +12,16 @@ use Rattle.ob0_tree.proofs.Leaves.{leaves_ascend, ascending_lower}
 use Rattle.ob0_tree.proofs.Occurring.{looked_up_only, looked_up-occurrences}
 use Rattle.ob0_tree.specs.declared.tree.Role.{Role}
 use Rattle.ob0_tree.specs.declared.tree.Role.TheVariants as role
-use Rattle.ob0_tree.specs.Order.{AreAscending, names_without_roles}
+use Rattle.ob0_tree.specs.Order.{AreAscendingWithin, names_without_roles}
 use Rattle.ob0_tree.specs.ParsedModule.{named_tree_of, tree_of}
 use Rattle.ob0_tree.specs.Places.{token_text_at, token_value_at}
 use Rattle.ob0_tree.specs.Tree.{Sort, Tree, mapped_tree, occurrences, identifiers, block, constant, constants, declares, declares_constant, declares_constants, declares_procedure, declares_type, declares_types, declares_variable, declares_variables, end, formals, further_name, further_section, forms_block, is_module, item, items, listed, maybe, module_text, more, names, no_formals, none, one, procedure, section, some_formals, then_name, then_section, type_definition, type_definitions, value_section, variable, variable_section, variables}
 use Rattle.ob0_language_names.specs.Names.{Label, Name, Naming, naming_by_spelling, same_name}
 use Rattle.ob0_language_names.specs.Occurrences.{label_ordinal}
-use Rattle.ob0_language_names.specs.Parts.{constant_names, formal_names, formal_sections, further_names, declared_type_names, names_in_list, procedure_name, section_constants, section_names, section_types, section_variables, variable_names}
+use Rattle.ob0_language_names.specs.Parts.{constant_names, formal_names, formal_sections, further_names, declared_type_names, names_in_list, procedure_name, section_constants, parameter_section_names, section_types, section_variables, variable_names}
 use Rattle.ob0_scope_table.specs.Resolution.{IsResolution, Resolution, ordinal_in}
 use Rattle.ob0_language_names.specs.Scopes.{Labelling, Scope, ordinal_after_block, ordinal_after_names, ordinal_after_procedure, ordinal_after_procedures, label_from_ordinal, declare_names, declare_procedure_names, label_of, ordinal_of, predeclared_scope, relabel_block, relabel_constant_section, relabel_constants, relabel_formals, relabel_procedure, relabel_procedures, relabel_section, relabel_sections, relabel_type_section, relabel_types, relabel_uses, relabel_variable_section, relabel_variables, relabel_module, same_ordinal}
-use Rattle.ob0_language_names.specs.OccurrenceLookup.{naming_for_lookup_of, resolve_at_occurrences, resolve_at_occurrence}
+use Rattle.ob0_language_names.specs.OccurrenceLookup.{naming_for_lookup_of, resolve_name_at_occurrences, resolve_at_occurrence}
 use Rattle.ob0_scope_numbering.specs.Marks.{zero_mark_at}
 use Rattle.ob0_scope_numbering.specs.Marks.{with_marks}
 use Rattle.ob0_scope_numbering.specs.MarkWalk.{WalkState, initial_walk_state, visit_module}
@@ -116,7 +116,7 @@ module _ (y : Name) (f h : ℕ → Name) (g : ℕ → ℕ) where
       let c = split y f h (identifiers role.Declaring ns) (identifiers role.Declaring t) b.0 in
       λ i. names_same ns c.0 i ++ variables_same gs b.1 i
 
-  section_same : (s : Tree ℕ section) → AllSought y f h (identifiers role.Declaring s) → section_names (mapped_tree f g s) ≡ section_names (mapped_tree h g s)
+  section_same : (s : Tree ℕ section) → AllSought y f h (identifiers role.Declaring s) → parameter_section_names (mapped_tree f g s) ≡ parameter_section_names (mapped_tree h g s)
   section_same (value_section ns t) a = names_same ns (split y f h (identifiers role.Declaring ns) (identifiers role.Declaring t) a).0
   section_same (variable_section ns t) a = names_same ns (split y f h (identifiers role.Declaring ns) (identifiers role.Declaring t) a).0
 
@@ -234,7 +234,7 @@ module _ (y : Name) (f h : ℕ → Name) (g : ℕ → ℕ) where
   sections_alike scope k (more (then_section s) fs) a =
       let b = split y f h (identifiers role.Declaring s) (identifiers role.Declaring fs) a in
       λ i. section_alike scope k s b.0 i
-      ++ (ap (λ xs. occurrences (relabel_sections naming_by_spelling forget (declare_names k xs scope) (ordinal_after_names k xs) (mapped_tree f g fs))) (section_same s b.0) ∙ sections_alike (declare_names k (section_names (mapped_tree h g s)) scope) (ordinal_after_names k (section_names (mapped_tree h g s))) fs b.1) i
+      ++ (ap (λ xs. occurrences (relabel_sections naming_by_spelling forget (declare_names k xs scope) (ordinal_after_names k xs) (mapped_tree f g fs))) (section_same s b.0) ∙ sections_alike (declare_names k (parameter_section_names (mapped_tree h g s)) scope) (ordinal_after_names k (parameter_section_names (mapped_tree h g s))) fs b.1) i
 
   formals_alike : (scope : Scope Name) (k : ℕ) (fs : Tree ℕ (maybe formals)) → AllSought y f h (identifiers role.Declaring fs)
       → occurrences (relabel_formals naming_by_spelling forget scope k (mapped_tree f g fs)) ≡ occurrences (relabel_formals (naming_for_lookup_of y) forget scope k (mapped_tree h g fs))
@@ -317,10 +317,10 @@ abbrev pub AllMarked : List (Option ℕ) → List (Role × ℕ) → Type 0
 AllMarked table [] = Unit {0}
 AllMarked table (x ∷ xs) = IsMarked table x.0 x.1 × AllMarked table xs
 
-skipped : (low i high : ℕ) (xs : List ℕ) → low ≤ i → AreAscending (i + 1) xs high → AreAscending low xs high
+skipped : (low i high : ℕ) (xs : List ℕ) → low ≤ i → AreAscendingWithin (i + 1) xs high → AreAscendingWithin low xs high
 skipped low i high xs le a = ascending_lower low (i + 1) xs high (omega (arith, le)) a
 
-fewer : (low high : ℕ) (xs : List (Role × ℕ)) → AreAscending low (names_without_roles xs) high → AreAscending low (tokens_of (map zero_mark_at (looked_up_only xs))) high
+fewer : (low high : ℕ) (xs : List (Role × ℕ)) → AreAscendingWithin low (names_without_roles xs) high → AreAscendingWithin low (tokens_of (map zero_mark_at (looked_up_only xs))) high
 fewer low high [] a = a
 fewer low high ((role.LookedUp, i) ∷ xs) a = (a.0, fewer (i + 1) high xs a.1)
 fewer low high ((role.Declaring, i) ∷ xs) a = skipped low i high _ a.0 (fewer (i + 1) high xs a.1)
@@ -328,20 +328,20 @@ fewer low high ((role.ClosingName, i) ∷ xs) a = skipped low i high _ a.0 (fewe
 fewer low high ((role.FieldName, i) ∷ xs) a = skipped low i high _ a.0 (fewer (i + 1) high xs a.1)
 fewer low high ((role.ModuleName, i) ∷ xs) a = skipped low i high _ a.0 (fewer (i + 1) high xs a.1)
 
-ends_above : (low : ℕ) (xs : List ℕ) (high : ℕ) → AreAscending low xs high → low ≤ high
+ends_above : (low : ℕ) (xs : List ℕ) (high : ℕ) → AreAscendingWithin low xs high → low ≤ high
 ends_above low [] high a = a
 ends_above low (x ∷ xs) high a = let later = ends_above (x + 1) xs high a.1 in omega (arith, a.0, later)
 
 emptier : (low i : ℕ) (table : List (Option ℕ)) → low ≤ i → ((j : ℕ) → low ≤ j → ordinal_in table j ≡ None) → (j : ℕ) → i + 1 ≤ j → ordinal_in table j ≡ None
 emptier low i table le empty j above = empty j (omega (arith, le, above))
 
-other_is_at : (low high i : ℕ) (xs : List (Role × ℕ)) (table : List (Option ℕ)) → low ≤ i → AreAscending (i + 1) (names_without_roles xs) high → ((j : ℕ) → low ≤ j → ordinal_in table j ≡ None)
+other_is_at : (low high i : ℕ) (xs : List (Role × ℕ)) (table : List (Option ℕ)) → low ≤ i → AreAscendingWithin (i + 1) (names_without_roles xs) high → ((j : ℕ) → low ≤ j → ordinal_in table j ≡ None)
     → ordinal_in (with_marks table (map zero_mark_at (looked_up_only xs))) i ≡ None
 other_is_at low high i xs table le a empty =
     let here : i < i + 1 = omega arith in
     kept_below (map zero_mark_at (looked_up_only xs)) table (i + 1) high i (fewer (i + 1) high xs a) here ∙ empty i le
 
-all_reported : (low high : ℕ) (xs : List (Role × ℕ)) (table : List (Option ℕ)) → AreAscending low (names_without_roles xs) high → high ≤ length table → ((i : ℕ) → low ≤ i → ordinal_in table i ≡ None)
+all_reported : (low high : ℕ) (xs : List (Role × ℕ)) (table : List (Option ℕ)) → AreAscendingWithin low (names_without_roles xs) high → high ≤ length table → ((i : ℕ) → low ≤ i → ordinal_in table i ≡ None)
     → AllMarked (with_marks table (map zero_mark_at (looked_up_only xs))) xs
 all_reported low high [] table a within empty = tt
 all_reported low high ((role.LookedUp, i) ∷ xs) table a within empty =
@@ -395,7 +395,7 @@ all_sought source table y ((role.ModuleName, i) ∷ xs) a = (ap (λ o. if same_o
 -- each.
 pub seen_in_places : (r : Resolution) (y : Name) (v : WalkState) (sought ordinals : List (Option ℕ)) → IsResolution r → sought ≡ with_marks (replicate (length r.module_read.source.tokens) None) (map zero_mark_at r.uses)
     → v ≡ visit_module (tree_of r.module_read) (initial_walk_state (record { source = r.module_read.source; ordinals = sought; declaration = Some 0; new = y }))
-    → ordinals ≡ with_marks (replicate (length r.module_read.source.tokens) None) v.marks → map (ordinal_in ordinals) r.uses ≡ resolve_at_occurrences (named_tree_of r.module_read) y
+    → ordinals ≡ with_marks (replicate (length r.module_read.source.tokens) None) v.marks → map (ordinal_in ordinals) r.uses ≡ resolve_name_at_occurrences (named_tree_of r.module_read) y
 seen_in_places r y v sought ordinals is table gone tabled =
     let m = r.module_read in
     let w : Spellings = record { source = m.source; ordinals = sought; declaration = Some 0; new = y } in
@@ -410,7 +410,7 @@ seen_in_places r y v sought ordinals is table gone tabled =
     ∙ forgotten (naming_for_lookup_of y) (named_tree_of m))))
 
 -- Each entry of the list is the binding of the name in that place.
-pub sees_entry : (m : Tree Name module_text) (y : Name) (k : ℕ) → option_and_then (λ o. o) (slice_get (resolve_at_occurrences m y) k) ≡ resolve_at_occurrence m k y
+pub sees_entry : (m : Tree Name module_text) (y : Name) (k : ℕ) → option_and_then (λ o. o) (slice_get (resolve_name_at_occurrences m y) k) ≡ resolve_at_occurrence m k y
 sees_entry m y k =
     let ls = occurrences (relabel_module (naming_for_lookup_of y) (label_from_ordinal (naming_for_lookup_of y)) m) in
     ap (option_and_then (λ o. o)) (slice_get-map label_ordinal ls k) ∙ back (slice_get ls k)

@@ -3,7 +3,7 @@
 use Rattle.std.proofs.Common.{◌≡◌, ℕ, zero, suc, Bool, true, false, not, ◌&&◌, ◌||◌, List, [], ◌∷◌, ◌++◌, length, refl, sym, ap, ◌∙◌}
 use Rattle.std.specs.List.{list_any}
 use Rattle.ob0_scan.specs.declared.fault.Fault.{Fault}
-use Rattle.ob0_scan.specs.declared.tokens.SameParts.{SameParts}
+use Rattle.ob0_scan.specs.declared.tokens.CommonPrefixAndSuffix.{CommonPrefixAndSuffix}
 use Rattle.ob0_scan.specs.TextWithTokens.{TextWithTokens}
 use Rattle.ob0_tree.specs.ParsedModule.{IsParsed, ParsedModule, named_tree_of, tree_of}
 use Rattle.ob0_tree.specs.Places.{tree_with_names, token_text_at, token_value_at}
@@ -11,7 +11,7 @@ use Rattle.ob0_tree.specs.Tree.{Tree, block, declares, declares_procedure, end, 
 use Rattle.ob0_language_names.specs.ConsistentNames.{are_distinct, block_has_consistent_names, has_consistent_names, formals_have_distinct_fields, procedure_names, procedure_has_consistent_names, procedures_have_consistent_names, types_have_distinct_fields, variables_have_distinct_fields}
 use Rattle.ob0_language_names.specs.Names.{Name, same_name}
 use Rattle.ob0_language_names.specs.Parts.{constant_names, formal_names, formal_sections, declared_type_names, procedure_name, section_constants, section_types, section_variables, variable_names}
-use Rattle.ob0_scope_table.specs.BodyReplaced.{IsBodyReplaced, PathToBody, block_without, procedure_without, procedures_without, path_to_body_in_module, module_without_body}
+use Rattle.ob0_scope_table.specs.BodyReplaced.{IsBodyReplaced, PathToBody, block_without_body, procedure_without_body, procedures_without_body, path_to_body_in_module, module_without_body}
 use Rattle.ob0_scope_table.specs.DuplicatesAndEndNames.{declaration_faults}
 use Rattle.ob0_scope_table.specs.OneBody.{IsBodyChange, is_outside_range}
 use Rattle.ob0_scope_table.specs.Resolution.{is_duplicate_or_end_name}
@@ -24,26 +24,26 @@ use Rattle.ob0_scope.proofs.WithoutRelabelled.{name_without}
 
 -- ---- a module without a body
 
-names_without : (k : ℕ) (path : PathToBody) (ps : Tree Name (items procedure)) → procedure_names (procedures_without k path ps) ≡ procedure_names ps
+names_without : (k : ℕ) (path : PathToBody) (ps : Tree Name (items procedure)) → procedure_names (procedures_without_body k path ps) ≡ procedure_names ps
 names_without zero path end = refl
 names_without (suc k) path end = refl
 names_without zero path (more p ps) = ap (λ x. x ∷ procedure_names ps) (name_without path p)
 names_without (suc k) path (more p ps) = ap (λ l. procedure_name p ∷ l) (names_without k path ps)
 
 mutual
-  block_without_once : (path : PathToBody) (own : List Name) (b : Tree Name block) → block_has_consistent_names own (block_without path b) ≡ block_has_consistent_names own b
+  block_without_once : (path : PathToBody) (own : List Name) (b : Tree Name block) → block_has_consistent_names own (block_without_body path b) ≡ block_has_consistent_names own b
   block_without_once [] own (forms_block (declares cs ts vs ps) statements) = refl
   block_without_once (k ∷ path) own (forms_block (declares cs ts vs ps) statements) =
       λ i. are_distinct (own ++ (constant_names (section_constants cs) ++ (declared_type_names (section_types ts) ++ (variable_names (section_variables vs) ++ names_without k path ps i))))
       && (types_have_distinct_fields (section_types ts) && (variables_have_distinct_fields (section_variables vs) && procedures_without_once k path ps i))
 
-  procedures_without_once : (k : ℕ) (path : PathToBody) (ps : Tree Name (items procedure)) → procedures_have_consistent_names (procedures_without k path ps) ≡ procedures_have_consistent_names ps
+  procedures_without_once : (k : ℕ) (path : PathToBody) (ps : Tree Name (items procedure)) → procedures_have_consistent_names (procedures_without_body k path ps) ≡ procedures_have_consistent_names ps
   procedures_without_once zero path end = refl
   procedures_without_once (suc k) path end = refl
   procedures_without_once zero path (more p ps) = ap (λ b. b && procedures_have_consistent_names ps) (procedure_without_once path p)
   procedures_without_once (suc k) path (more p ps) = ap (λ b. procedure_has_consistent_names p && b) (procedures_without_once k path ps)
 
-  procedure_without_once : (path : PathToBody) (p : Tree Name (item procedure)) → procedure_has_consistent_names (procedure_without path p) ≡ procedure_has_consistent_names p
+  procedure_without_once : (path : PathToBody) (p : Tree Name (item procedure)) → procedure_has_consistent_names (procedure_without_body path p) ≡ procedure_has_consistent_names p
   procedure_without_once path (declares_procedure x fs b closing) =
       ap (λ c. same_name x closing && (formals_have_distinct_fields (formal_sections fs) && c)) (block_without_once path (formal_names (formal_sections fs)) b)
 
@@ -58,7 +58,7 @@ once_outside path a b s t same =
 
 -- ---- both modules
 
-pub still_once : (old new : ParsedModule) (path : PathToBody) (s : SameParts) → IsBodyReplaced old new path s → has_consistent_names (named_tree_of new) ≡ has_consistent_names (named_tree_of old)
+pub still_once : (old new : ParsedModule) (path : PathToBody) (s : CommonPrefixAndSuffix) → IsBodyReplaced old new path s → has_consistent_names (named_tree_of new) ≡ has_consistent_names (named_tree_of old)
 still_once old new path s r = once_outside path new.source old.source (tree_of new) (tree_of old) (names_outside old new path s r)
 
 pub still_once_written : (old : TextWithTokens) (m : ParsedModule) (low high : ℕ) → IsParsed m → IsBodyChange old m low high → has_consistent_names (named_tree_of m) ≡ has_consistent_names (tree_with_names old (tree_of m))

@@ -6,7 +6,7 @@ use Rattle.std.specs.List.{position_from}
 use Rattle.std.specs.List.Sorted.{IsNonDecreasingBy, IsPartitionPoint}
 use Rattle.std.proofs.lemmas.Bool.{and_parts, leb-true, ltb-false, ltb-true}
 use Rattle.ob0_scan.specs.Lexed.{Lexeme}
-use Rattle.ob0_scan.specs.TextWithTokens.{IsScan, TextWithTokens, span_from, token_at, tokens_from}
+use Rattle.ob0_scan.specs.TextWithTokens.{IsScan, TextWithTokens, span_from, tokens_of_lexeme, tokens_from}
 use Rattle.ob0_scan.specs.declared.lexeme.LexemeKind.{LexemeKind}
 use Rattle.ob0_scan.specs.declared.lexeme.LexemeKind.TheVariants as lexeme
 use Rattle.ob0_scan.specs.declared.lexeme.Token.{Token}
@@ -20,7 +20,7 @@ apart_lower : (less from : ℕ) (ts : List Token) → less ≤ from → TokensAr
 apart_lower less from [] low h = tt
 apart_lower less from (t ∷ ts) low h = (omega (arith, low, h.0), h.1)
 
-apart_one : (k : LexemeKind) (from len : ℕ) (ts : List Token) → 0 < len → TokensAreDisjoint (from + len) ts → TokensAreDisjoint from (token_at k (span_from from len) ++ ts)
+apart_one : (k : LexemeKind) (from len : ℕ) (ts : List Token) → 0 < len → TokensAreDisjoint (from + len) ts → TokensAreDisjoint from (tokens_of_lexeme k (span_from from len) ++ ts)
 apart_one lexeme.Space from len ts some h = apart_lower from (from + len) ts (omega arith) h
 apart_one lexeme.Comment from len ts some h = apart_lower from (from + len) ts (omega arith) h
 apart_one (lexeme.Token k) from len ts some h = (omega arith, (omega (arith, some), h))

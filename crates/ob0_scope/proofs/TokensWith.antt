@@ -10,7 +10,7 @@ use Rattle.std.proofs.lemmas.List.{drop_more, get_or-drop, get_or_past}
 use Rattle.std.specs.List.{filter, list_any}
 use Rattle.ob0_tree.specs.declared.tree.Role.{Role}
 use Rattle.ob0_tree.specs.declared.tree.Role.TheVariants as role
-use Rattle.ob0_tree.specs.Order.{AreAscending, identifier_names, names_without_roles}
+use Rattle.ob0_tree.specs.Order.{AreAscendingWithin, identifier_names, names_without_roles}
 use Rattle.ob0_tree.specs.ParsedModule.{tree_of}
 use Rattle.ob0_tree.specs.Places.{token_text_at, token_value_at}
 use Rattle.ob0_tree.specs.Tree.{identifiers, mapped_tree}
@@ -66,7 +66,7 @@ abbrev Rising : ℕ → List ℕ → Type 0
 Rising low [] = Unit {0}
 Rising low (x ∷ xs) = (low ≤ x) × Rising (x + 1) xs
 
-rising : (low : ℕ) (xs : List ℕ) (high : ℕ) → AreAscending low xs high → Rising low xs
+rising : (low : ℕ) (xs : List ℕ) (high : ℕ) → AreAscendingWithin low xs high → Rising low xs
 rising low [] high h = tt
 rising low (x ∷ xs) high h = (h.0, rising (x + 1) xs high h.1)
 

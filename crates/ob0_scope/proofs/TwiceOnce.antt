@@ -12,7 +12,7 @@ use Rattle.ob0_tree.specs.Tree.{Sort, Tree, mapped_tree, array_type, block, body
 use Rattle.ob0_language_names.specs.ConsistentNames.{are_distinct, block_names, block_has_consistent_names, has_consistent_names, has_distinct_fields, formals_have_distinct_fields, group_field_names, group_has_distinct_fields, further_field_names, groups_have_distinct_fields, is_among, procedure_names, procedure_has_consistent_names, procedures_have_consistent_names, types_have_distinct_fields, variables_have_distinct_fields}
 use Rattle.ob0_scope_table.specs.DuplicatesAndEndNames.{duplicate_faults, block_declaration_faults, closing_name_faults, duplicate_fault, end_name_fault, duplicate_field_faults, duplicate_field_faults_in_formals, duplicate_field_faults_in_group, duplicate_field_faults_in_groups, tree_declaration_faults, procedure_declaration_faults, procedures_declaration_faults, declaration_faults, duplicate_field_faults_in_types, fault_unless, duplicate_field_faults_in_variables}
 use Rattle.ob0_language_names.specs.Names.{Name, same_name}
-use Rattle.ob0_language_names.specs.Parts.{constant_names, formal_names, formal_sections, further_names, declared_type_names, names_in_list, section_constants, section_names, section_type, section_types, section_variables, variable_names}
+use Rattle.ob0_language_names.specs.Parts.{constant_names, formal_names, formal_sections, further_names, declared_type_names, names_in_list, section_constants, parameter_section_names, parameter_section_type, section_types, section_variables, variable_names}
 use Rattle.ob0_scope_table.specs.Resolution.{is_duplicate_or_end_name}
 use Rattle.ob0_language_names.proofs.NameEquality.{same_name-comm}
 use Rattle.ob0_language_names.proofs.DistinctNames.{and-swap}
@@ -139,13 +139,13 @@ module _ (value : ℕ → ℕ) where
   variable_section_texts src none = refl
   variable_section_texts src (one (declares_variables vs)) = variables_texts src vs
 
-  section_texts : (src : TextWithTokens) (f : Tree ℕ section) → map (token_text_at src) (section_names f) ≡ section_names (named src f)
+  section_texts : (src : TextWithTokens) (f : Tree ℕ section) → map (token_text_at src) (parameter_section_names f) ≡ parameter_section_names (named src f)
   section_texts src (value_section ns t) = names_texts src ns
   section_texts src (variable_section ns t) = names_texts src ns
 
   sections_texts : (src : TextWithTokens) (fs : Tree ℕ (items further_section)) → map (token_text_at src) (formal_names fs) ≡ formal_names (named src fs)
   sections_texts src end = refl
-  sections_texts src (more (then_section f) rest) = map-append (token_text_at src) (section_names f) (formal_names rest) ∙ (λ i. section_texts src f i ++ sections_texts src rest i)
+  sections_texts src (more (then_section f) rest) = map-append (token_text_at src) (parameter_section_names f) (formal_names rest) ∙ (λ i. section_texts src f i ++ sections_texts src rest i)
 
   formals_texts : (src : TextWithTokens) (fs : Tree ℕ (maybe formals)) → map (token_text_at src) (formal_names (formal_sections fs)) ≡ formal_names (formal_sections (named src fs))
   formals_texts src none = refl
@@ -190,13 +190,13 @@ module _ (value : ℕ → ℕ) where
   variable_section-fine source none = refl
   variable_section-fine source (one (declares_variables vs)) = variables-fine source vs
 
-  section-fine : (source : TextWithTokens) (s : Tree ℕ section) → fine (duplicate_field_faults source (section_type s)) ≡ has_distinct_fields (section_type (named source s))
+  section-fine : (source : TextWithTokens) (s : Tree ℕ section) → fine (duplicate_field_faults source (parameter_section_type s)) ≡ has_distinct_fields (parameter_section_type (named source s))
   section-fine source (value_section ns t) = fields-fine source t
   section-fine source (variable_section ns t) = fields-fine source t
 
   sections-fine : (source : TextWithTokens) (fs : Tree ℕ (items further_section)) → fine (duplicate_field_faults_in_formals source fs) ≡ formals_have_distinct_fields (named source fs)
   sections-fine source end = refl
-  sections-fine source (more (then_section s) fs) = fine_both (duplicate_field_faults source (section_type s)) (duplicate_field_faults_in_formals source fs) (has_distinct_fields (section_type (named source s))) (formals_have_distinct_fields (named source fs)) (section-fine source s) (sections-fine source fs)
+  sections-fine source (more (then_section s) fs) = fine_both (duplicate_field_faults source (parameter_section_type s)) (duplicate_field_faults_in_formals source fs) (has_distinct_fields (parameter_section_type (named source s))) (formals_have_distinct_fields (named source fs)) (section-fine source s) (sections-fine source fs)
 
   formals-fine : (source : TextWithTokens) (fs : Tree ℕ (maybe formals)) → fine (duplicate_field_faults_in_formals source (formal_sections fs)) ≡ formals_have_distinct_fields (formal_sections (named source fs))
   formals-fine source none = refl
@@ -302,7 +302,7 @@ variables-alone source (more (declares_variable ns t) gs) = no_others (duplicate
 
 formals-alone : (source : TextWithTokens) (fs : Tree ℕ (items further_section)) → others (duplicate_field_faults_in_formals source fs) ≡ false
 formals-alone source end = refl
-formals-alone source (more (then_section s) fs) = no_others (duplicate_field_faults source (section_type s)) (duplicate_field_faults_in_formals source fs) (fields-alone source (section_type s)) (formals-alone source fs)
+formals-alone source (more (then_section s) fs) = no_others (duplicate_field_faults source (parameter_section_type s)) (duplicate_field_faults_in_formals source fs) (fields-alone source (parameter_section_type s)) (formals-alone source fs)
 
 mutual
   block-alone : (source : TextWithTokens) (own : List ℕ) (b : Tree ℕ block) → others (block_declaration_faults source own b) ≡ false

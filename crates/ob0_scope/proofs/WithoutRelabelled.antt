@@ -5,30 +5,30 @@ use Rattle.ob0_tree.specs.Tree.{Tree, block, declares, declares_procedure, end, 
 use Rattle.ob0_language_names.specs.Names.{Naming}
 use Rattle.ob0_language_names.specs.Parts.{constant_names, formal_names, formal_sections, declared_type_names, procedure_name, section_constants, section_types, section_variables, variable_names}
 use Rattle.ob0_language_names.specs.Scopes.{Labelling, Scope, ordinal_after_block, ordinal_after_names, ordinal_after_procedure, ordinal_after_procedures, declare_names, declare_procedure_names, predeclared_scope, relabel_block, relabel_constant_section, relabel_formals, relabel_procedure, relabel_procedures, relabel_type_section, relabel_uses, relabel_variable_section, relabel_module}
-use Rattle.ob0_scope_table.specs.BodyReplaced.{PathToBody, block_without, procedure_without, procedures_without, module_without_body}
+use Rattle.ob0_scope_table.specs.BodyReplaced.{PathToBody, block_without_body, procedure_without_body, procedures_without_body, module_without_body}
 
 -- ---- the same number of declarations
 
 mutual
-  after_block_without : {N : Type 0} (path : PathToBody) (n : ℕ) (b : Tree N block) → ordinal_after_block n (block_without path b) ≡ ordinal_after_block n b
+  after_block_without : {N : Type 0} (path : PathToBody) (n : ℕ) (b : Tree N block) → ordinal_after_block n (block_without_body path b) ≡ ordinal_after_block n b
   after_block_without [] n (forms_block (declares cs ts vs ps) statements) = refl
   after_block_without (k ∷ path) n (forms_block (declares cs ts vs ps) statements) =
       after_procedures_without k path (ordinal_after_names (ordinal_after_names (ordinal_after_names n (constant_names (section_constants cs))) (declared_type_names (section_types ts))) (variable_names (section_variables vs))) ps
 
-  after_procedures_without : {N : Type 0} (k : ℕ) (path : PathToBody) (n : ℕ) (ps : Tree N (items procedure)) → ordinal_after_procedures n (procedures_without k path ps) ≡ ordinal_after_procedures n ps
+  after_procedures_without : {N : Type 0} (k : ℕ) (path : PathToBody) (n : ℕ) (ps : Tree N (items procedure)) → ordinal_after_procedures n (procedures_without_body k path ps) ≡ ordinal_after_procedures n ps
   after_procedures_without zero path n end = refl
   after_procedures_without (suc k) path n end = refl
   after_procedures_without zero path n (more p ps) = ap (λ m. ordinal_after_procedures m ps) (after_procedure_without path (suc n) p)
   after_procedures_without (suc k) path n (more p ps) = after_procedures_without k path (ordinal_after_procedure (suc n) p) ps
 
-  after_procedure_without : {N : Type 0} (path : PathToBody) (n : ℕ) (p : Tree N (item procedure)) → ordinal_after_procedure n (procedure_without path p) ≡ ordinal_after_procedure n p
+  after_procedure_without : {N : Type 0} (path : PathToBody) (n : ℕ) (p : Tree N (item procedure)) → ordinal_after_procedure n (procedure_without_body path p) ≡ ordinal_after_procedure n p
   after_procedure_without path n (declares_procedure x fs b closing) = after_block_without path (ordinal_after_names n (formal_names (formal_sections fs))) b
 
-pub name_without : {N : Type 0} (path : PathToBody) (p : Tree N (item procedure)) → procedure_name (procedure_without path p) ≡ procedure_name p
+pub name_without : {N : Type 0} (path : PathToBody) (p : Tree N (item procedure)) → procedure_name (procedure_without_body path p) ≡ procedure_name p
 name_without path (declares_procedure x fs b closing) = refl
 
 -- The procedures of a block add the same names to a scope without the body.
-names_without : {N : Type 0} (k : ℕ) (path : PathToBody) (n : ℕ) (ps : Tree N (items procedure)) (scope : Scope N) → declare_procedure_names n (procedures_without k path ps) scope ≡ declare_procedure_names n ps scope
+names_without : {N : Type 0} (k : ℕ) (path : PathToBody) (n : ℕ) (ps : Tree N (items procedure)) (scope : Scope N) → declare_procedure_names n (procedures_without_body k path ps) scope ≡ declare_procedure_names n ps scope
 names_without zero path n end scope = refl
 names_without (suc k) path n end scope = refl
 names_without zero path n (more p ps) scope = λ i. declare_procedure_names (after_procedure_without path (suc n) p i) ps ((name_without path p i, n) ∷ scope)
@@ -38,7 +38,7 @@ names_without (suc k) path n (more p ps) scope = names_without k path (ordinal_a
 
 module _ {N M : Type 0} (naming : Naming N) (label : Labelling N M) where
   mutual
-    block_relabelled : (path : PathToBody) (scope : Scope N) (n : ℕ) (b : Tree N block) → block_without path (relabel_block naming label scope n b) ≡ relabel_block naming label scope n (block_without path b)
+    block_relabelled : (path : PathToBody) (scope : Scope N) (n : ℕ) (b : Tree N block) → block_without_body path (relabel_block naming label scope n b) ≡ relabel_block naming label scope n (block_without_body path b)
     block_relabelled [] scope n (forms_block (declares cs ts vs ps) statements) = refl
     block_relabelled (k ∷ path) scope n (forms_block (declares cs ts vs ps) statements) =
         let first = ordinal_after_names (ordinal_after_names (ordinal_after_names n (constant_names (section_constants cs))) (declared_type_names (section_types ts))) (variable_names (section_variables vs)) in
@@ -50,7 +50,7 @@ module _ {N M : Type 0} (naming : Naming N) (label : Labelling N M) where
         (relabel_variable_section naming label t (ordinal_after_names (ordinal_after_names n (constant_names (section_constants cs))) (declared_type_names (section_types ts))) vs) (procedures_relabelled k path v first ps i))
         (relabel_uses naming label (sym (names_without k path first ps v) i) statements)
 
-    procedures_relabelled : (k : ℕ) (path : PathToBody) (scope : Scope N) (n : ℕ) (ps : Tree N (items procedure)) → procedures_without k path (relabel_procedures naming label scope n ps) ≡ relabel_procedures naming label scope n (procedures_without k path ps)
+    procedures_relabelled : (k : ℕ) (path : PathToBody) (scope : Scope N) (n : ℕ) (ps : Tree N (items procedure)) → procedures_without_body k path (relabel_procedures naming label scope n ps) ≡ relabel_procedures naming label scope n (procedures_without_body k path ps)
     procedures_relabelled zero path scope n end = refl
     procedures_relabelled (suc k) path scope n end = refl
     procedures_relabelled zero path scope n (more p ps) =
@@ -58,7 +58,7 @@ module _ {N M : Type 0} (naming : Naming N) (label : Labelling N M) where
     procedures_relabelled (suc k) path scope n (more p ps) =
         ap (more (relabel_procedure naming label scope n p)) (procedures_relabelled k path ((procedure_name p, n) ∷ scope) (ordinal_after_procedure (suc n) p) ps)
 
-    procedure_relabelled : (path : PathToBody) (scope : Scope N) (n : ℕ) (p : Tree N (item procedure)) → procedure_without path (relabel_procedure naming label scope n p) ≡ relabel_procedure naming label scope n (procedure_without path p)
+    procedure_relabelled : (path : PathToBody) (scope : Scope N) (n : ℕ) (p : Tree N (item procedure)) → procedure_without_body path (relabel_procedure naming label scope n p) ≡ relabel_procedure naming label scope n (procedure_without_body path p)
     procedure_relabelled path scope n (declares_procedure x fs b closing) =
         ap (λ c. declares_procedure (label (Some n) x) (relabel_formals naming label scope (suc n) fs) c (label (Some n) closing))
         (block_relabelled path (declare_names (suc n) (formal_names (formal_sections fs)) ((x, n) ∷ scope)) (ordinal_after_names (suc n) (formal_names (formal_sections fs))) b)

@@ -4,7 +4,7 @@ use Rattle.std.proofs.Common.{◌≡◌, ℕ, ◌+◌, Bool, true, false, cond, 
 use Rattle.std.specs.List.{filter}
 use Rattle.ob0_scan.specs.declared.lexeme.Token.{Token}
 use Rattle.ob0_tree.proofs.Leaves.{ascending_lower, leaves_are_identifiers, leaves_ascend}
-use Rattle.ob0_tree.specs.Order.{AreIdentifierTokens, AreAscending, names_without_roles}
+use Rattle.ob0_tree.specs.Order.{AreIdentifierTokens, AreAscendingWithin, names_without_roles}
 use Rattle.ob0_tree.specs.ParsedModule.{tree_of}
 use Rattle.ob0_tree.specs.Places.{token_text_at, token_value_at}
 use Rattle.ob0_tree.specs.Tree.{identifiers}
@@ -16,17 +16,17 @@ use Rattle.ob0_scope_table.specs.Resolution.{IsResolution, Resolution, ordinal_i
 use Rattle.ob0_language_names.specs.Scopes.{same_ordinal}
 use Rattle.ob0_scope_numbering.specs.Written.{spelling_at}
 use Rattle.ob0_scope.proofs.Renumbered.{renamed_spelled}
-use Rattle.ob0_scope.specs.NamesAtPlaces.{IsRenamedAt, is_among, tokens_bound_to}
+use Rattle.ob0_scope.specs.NamesAtPlaces.{RenamingChangesExactlyTokens, is_among, tokens_bound_to}
 use Rattle.ob0_scope.proofs.Alike.{AllAlike, alike}
 use Rattle.ob0_scope.proofs.Placed.{bound_listed, is_listed, tokens_listed}
 
 -- A selection of ascending tokens ascends, and a selection of identifiers has only identifiers.
 
-kept_ascends : (test : Role × ℕ → Bool) (low : ℕ) (xs : List (Role × ℕ)) (high : ℕ) → AreAscending low (names_without_roles xs) high → AreAscending low (names_without_roles (filter test xs)) high
+kept_ascends : (test : Role × ℕ → Bool) (low : ℕ) (xs : List (Role × ℕ)) (high : ℕ) → AreAscendingWithin low (names_without_roles xs) high → AreAscendingWithin low (names_without_roles (filter test xs)) high
 kept_ascends test low [] high h = h
 kept_ascends test low (x ∷ xs) high h = one (test x) (kept_ascends test (x.1 + 1) xs high h.1)
   where
-    one : (b : Bool) → AreAscending (x.1 + 1) (names_without_roles (filter test xs)) high → AreAscending low (names_without_roles (cond b (x ∷ filter test xs) (filter test xs))) high
+    one : (b : Bool) → AreAscendingWithin (x.1 + 1) (names_without_roles (filter test xs)) high → AreAscendingWithin low (names_without_roles (cond b (x ∷ filter test xs) (filter test xs))) high
     one true e = (h.0, e)
     one false e = ascending_lower low (x.1 + 1) (names_without_roles (filter test xs)) high (omega (arith, h.0)) e
 
@@ -38,10 +38,10 @@ kept_are_identifiers test ts (x ∷ xs) h = one (test x) (kept_are_identifiers t
     one true e = (h.0, e)
     one false e = e
 
-pub bound_ascend : (r : Resolution) (d : ℕ) (include : Bool) → IsResolution r → AreAscending 0 (tokens_bound_to r.module_read d include) (length r.module_read.source.tokens)
+pub bound_ascend : (r : Resolution) (d : ℕ) (include : Bool) → IsResolution r → AreAscendingWithin 0 (tokens_bound_to r.module_read d include) (length r.module_read.source.tokens)
 bound_ascend r d include is =
     let m = r.module_read in
-    subst (λ xs. AreAscending 0 xs (length m.source.tokens)) (bound_listed r d include is)
+    subst (λ xs. AreAscendingWithin 0 xs (length m.source.tokens)) (bound_listed r d include is)
     (kept_ascends (is_listed r.ordinals include d) 0 (identifiers role.Declaring (tree_of m)) (length m.source.tokens) (leaves_ascend m is.parsed))
 
 pub bound_are_identifiers : (r : Resolution) (d : ℕ) (include : Bool) → IsResolution r → AreIdentifierTokens r.module_read.source.tokens (tokens_bound_to r.module_read d include)
@@ -108,7 +108,7 @@ all_alike r d new places all (x ∷ xs) h among =
     and_true true = refl
     and_true false = refl
 
-pub renamed_there : (r : Resolution) (d : ℕ) → IsResolution r → IsRenamedAt r.module_read d (tokens_bound_to r.module_read d true)
+pub renamed_there : (r : Resolution) (d : ℕ) → IsResolution r → RenamingChangesExactlyTokens r.module_read d (tokens_bound_to r.module_read d true)
 renamed_there r d is new =
     let m = r.module_read in
     let ids = identifiers role.Declaring (tree_of m) in

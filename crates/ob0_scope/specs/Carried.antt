@@ -2,7 +2,7 @@
 -- data about the tokens before that body, and about the tokens after it, which have moved.
 -- Rule: none; used in private contracts about bindings that are kept when one body is replaced (`body_range.rt`).
 use Rattle.std.specs.Prelude.{◌≡◌, ℕ, ◌+◌, ◌-◌, ◌^◌, min, nat_lt, List, [], ◌∷◌, ◌++◌, Option, Some, None, if◌then◌else◌, is_some, length, take, drop, replicate}
-use Rattle.ob0_scan.specs.declared.tokens.SameParts.{SameParts}
+use Rattle.ob0_scan.specs.declared.tokens.CommonPrefixAndSuffix.{CommonPrefixAndSuffix}
 use Rattle.ob0_tree.specs.declared.tree.Role.{Role}
 use Rattle.ob0_tree.specs.declared.tree.Role.TheVariants as role
 use Rattle.ob0_tree.specs.ParsedModule.{ParsedModule, tree_of}
@@ -13,15 +13,15 @@ use Rattle.ob0_scope_table.specs.declared.resolved.Bindings.{Bindings}
 use Rattle.ob0_scope.specs.NewBody.{WasBoundBeforeNewBody}
 use Rattle.ob0_scope.specs.declared.body_range.BodyRange.{BodyRange}
 
--- the token indexes of the identifiers seen so far while a body is walked: the first identifier, or None before it, and
--- all occurrences of names (identifiers with the role `LookedUp`)
+-- the token indexes of the identifiers seen so far while a body is walked: the first identifier
+-- (None if there is none yet) and all occurrences of names (identifiers with the role `LookedUp`)
 pub record NamesInBody : Type 0 where
   pub first : Option ℕ
   pub uses : List ℕ
 
 -- the names of a body in which no identifier has been seen yet
-abbrev pub no_names : NamesInBody
-no_names = record { first = None; uses = [] }
+abbrev pub no_names_seen : NamesInBody
+no_names_seen = record { first = None; uses = [] }
 
 -- returns `first`, the first identifier seen in a body; if none has been seen (None), returns the identifier `i`
 abbrev pub first_identifier_or : Option ℕ → ℕ → Option ℕ
@@ -60,8 +60,8 @@ tokens_after_body range (i ∷ is) =
 
 -- returns a list of tokens of the old text with their indexes in the changed text; the tokens in the old body are
 -- replaced by `own`, the tokens in the new body
-abbrev pub carried_tokens : BodyRange → List ℕ → List ℕ → List ℕ
-carried_tokens range tokens own = tokens_before_body range tokens ++ (own ++ tokens_after_body range tokens)
+abbrev pub tokens_in_changed_text : BodyRange → List ℕ → List ℕ → List ℕ
+tokens_in_changed_text range tokens own = tokens_before_body range tokens ++ (own ++ tokens_after_body range tokens)
 
 -- returns the first `n` entries of a table, filled up with None if the table is shorter
 abbrev pub padded_with_none : ℕ → List (Option ℕ) → List (Option ℕ)
@@ -69,19 +69,19 @@ padded_with_none n table = take n table ++ replicate (n - length table) None
 
 -- returns a table of ordinals with each entry at its token's new index; the entries of the new body
 -- are None
-abbrev pub carried_ordinals : BodyRange → List (Option ℕ) → List (Option ℕ)
-carried_ordinals range table =
+abbrev pub ordinals_in_changed_text : BodyRange → List (Option ℕ) → List (Option ℕ)
+ordinals_in_changed_text range table =
     padded_with_none range.closing (take range.first table) ++ drop range.old_closing table
 
 -- returns the old token index of the closing name after the replaced statements, given its index in the changed text;
 -- at most 2^64 - 1
-abbrev pub old_closing_token : SameParts → ℕ → ℕ
+abbrev pub old_closing_token : CommonPrefixAndSuffix → ℕ → ℕ
 old_closing_token same closing = min (closing - same.new_suffix + same.old_suffix) (2 ^ 64 - 1)
 
 -- States that `range` is the range of the new statements in a module in which one body's statements were replaced.
 -- `own` has the occurrences in these statements, and `b` has the bindings of the old module.
 pub record IsRangeOfNewBody (m : ParsedModule) (b : Bindings) (range : BodyRange) (own : List ℕ) : Type 0 where
-  pub same : SameParts
+  pub same : CommonPrefixAndSuffix
   pub was_bound : WasBoundBeforeNewBody m b same
   pub first : token_of_first_identifier (identifiers role.Declaring (body_at_path (path_to_body_in_module same.prefix (tree_of m)) (tree_of m)))
       ≡ Some range.first

@@ -13,29 +13,30 @@ use Rattle.ob0_language_names.specs.Occurrences.{label_ordinal}
 use Rattle.ob0_scope_table.specs.Resolution.{span_at}
 use Rattle.ob0_scope_table.specs.Spans.{is_on_span}
 use Rattle.ob0_language_names.specs.Scopes.{numbered, renamed}
-use Rattle.ob0_scope.specs.declared.naming.Named as named
+use Rattle.ob0_scope.specs.declared.naming.BoundName as named
 
--- an identifier: its role, its token, and its label, which has the declaration's ordinal if the identifier is bound
-abbrev pub BoundIdentifier : Type 0
-BoundIdentifier = (Role × ℕ) × Label
+-- an identifier, bound or not: its role, its token, and its label, which has the declaration's
+-- ordinal if the identifier is bound
+abbrev pub LabelledIdentifier : Type 0
+LabelledIdentifier = (Role × ℕ) × Label
 
 -- returns the identifiers of a module in text order, each with its role, its token and its label
-abbrev pub bound_identifiers : ParsedModule → List BoundIdentifier
-bound_identifiers m =
+abbrev pub labelled_identifiers : ParsedModule → List LabelledIdentifier
+labelled_identifiers m =
     zip (identifiers role.Declaring (tree_of m)) (identifier_names (numbered (named_tree_of m)))
 
 -- returns the first identifier that contains a byte offset or ends there; None if there is none
-abbrev pub identifier_at_offset : ParsedModule → ℕ → Option BoundIdentifier
-identifier_at_offset m offset = find (λ s. is_on_span offset (span_at m.source s.0.1)) (bound_identifiers m)
+abbrev pub identifier_at_offset : ParsedModule → ℕ → Option LabelledIdentifier
+identifier_at_offset m offset = find (λ s. is_on_span offset (span_at m.source s.0.1)) (labelled_identifiers m)
 
 -- returns the token of an identifier and the ordinal of its declaration; None if the identifier is
 -- unbound
-abbrev pub bound_name_of : BoundIdentifier → Option named.Named
+abbrev pub bound_name_of : LabelledIdentifier → Option named.BoundName
 bound_name_of s = option_map (λ ordinal. record { token = s.0.1; ordinal = ordinal }) (label_ordinal s.1)
 
 -- returns the name that contains a byte offset or ends there; None if there is none, or if it is a
 -- field, the module's name or an unbound name
-abbrev pub name_at_offset : ParsedModule → ℕ → Option named.Named
+abbrev pub name_at_offset : ParsedModule → ℕ → Option named.BoundName
 name_at_offset m offset = option_and_then bound_name_of (identifier_at_offset m offset)
 
 -- returns whether this is the role of a declaring identifier
@@ -48,13 +49,13 @@ is_declaring role.ModuleName = false
 
 -- returns whether an identifier is bound to the declaration with ordinal `d`; the declaring identifier counts only if
 -- `include` is true
-abbrev pub is_bound_to : Bool → ℕ → BoundIdentifier → Bool
+abbrev pub is_bound_to : Bool → ℕ → LabelledIdentifier → Bool
 is_bound_to include d s = same_label s.1 (declared d) && (include || not (is_declaring s.0.0))
 
 -- returns the tokens of the identifiers that are bound to the declaration with ordinal `d`; the declaring identifier is
 -- included only if `include` is true
 abbrev pub tokens_bound_to : ParsedModule → ℕ → Bool → List ℕ
-tokens_bound_to m d include = map (λ s. s.0.1) (filter (is_bound_to include d) (bound_identifiers m))
+tokens_bound_to m d include = map (λ s. s.0.1) (filter (is_bound_to include d) (labelled_identifiers m))
 
 -- returns whether a token is in a list
 abbrev pub is_among : ℕ → List ℕ → Bool
@@ -63,8 +64,8 @@ is_among i (x ∷ xs) = i == x || is_among i xs
 
 -- States that renaming the declaration with ordinal `d` to any name writes this name at each token in the list `tokens`
 -- and changes nothing else.
-abbrev pub IsRenamedAt : ParsedModule → ℕ → List ℕ → Type 0
-IsRenamedAt m d tokens =
+abbrev pub RenamingChangesExactlyTokens : ParsedModule → ℕ → List ℕ → Type 0
+RenamingChangesExactlyTokens m d tokens =
     (new : Name)
     → renamed (named_tree_of m) d new
     ≡ mapped_tree (λ i. if is_among i tokens then new else token_text_at m.source i) (token_value_at m.source)

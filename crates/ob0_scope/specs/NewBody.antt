@@ -1,6 +1,6 @@
 -- The bindings of a module before the statements of one body were replaced.
 -- Rule: none; used in contracts of `rebind_new_body`.
-use Rattle.ob0_scan.specs.declared.tokens.SameParts.{SameParts}
+use Rattle.ob0_scan.specs.declared.tokens.CommonPrefixAndSuffix.{CommonPrefixAndSuffix}
 use Rattle.ob0_tree.specs.ParsedModule.{ParsedModule}
 use Rattle.ob0_scope_table.specs.Bindings.{resolution_with}
 use Rattle.ob0_scope_table.specs.BodyReplaced.{IsBodyReplaced, PathToBody}
@@ -9,7 +9,7 @@ use Rattle.ob0_scope_table.specs.declared.resolved.Bindings.{Bindings}
 
 -- States that `b` has the bindings of an older module, and that `m` is that module with the statements of one body
 -- replaced. `s` gives the unchanged tokens at the start and at the end of the text.
-pub record WasBoundBeforeNewBody (m : ParsedModule) (b : Bindings) (s : SameParts) : Type 0 where
+pub record WasBoundBeforeNewBody (m : ParsedModule) (b : Bindings) (s : CommonPrefixAndSuffix) : Type 0 where
   pub old : ParsedModule
   pub path : PathToBody
   pub replaced : IsBodyReplaced old m path s

@@ -10,7 +10,7 @@ use Rattle.std.specs.Prelude.{ℕ}
 
 -- States that only tokens of one body changed, and that `b` has the bindings of the module before this change. The
 -- changed tokens have the indexes from `low` up to, but not including, `high`.
-pub record WasBoundBeforeChange (m : ParsedModule) (b : Bindings) (low high : ℕ) : Type 0 where
+pub record WasBoundBeforeBodyChange (m : ParsedModule) (b : Bindings) (low high : ℕ) : Type 0 where
   pub old : TextWithTokens
   pub change : IsBodyChange old m low high
   pub parsed : IsParsed m

@@ -18,10 +18,10 @@ use Rattle.ob0_scope_numbering.specs.Written.{Spellings, spelling_at}
 
 -- returns the ordinal of the first declaration in a scope that has the name `new` and an ordinal other than `d`; None
 -- if there is none
-abbrev pub other_with_name : Scope Name → ℕ → Name → Option ℕ
-other_with_name [] d new = None
-other_with_name (b ∷ own) d new =
-    if same_name b.0 new && not (b.1 == d) then Some b.1 else other_with_name own d new
+abbrev pub other_declaration_with_name : Scope Name → ℕ → Name → Option ℕ
+other_declaration_with_name [] d new = None
+other_declaration_with_name (b ∷ own) d new =
+    if same_name b.0 new && not (b.1 == d) then Some b.1 else other_declaration_with_name own d new
 
 -- Finds the first scope in a list that has both the declaration with ordinal `d` and another declaration with the name
 -- `new`. Each scope has the declarations of one block. Returns the ordinal of this other declaration, or None if there
@@ -29,7 +29,7 @@ other_with_name (b ∷ own) d new =
 abbrev pub namesake_in_scopes : List (Scope Name) → ℕ → Name → Option ℕ
 namesake_in_scopes [] d new = None
 namesake_in_scopes (own ∷ others) d new =
-    option_or (if declares_ordinal own d then other_with_name own d new else None)
+    option_or (if declares_ordinal own d then other_declaration_with_name own d new else None)
     (namesake_in_scopes others d new)
 
 -- returns the ordinal of the last declaration with the name `new`, other than `d`, in the block
@@ -44,10 +44,10 @@ conflict_of (reports.Occurrence k) = at_occurrence k
 
 -- returns the ordinal of the other declaration if the conflict is with another declaration of the same block;
 -- otherwise, and for no conflict, None
-abbrev pub other_declaration : Option reported.FirstConflict → Option ℕ
-other_declaration None = None
-other_declaration (Some (reports.Duplicate other)) = Some other
-other_declaration (Some (reports.Occurrence k)) = None
+abbrev pub other_declaration_in_conflict : Option reported.FirstConflict → Option ℕ
+other_declaration_in_conflict None = None
+other_declaration_in_conflict (Some (reports.Duplicate other)) = Some other
+other_declaration_in_conflict (Some (reports.Occurrence k)) = None
 
 -- returns whether two names are bound to the same declaration, or both are unbound (None)
 abbrev pub have_same_binding : Option ℕ → Option ℕ → Bool

@@ -7,7 +7,7 @@ use Rattle.ob0_scan.specs.TextWithTokens.{TextWithTokens}
 use Rattle.ob0_tree.specs.ParsedModule.{IsParsed, parsed_module}
 use Rattle.ob0_tree.specs.declared.tree.ModuleTree.{ModuleTree}
 use Rattle.ob0_scope_table.specs.Bindings.{resolution_with}
-use Rattle.ob0_scope_table.specs.FaultTokens.{AreWrittenAlike, moved_faults}
+use Rattle.ob0_scope_table.specs.FaultTokens.{HaveSameKindsAndSpellings, moved_faults}
 use Rattle.ob0_scope_table.specs.Resolution.{IsResolution}
 use Rattle.ob0_scope_table.specs.declared.resolved.Bindings.{Bindings}
 
@@ -19,8 +19,8 @@ pub record HaveSameKindsAndNames (old new : TextWithTokens) : Type 0 where
 -- States that the bindings of a module that has no fault of scopes are also the bindings of the same tree with the
 -- tokens of another text. The tokens of both texts must have the same kinds, and their identifiers the same spellings.
 -- The tree must also be the tree of the other text's module.
-abbrev pub BindingsDependOnNames : Type 0
-BindingsDependOnNames =
+abbrev pub BindingsDependOnlyOnNames : Type 0
+BindingsDependOnlyOnNames =
     (old new : TextWithTokens) (tree : ModuleTree) (b : Bindings)
     → HaveSameKindsAndNames old new
     → IsParsed (parsed_module new tree)
@@ -42,7 +42,7 @@ pub record AreBindingsWithMovedFaults (old new : TextWithTokens) (b c : Bindings
 abbrev pub BindingsMoveWithTokens : Type 0
 BindingsMoveWithTokens =
     (old new : TextWithTokens) (tree : ModuleTree) (b c : Bindings)
-    → AreWrittenAlike old new
+    → HaveSameKindsAndSpellings old new
     → IsParsed (parsed_module new tree)
     → IsResolution (resolution_with (parsed_module old tree) b)
     → AreBindingsWithMovedFaults old new b c

@@ -4,9 +4,9 @@
 ghost use Rattle.std.specs.Prelude.{◌≡◌, ◌++◌, ◌∷◌, [], IfOk, OnOk};
 ghost use Rattle.ob0_tree.specs.View.{block_of, body_of, procedure_of};
 ghost use Rattle.ob0_scope_table.specs.BodyReplaced.{body_at_path_in_block, body_at_path_in_procedure, closing_name_at_path_in_block, closing_name_at_path_in_procedure, path_to_body_in_block, path_to_body_in_procedure};
-ghost use Rattle.ob0_scope.specs.Carried.{tokens_after_body, tokens_before_body, carried_tokens, carried_ordinals, old_closing_token, shifted_token, with_occurrence};
+ghost use Rattle.ob0_scope.specs.Carried.{tokens_after_body, tokens_before_body, tokens_in_changed_text, ordinals_in_changed_text, old_closing_token, shifted_token, with_occurrence};
 
-use ob0_scan::SameParts;
+use ob0_scan::CommonPrefixAndSuffix;
 use ob0_scope_table::OrdinalEntry;
 use ob0_tree::walk::Visitor;
 use ob0_tree::{Block, Procedure, Role, Statement};
@@ -25,13 +25,13 @@ pub(crate) struct BodyRange {
 
 /// The statements of a block, with the token of the block's closing name.
 #[derive(Clone, Copy)]
-pub(crate) struct ReplacedBody<'t> {
+pub(crate) struct BodyWithClosingName<'t> {
     pub(crate) statements: &'t Option<Vec<Statement>>,
     pub(crate) closing: usize,
 }
 
-/// The token indexes of the identifiers seen so far while a body is walked: the first identifier,
-/// or None before it, and all occurrences of names (identifiers with the role `LookedUp`).
+/// The token indexes of the identifiers seen so far while a body is walked: the first identifier
+/// (None if there is none yet) and all occurrences of names (identifiers with the role `LookedUp`).
 #[derive(Drop)]
 pub(crate) struct BodyNames {
     pub(crate) first: Option<usize>,
@@ -81,7 +81,11 @@ impl BodyNames {
 /// is no such procedure, the result is the block's own body. `own` is the token of the block's
 /// closing name.
 #[cycle(blocks)]
-pub(crate) fn find_body_in_block<'t>(inner: &'t Block, own: usize, low: usize) -> ReplacedBody<'t>
+pub(crate) fn find_body_in_block<'t>(
+    inner: &'t Block,
+    own: usize,
+    low: usize,
+) -> BodyWithClosingName<'t>
     ensures statements { body_of result.statements.now
         ≡ body_at_path_in_block (path_to_body_in_block low (block_of inner.now)) (block_of inner.now) }
     ensures closing { result.closing
@@ -92,7 +96,7 @@ pub(crate) fn find_body_in_block<'t>(inner: &'t Block, own: usize, low: usize) -
             return find_body_in_procedure(p, low);
         }
     }
-    ReplacedBody {
+    BodyWithClosingName {
         statements: &inner.body,
         closing: own,
     }
@@ -101,7 +105,7 @@ pub(crate) fn find_body_in_block<'t>(inner: &'t Block, own: usize, low: usize) -
 /// Searches a procedure for the body that contains the token `low`: its own body, or the body of a
 /// procedure inside it. If no body contains `low`, the result may be any of these bodies.
 #[cycle(blocks)]
-fn find_body_in_procedure<'t>(p: &'t Procedure, low: usize) -> ReplacedBody<'t>
+fn find_body_in_procedure<'t>(p: &'t Procedure, low: usize) -> BodyWithClosingName<'t>
     ensures statements { body_of result.statements.now
         ≡ body_at_path_in_procedure (path_to_body_in_procedure low (procedure_of p.now)) (procedure_of p.now) }
     ensures closing { result.closing
@@ -112,7 +116,7 @@ fn find_body_in_procedure<'t>(p: &'t Procedure, low: usize) -> ReplacedBody<'t>
 
 /// Returns the old token index of the closing name that follows the replaced statements, given its
 /// index in the changed text. A result over 2^64 - 1 becomes 2^64 - 1.
-pub(crate) fn old_closing_token(same: SameParts, closing: usize) -> usize
+pub(crate) fn old_closing_token(same: CommonPrefixAndSuffix, closing: usize) -> usize
     ensures { result ≡ old_closing_token same closing }
 {
     closing
@@ -156,15 +160,16 @@ impl BodyRange {
         Ok(())
     }
 
-    /// Returns the list `tokens`, which has token indexes of the old text, with the indexes in the
-    /// changed text. The tokens in the old body are replaced by `own`, the tokens in the new body.
-    pub(crate) fn carry_tokens(
+    /// Returns the token indexes in the changed text for the list `tokens`, which has token indexes
+    /// in the old text. The tokens of the old body are replaced by `own`, the tokens of the new
+    /// body.
+    pub(crate) fn tokens_in_changed_text(
         self,
         alloc: Global,
         tokens: &[usize],
         own: &[usize],
     ) -> Result<Vec<usize>, AllocError>
-        ensures { IfOk result (λ all. all.items ≡ carried_tokens self tokens.now own.now) }
+        ensures { IfOk result (λ all. all.items ≡ tokens_in_changed_text self tokens.now own.now) }
     {
         let mut all = Vec::with_capacity(alloc, tokens.len())?;
         self.append_tokens_before(&mut all, tokens)?;
@@ -173,14 +178,14 @@ impl BodyRange {
         Ok(all)
     }
 
-    /// Returns the table `old`, which has the ordinals of the old module by token, with each entry
-    /// at its token's new index. The entries of the new body are None.
-    pub(crate) fn carry_ordinals(
+    /// Returns the table `old`, which has the ordinals of the old module by token index, with each
+    /// entry moved to its token's new index. The entries of the new body are None.
+    pub(crate) fn ordinals_in_changed_text(
         self,
         alloc: Global,
         old: &[OrdinalEntry],
     ) -> Result<Vec<OrdinalEntry>, AllocError>
-        ensures { IfOk result (λ table. table.items ≡ carried_ordinals self old.now) }
+        ensures { IfOk result (λ table. table.items ≡ ordinals_in_changed_text self old.now) }
     {
         let mut table = Vec::with_capacity(alloc, old.len())?;
         table.extend_from_slice(&old[..self.first.min(old.len())])?;

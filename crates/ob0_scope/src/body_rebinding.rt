@@ -4,7 +4,7 @@
 ghost use Rattle.std.specs.Prelude.{IfOk};
 ghost use Rattle.ob0_scope_table.specs.Resolution.{IsResolution};
 ghost use Rattle.ob0_scope_table.specs.Bindings.{resolution_with};
-ghost use Rattle.ob0_scope.specs.Rebound.{WasBoundBeforeChange};
+ghost use Rattle.ob0_scope.specs.Rebound.{WasBoundBeforeBodyChange};
 ghost use Rattle.ob0_scope.specs.NewBody.{WasBoundBeforeNewBody};
 ghost use Rattle.ob0_scope.specs.Carried.{IsRangeOfNewBody};
 
@@ -12,7 +12,7 @@ use crate::body_range::{BodyNames, BodyRange, find_body_in_block, old_closing_to
 use crate::checks::recheck_declarations;
 use crate::module_resolution::bindings_of;
 use crate::table::report_undeclared;
-use ob0_scan::SameParts;
+use ob0_scan::CommonPrefixAndSuffix;
 use ob0_scope_numbering::renumber_body;
 use ob0_scope_table::Bindings;
 use ob0_tree::Module;
@@ -30,7 +30,7 @@ pub fn rebind_body(
     low: usize,
     _changed_end: usize,
 ) -> Result<Bindings, AllocError>
-    requires { WasBoundBeforeChange read.now old low _changed_end }
+    requires { WasBoundBeforeBodyChange read.now old low _changed_end }
     ensures { IfOk result (λ b. IsResolution (resolution_with read.now b)) }
 {
     let tokens = read.tokens();
@@ -62,7 +62,7 @@ pub fn rebind_new_body(
     alloc: Global,
     read: &Module<'_>,
     old: Bindings,
-    same: SameParts,
+    same: CommonPrefixAndSuffix,
 ) -> Result<Bindings, AllocError>
     requires { WasBoundBeforeNewBody read.now old same }
     ensures { IfOk result (λ b. IsResolution (resolution_with read.now b)) }
@@ -81,13 +81,13 @@ pub fn rebind_new_body(
         old_closing: old_closing_token(same, found.closing),
         closing: found.closing,
     };
-    carry_unchanged_bindings(alloc, read, &old, range, &names.uses)
+    rebind_body_range(alloc, read, &old, range, &names.uses)
 }
 
 /// Returns the bindings of a module after the statements of one body were replaced. `old` has the
 /// bindings before the replacement. `range` is the token range of the new statements, and `own` has
 /// their occurrences. Only the names in the new statements are bound again.
-fn carry_unchanged_bindings(
+fn rebind_body_range(
     alloc: Global,
     read: &Module<'_>,
     old: &Bindings,
@@ -98,13 +98,13 @@ fn carry_unchanged_bindings(
     ensures { IfOk result (λ b. IsResolution (resolution_with read.now b)) }
 {
     let tokens = read.tokens();
-    let table = range.carry_ordinals(alloc, &old.ordinals)?;
+    let table = range.ordinals_in_changed_text(alloc, &old.ordinals)?;
     if table.len() < tokens.tokens().len() {
         return bindings_of(alloc, read);
     }
-    let declaration_tokens = range.carry_tokens(alloc, &old.declaration_tokens, &[])?;
+    let declaration_tokens = range.tokens_in_changed_text(alloc, &old.declaration_tokens, &[])?;
     let ordinals = renumber_body(alloc, read, table, &declaration_tokens, range.first)?;
-    let occurrences = range.carry_tokens(alloc, &old.occurrences, own)?;
+    let occurrences = range.tokens_in_changed_text(alloc, &old.occurrences, own)?;
     let mut faults = recheck_declarations(alloc, read, &old.faults)?;
     report_undeclared(&mut faults, tokens, &ordinals, &occurrences)?;
     Ok(Bindings {

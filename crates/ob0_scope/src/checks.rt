@@ -10,7 +10,7 @@ ghost use Rattle.std.specs.Prelude.{◌≡◌, ◌++◌, [], IfOk, OnOk, map, no
 ghost use Rattle.std.specs.List.{list_any};
 ghost use Rattle.ob0_tree.specs.ParsedModule.{named_tree_of};
 ghost use Rattle.ob0_tree.specs.Places.{token_text_at};
-ghost use Rattle.ob0_tree.specs.View.{items_of, names_of, type_of, record_type_of, fields_of, constants_of, types_of, variables_of, formals_of, procedure_of, block_of};
+ghost use Rattle.ob0_tree.specs.View.{items_of, names_of, type_of, record_type_of, optional_field_group_of, constants_of, types_of, variables_of, formals_of, procedure_of, block_of};
 ghost use Rattle.ob0_language_names.specs.Names.{same_name};
 ghost use Rattle.ob0_language_names.specs.Parts.{names_in_list, constant_names, declared_type_names, variable_names, formal_names, formal_sections, section_constants, section_types, section_variables};
 ghost use Rattle.ob0_language_names.specs.ConsistentNames.{block_names, has_consistent_names, group_field_names, is_among, procedure_names};
@@ -20,7 +20,7 @@ ghost use Rattle.ob0_scope_table.specs.DuplicatesAndEndNames.{duplicate_faults, 
 use ob0_scan::{Fault, FaultCode, Tokens};
 use ob0_scope_table::token_span;
 use ob0_tree::{
-    Block, Constant, Fields, Module, Names, ParameterSection, Procedure, RecordType,
+    Block, Constant, Module, Names, OptionalFieldGroup, ParameterSection, Procedure, RecordType,
     TypeDeclaration, VariableDeclaration, WrittenType, token_text_at,
 };
 use std::alloc::{AllocError, Global};
@@ -142,12 +142,12 @@ fn append_names(out: &mut Vec<usize>, ns: &Names) -> Result<(), AllocError>
 }
 
 /// Appends to `out` the tokens of the names in a group of fields.
-fn append_field_names(out: &mut Vec<usize>, group: &Fields) -> Result<(), AllocError>
-    ensures { OnOk result (out.new.items ≡ out.old.items ++ group_field_names (fields_of group.now)) }
+fn append_field_names(out: &mut Vec<usize>, group: &OptionalFieldGroup) -> Result<(), AllocError>
+    ensures { OnOk result (out.new.items ≡ out.old.items ++ group_field_names (optional_field_group_of group.now)) }
 {
     match group {
-        Fields::Empty => Ok(()),
-        Fields::Listed(list) => append_names(out, &list.names),
+        OptionalFieldGroup::Empty => Ok(()),
+        OptionalFieldGroup::Listed(list) => append_names(out, &list.names),
     }
 }
 
@@ -323,20 +323,28 @@ impl FoundFaults {
 
     /// Reports the duplicate fields of all records in a type that is written in the text.
     #[cycle(types)]
-    fn check_type_fields(&mut self, tokens: &Tokens, t: &WrittenType) -> Result<(), AllocError>
+    fn report_duplicate_fields_in_type(
+        &mut self,
+        tokens: &Tokens,
+        t: &WrittenType,
+    ) -> Result<(), AllocError>
         ensures { OnOk result (self.new ≡ self.old ++ duplicate_field_faults tokens.now (type_of t.now)) }
     {
         match t {
             WrittenType::Named(_) => Ok(()),
-            WrittenType::Array(a) => self.check_type_fields(tokens, &a.element),
-            WrittenType::Record(r) => self.check_record_fields(tokens, r),
+            WrittenType::Array(a) => self.report_duplicate_fields_in_type(tokens, &a.element),
+            WrittenType::Record(r) => self.report_duplicate_fields_in_record(tokens, r),
         }
     }
 
     /// Reports the duplicate fields of a record, and then the duplicate fields of the records
     /// inside it.
     #[cycle(types)]
-    fn check_record_fields(&mut self, tokens: &Tokens, r: &RecordType) -> Result<(), AllocError>
+    fn report_duplicate_fields_in_record(
+        &mut self,
+        tokens: &Tokens,
+        r: &RecordType,
+    ) -> Result<(), AllocError>
         ensures { OnOk result (self.new ≡ self.old ++ duplicate_field_faults tokens.now (record_type_of r.now)) }
     {
         let mut names = Vec::with_capacity(self.alloc, MAX_NAMES_COMPARED_PAIRWISE)?;
@@ -345,24 +353,30 @@ impl FoundFaults {
         }
         self.report_duplicates(tokens, &names)?;
         for group in &r.groups {
-            self.check_group_fields(tokens, group)?;
+            self.report_duplicate_fields_in_group(tokens, group)?;
         }
         Ok(())
     }
 
     /// Reports the duplicate fields of the records in the type of a group of fields.
     #[cycle(types)]
-    fn check_group_fields(&mut self, tokens: &Tokens, f: &Fields) -> Result<(), AllocError>
-        ensures { OnOk result (self.new ≡ self.old ++ duplicate_field_faults_in_group tokens.now (fields_of f.now)) }
+    fn report_duplicate_fields_in_group(
+        &mut self,
+        tokens: &Tokens,
+        f: &OptionalFieldGroup,
+    ) -> Result<(), AllocError>
+        ensures { OnOk result (self.new ≡ self.old ++ duplicate_field_faults_in_group tokens.now (optional_field_group_of f.now)) }
     {
         match f {
-            Fields::Empty => Ok(()),
-            Fields::Listed(l) => self.check_type_fields(tokens, &l.written),
+            OptionalFieldGroup::Empty => Ok(()),
+            OptionalFieldGroup::Listed(l) => self.report_duplicate_fields_in_type(
+                tokens, &l.written,
+            ),
         }
     }
 
     /// Reports the duplicate fields of the records in the types of a TYPE section.
-    fn check_type_section_fields(
+    fn report_duplicate_fields_in_type_section(
         &mut self,
         tokens: &Tokens,
         section: &Option<Vec<TypeDeclaration>>,
@@ -372,14 +386,14 @@ impl FoundFaults {
     {
         if let Some(types) = section {
             for t in types {
-                self.check_type_fields(tokens, &t.written)?;
+                self.report_duplicate_fields_in_type(tokens, &t.written)?;
             }
         }
         Ok(())
     }
 
     /// Reports the duplicate fields of the records in the types of a VAR section.
-    fn check_variable_section_fields(
+    fn report_duplicate_fields_in_variable_section(
         &mut self,
         tokens: &Tokens,
         section: &Option<Vec<VariableDeclaration>>,
@@ -390,14 +404,14 @@ impl FoundFaults {
     {
         if let Some(variables) = section {
             for v in variables {
-                self.check_type_fields(tokens, &v.written)?;
+                self.report_duplicate_fields_in_type(tokens, &v.written)?;
             }
         }
         Ok(())
     }
 
     /// Reports the duplicate fields of the records in the types of formal parameters.
-    fn check_formal_fields(
+    fn report_duplicate_fields_in_formals(
         &mut self,
         tokens: &Tokens,
         formals: &Option<Vec<ParameterSection>>,
@@ -407,7 +421,7 @@ impl FoundFaults {
     {
         if let Some(sections) = formals {
             for s in sections {
-                self.check_type_fields(tokens, &s.written)?;
+                self.report_duplicate_fields_in_type(tokens, &s.written)?;
             }
         }
         Ok(())
@@ -421,7 +435,7 @@ impl FoundFaults {
             (self.new ≡ self.old ++ procedure_declaration_faults tokens.now (procedure_of p.now)) }
     {
         self.check_closing_name(tokens, p.name, p.closing)?;
-        self.check_formal_fields(tokens, &p.formals)?;
+        self.report_duplicate_fields_in_formals(tokens, &p.formals)?;
         let mut own = Vec::with_capacity(self.alloc, MAX_NAMES_COMPARED_PAIRWISE)?;
         append_formal_names(&mut own, &p.formals)?;
         self.check_block(tokens, own, &p.block)
@@ -441,8 +455,8 @@ impl FoundFaults {
         append_variable_names(&mut names, &b.variables)?;
         append_procedure_names(&mut names, &b.procedures)?;
         self.report_duplicates(tokens, &names)?;
-        self.check_type_section_fields(tokens, &b.types)?;
-        self.check_variable_section_fields(tokens, &b.variables)?;
+        self.report_duplicate_fields_in_type_section(tokens, &b.types)?;
+        self.report_duplicate_fields_in_variable_section(tokens, &b.variables)?;
         for p in &b.procedures {
             self.check_procedure(tokens, p)?;
         }

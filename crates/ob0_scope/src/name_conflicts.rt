@@ -10,9 +10,9 @@ ghost use Rattle.std.specs.Prelude.{◌≡◌, ◌↔◌, IfOk, None, not, optio
 ghost use Rattle.std.specs.List.{position_from};
 ghost use Rattle.ob0_tree.specs.ParsedModule.{named_tree_of};
 ghost use Rattle.ob0_tree.specs.View.{block_of, procedure_of};
-ghost use Rattle.ob0_language_names.specs.Occurrences.{Free, bindings, first_name_conflict, first_difference};
+ghost use Rattle.ob0_language_names.specs.Occurrences.{IsFreeName, bindings, first_name_conflict, first_difference};
 ghost use Rattle.ob0_scope.specs.declared.name_conflicts.FirstConflict.TheVariants.{Occurrence};
-ghost use Rattle.ob0_scope.specs.Renames.{OccursNowhere, have_same_binding, namesake, other_declaration, conflict_of};
+ghost use Rattle.ob0_scope.specs.Renames.{OccursNowhere, have_same_binding, namesake, other_declaration_in_conflict, conflict_of};
 ghost use Rattle.ob0_scope_table.specs.Resolution.{ordinal_in};
 ghost use Rattle.ob0_language_names.specs.Scopes.{renamed};
 ghost use Rattle.ob0_scope.specs.BlockSearches.{namesake_in_block, namesake_in_procedure, has_name_and_other_binding, is_bound_to_declaration, namesake_among};
@@ -48,10 +48,10 @@ pub fn captures(
 ) -> Result<Option<FirstConflict>, AllocError>
     ensures first { IfOk result (λ found. option_map conflict_of found
         ≡ first_name_conflict (named_tree_of names.now.module_read) declaration new.now) }
-    ensures other { IfOk result (λ found. other_declaration found
+    ensures other { IfOk result (λ found. other_declaration_in_conflict found
         ≡ namesake (named_tree_of names.now.module_read) declaration new.now) }
     ensures free { IfOk result
-        (λ found. found ≡ None ↔ Free (named_tree_of names.now.module_read) declaration new.now) }
+        (λ found. found ≡ None ↔ IsFreeName (named_tree_of names.now.module_read) declaration new.now) }
 {
     if declaration >= PREDECLARED_COUNT && occurs_nowhere(names.tokens(), new) {
         return Ok(None);
@@ -92,7 +92,7 @@ fn first_captured_occurrence(
         (bindings (named_tree_of names.now.module_read)))) }
 {
     let ordinals = ordinals_after_rename(alloc, names, declaration, new)?;
-    match first_changed_occurrence(names, &ordinals) {
+    match first_rebound_occurrence(names, &ordinals) {
         Some(occurrence) => Ok(Some(FirstConflict::Occurrence(occurrence))),
         None => Ok(None),
     }
@@ -101,7 +101,7 @@ fn first_captured_occurrence(
 /// Returns the index of the first occurrence, among all occurrences in text order, to which the
 /// table `ordinals` gives another ordinal than the module's own table. Returns None if there is no
 /// such occurrence.
-fn first_changed_occurrence(names: &Resolved, ordinals: &[OrdinalEntry]) -> Option<usize>
+fn first_rebound_occurrence(names: &Resolved, ordinals: &[OrdinalEntry]) -> Option<usize>
     ensures { result
         ≡ position_from (λ token. not
         (have_same_binding (ordinal_in ordinals.now token) (ordinal_in names.now.ordinals token))) 0
@@ -144,7 +144,7 @@ fn namesake(
         declaration,
         new,
     };
-    sought.find_in_block(alloc, Vec::new(alloc), names.module().block())
+    sought.find_namesake_in_block(alloc, Vec::new(alloc), names.module().block())
 }
 
 /// A search for another declaration with a given name: the text, the ordinal to which each token is
@@ -211,7 +211,7 @@ impl<'t> NamesakeSearch<'t> {
     /// Returns None if there is no such declaration. `own` has the tokens of the parameters, which
     /// count as declared in the block.
     #[cycle(blocks)]
-    fn find_in_block(
+    fn find_namesake_in_block(
         &self,
         alloc: Global,
         own: Vec<usize>,
@@ -224,20 +224,24 @@ impl<'t> NamesakeSearch<'t> {
         append_block_names(&mut tokens, b)?;
         let mut found = self.find_namesake_among(&tokens);
         for p in &b.procedures {
-            found = found.or(self.find_in_procedure(alloc, p)?);
+            found = found.or(self.find_namesake_in_procedure(alloc, p)?);
         }
         Ok(found)
     }
 
-    /// Searches the block of a procedure in the same way as `find_in_block`, including the blocks
-    /// inside it. Returns the ordinal of the declaration found, or None. The procedure's parameters
-    /// count as declared in the block.
+    /// Searches the block of a procedure in the same way as `find_namesake_in_block`, including the
+    /// blocks inside it. Returns the ordinal of the declaration found, or None. The procedure's
+    /// parameters count as declared in the block.
     #[cycle(blocks)]
-    fn find_in_procedure(&self, alloc: Global, p: &Procedure) -> Result<Option<usize>, AllocError>
+    fn find_namesake_in_procedure(
+        &self,
+        alloc: Global,
+        p: &Procedure,
+    ) -> Result<Option<usize>, AllocError>
         ensures { IfOk result (λ other. other ≡ namesake_in_procedure self.now (procedure_of p.now)) }
     {
         let mut own = Vec::new(alloc);
         append_formal_names(&mut own, &p.formals)?;
-        self.find_in_block(alloc, own, &p.block)
+        self.find_namesake_in_block(alloc, own, &p.block)
     }
 }

@@ -9,9 +9,9 @@ ghost use Rattle.std.specs.Prelude.{◌≡◌, ◌≤◌, IfOk, false, length, n
 ghost use Rattle.std.specs.List.{position_from};
 ghost use Rattle.std.specs.List.Sorted.{IsNonDecreasingBy, IsPartitionPoint};
 ghost use Rattle.ob0_scan.specs.declared.lexeme.Token as token;
-ghost use Rattle.ob0_tree.specs.Order.{AreIdentifierTokens, AreAscending};
+ghost use Rattle.ob0_tree.specs.Order.{AreIdentifierTokens, AreAscendingWithin};
 ghost use Rattle.ob0_scope.specs.Listing.{TokensAreDisjoint, first_bound_token, is_identifier, is_identifier_at_offset, omitted_token, tokens_bound_from};
-ghost use Rattle.ob0_scope.specs.NamesAtPlaces.{IsRenamedAt, name_at_offset, tokens_bound_to};
+ghost use Rattle.ob0_scope.specs.NamesAtPlaces.{RenamingChangesExactlyTokens, name_at_offset, tokens_bound_to};
 
 use ob0_scan::{Token, TokenKind};
 use ob0_scope_table::{OrdinalEntry, Resolved, same_ordinal};
@@ -19,7 +19,7 @@ use std::alloc::{AllocError, Global};
 
 /// An identifier that is bound to a declaration: its token index, and the declaration's ordinal.
 #[derive(Clone, Copy, PartialEq, Eq)]
-pub struct Named {
+pub struct BoundName {
     pub token: usize,
     pub ordinal: usize,
 }
@@ -27,7 +27,7 @@ pub struct Named {
 /// Returns the name that contains the byte offset `offset` or ends there. The name may be
 /// predeclared. A closing name of a procedure counts as the procedure's name. Returns None if there
 /// is no identifier at `offset`, and at a field, the module's name or an unbound name.
-pub fn name_at(names: &Resolved, offset: usize) -> Option<Named>
+pub fn name_at(names: &Resolved, offset: usize) -> Option<BoundName>
     ensures { result ≡ name_at_offset names.now.module_read offset }
 {
     let tokens = names.module().tokens();
@@ -35,7 +35,7 @@ pub fn name_at(names: &Resolved, offset: usize) -> Option<Named>
     let _scanned = tokens.text();
     match first_identifier_at_offset(tokens.tokens(), offset) {
         Some(token) => match names.ordinal_at(token) {
-            Some(ordinal) => Some(Named { token, ordinal }),
+            Some(ordinal) => Some(BoundName { token, ordinal }),
             None => None,
         },
         None => None,
@@ -116,11 +116,11 @@ pub fn tokens_changed_by_rename(
     ensures bound { IfOk result
         (λ found. found.items ≡ tokens_bound_to names.now.module_read declaration true) }
     ensures ascend { IfOk result
-        (λ found. AreAscending 0 found.items (length names.now.module_read.source.tokens)) }
+        (λ found. AreAscendingWithin 0 found.items (length names.now.module_read.source.tokens)) }
     ensures are_identifiers { IfOk result
         (λ found. AreIdentifierTokens names.now.module_read.source.tokens found.items) }
     ensures renamed { IfOk result
-        (λ found. IsRenamedAt names.now.module_read declaration found.items) }
+        (λ found. RenamingChangesExactlyTokens names.now.module_read declaration found.items) }
 {
     // The proof needs the contract of this call.
     let _ = names.module();
@@ -134,7 +134,7 @@ fn first_identifier_at_offset(tokens: &[Token], offset: usize) -> Option<usize>
     ensures { TokensAreDisjoint 0 tokens.now
         → result ≡ position_from (is_identifier_at_offset offset) 0 tokens.now }
 {
-    let place = count_ending_before(tokens, offset);
+    let place = count_tokens_before_offset(tokens, offset);
     if place >= tokens.len() {
         return None;
     }
@@ -152,7 +152,7 @@ fn first_identifier_at_offset(tokens: &[Token], offset: usize) -> Option<usize>
 }
 
 /// Returns the number of tokens that end before the byte offset `offset`.
-fn count_ending_before(tokens: &[Token], offset: usize) -> usize
+fn count_tokens_before_offset(tokens: &[Token], offset: usize) -> usize
     ensures bound { result ≤ length tokens.now }
     ensures point { IsNonDecreasingBy (λ (t : token.Token). t.span.end) tokens.now
         → IsPartitionPoint (λ (t : token.Token). nat_lt t.span.end offset ≡ true)

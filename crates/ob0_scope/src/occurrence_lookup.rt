@@ -4,7 +4,7 @@
 ghost use Rattle.std.specs.Prelude.{◌≡◌, IfOk, map, length, replicate, None};
 ghost use Rattle.ob0_tree.specs.ParsedModule.{named_tree_of};
 ghost use Rattle.ob0_scope_table.specs.Resolution.{ordinal_in};
-ghost use Rattle.ob0_language_names.specs.OccurrenceLookup.{resolve_at_occurrences};
+ghost use Rattle.ob0_language_names.specs.OccurrenceLookup.{resolve_name_at_occurrences};
 ghost use Rattle.ob0_scope_numbering.specs.Marks.{zero_mark_at};
 ghost use Rattle.ob0_scope_numbering.specs.Marks.{with_marks};
 
@@ -16,13 +16,13 @@ use std::alloc::{AllocError, Global};
 /// Returns an entry for each occurrence of a module, in text order. The entry is the ordinal to
 /// which `name` would be bound if it replaced the occurrence. The entry is None if `name` would be
 /// unbound there.
-pub fn resolve_at_occurrences(
+pub fn resolve_name_at_occurrences(
     alloc: Global,
     names: &Resolved,
     name: &str,
 ) -> Result<Vec<Option<usize>>, AllocError>
     ensures { IfOk result
-        (λ found. found.items ≡ resolve_at_occurrences (named_tree_of names.now.module_read) name.now) }
+        (λ found. found.items ≡ resolve_name_at_occurrences (named_tree_of names.now.module_read) name.now) }
 {
     let ordinals = ordinals_with_replacement(alloc, names, name)?;
     ordinals_at(alloc, &ordinals, names.occurrences())
@@ -36,7 +36,7 @@ fn ordinals_with_replacement(
     name: &str,
 ) -> Result<Vec<OrdinalEntry>, AllocError>
     ensures { IfOk result (λ ordinals. map (ordinal_in ordinals.items) names.now.uses
-        ≡ resolve_at_occurrences (named_tree_of names.now.module_read) name.now) }
+        ≡ resolve_name_at_occurrences (named_tree_of names.now.module_read) name.now) }
 {
     let sought = occurrence_marks(alloc, names)?;
     let writing = Spellings {

@@ -9,7 +9,7 @@ use Rattle.ob0_tree.specs.Tree.{Sort, Tree, block, constant, constants, declares
 use Rattle.ob0_language_names.specs.Names.{naming_by_spelling}
 use Rattle.ob0_language_names.specs.Parts.{further_names, names_in_list}
 use Rattle.ob0_language_names.specs.Scopes.{declare_names, ordinal_of}
-use Rattle.ob0_scope_numbering.specs.MarkWalk.{WalkState, state_after_heading, visit_identifier, visit_identifiers, state_after_procedure_block, with_oldest_bindings, with_mark, number_declarations, number_declaration, visit_part, with_visible_names_from, visit_block, visit_constant, visit_constant_section, visit_constants, visit_formals, visit_procedure, visit_procedures, visit_section, visit_sections, visit_type, visit_type_section, visit_types, visit_variable, visit_variable_section, visit_variables}
+use Rattle.ob0_scope_numbering.specs.MarkWalk.{WalkState, state_after_heading, visit_identifier, visit_identifiers, state_after_procedure_block, with_oldest_bindings, with_mark, number_declarations, number_declaration, visit_nondeclaring_tree, with_visible_names_from, visit_block, visit_constant, visit_constant_section, visit_constants, visit_formals, visit_procedure, visit_procedures, visit_parameter_section, visit_parameter_sections, visit_type, visit_type_section, visit_types, visit_variable, visit_variable_section, visit_variables}
 use Rattle.ob0_scope_numbering.specs.Marks.{OrdinalMark}
 use Rattle.ob0_scope_numbering.specs.Written.{Spellings, spelling_at}
 
@@ -149,10 +149,10 @@ module _ (out : ℕ → Bool) (a b : Spellings) (same_name : (i : ℕ) → out i
       adds_then (found_adds r.0 r.1 x y at)
       (all_add rs (visit_identifier r.0 r.1 x) (visit_identifier r.0 r.1 y) (all_see x y (visit_identifier r.0 r.1 x) (visit_identifier r.0 r.1 y) at (found_keeps r.0 r.1 x) (found_keeps r.0 r.1 y)))
 
-  pub used_adds : {s : Sort} (t : Tree ℕ s) (x y : WalkState) → Sees x y → Adds x y (visit_part t x) (visit_part t y)
+  pub used_adds : {s : Sort} (t : Tree ℕ s) (x y : WalkState) → Sees x y → Adds x y (visit_nondeclaring_tree t x) (visit_nondeclaring_tree t y)
   used_adds t x y at = all_add (identifiers role.Declaring t) x y at
 
-  pub used_goes : {s : Sort} (t : Tree ℕ s) (x y : WalkState) → Beside x y → Goes x y (visit_part t x) (visit_part t y)
+  pub used_goes : {s : Sort} (t : Tree ℕ s) (x y : WalkState) → Beside x y → Goes x y (visit_nondeclaring_tree t x) (visit_nondeclaring_tree t y)
   used_goes t x y at =
       let k = all_keep (identifiers role.Declaring t) x in
       let l = all_keep (identifiers role.Declaring t) y in
@@ -209,7 +209,7 @@ module _ (out : ℕ → Bool) (a b : Spellings) (same_name : (i : ℕ) → out i
   then_shown n m {x' = x'} {y' = y'} e p = record { at = shown_goes n m x' y' e p.at; adds = record { firsts = p.adds.firsts; seconds = p.adds.seconds; first_is = p.adds.first_is; second_is = p.adds.second_is; alike = p.adds.alike } }
 
   group_goes : {s : Sort} (is : List ℕ) (t : Tree ℕ s) (x y : WalkState) → AllOut out is → Beside x y
-      → Goes x y (with_visible_names_from (length x.declaration_tokens) (visit_part t (number_declarations is x))) (with_visible_names_from (length y.declaration_tokens) (visit_part t (number_declarations is y)))
+      → Goes x y (with_visible_names_from (length x.declaration_tokens) (visit_nondeclaring_tree t (number_declarations is x))) (with_visible_names_from (length y.declaration_tokens) (visit_nondeclaring_tree t (number_declarations is y)))
   group_goes is t x y o at =
       let one = all_numbered is x y o at in
       then_shown (length x.declaration_tokens) (length y.declaration_tokens) (ap length at.declaration_tokens) (goes_then one (used_goes t (number_declarations is x) (number_declarations is y) one.at))
@@ -243,16 +243,16 @@ module _ (out : ℕ → Bool) (a b : Spellings) (same_name : (i : ℕ) → out i
       let one = group_goes (names_in_list ns) t x y (listed_out ns named.0) at in
       goes_then one (variables_go gs (visit_variable (declares_variable ns t) x) (visit_variable (declares_variable ns t) y) parts.1 one.at)
 
-  section_goes : (f : Tree ℕ section) (x y : WalkState) → AllOut out (identifier_names f) → Beside x y → Goes x y (visit_section f x) (visit_section f y)
+  section_goes : (f : Tree ℕ section) (x y : WalkState) → AllOut out (identifier_names f) → Beside x y → Goes x y (visit_parameter_section f x) (visit_parameter_section f y)
   section_goes (value_section ns t) x y o at = group_goes (names_in_list ns) t x y (listed_out ns (out_parts out (identifiers role.Declaring ns) (identifiers role.Declaring t) o).0) at
   section_goes (variable_section ns t) x y o at = group_goes (names_in_list ns) t x y (listed_out ns (out_parts out (identifiers role.Declaring ns) (identifiers role.Declaring t) o).0) at
 
-  sections_go : (fs : Tree ℕ (items further_section)) (x y : WalkState) → AllOut out (identifier_names fs) → Beside x y → Goes x y (visit_sections fs x) (visit_sections fs y)
+  sections_go : (fs : Tree ℕ (items further_section)) (x y : WalkState) → AllOut out (identifier_names fs) → Beside x y → Goes x y (visit_parameter_sections fs x) (visit_parameter_sections fs y)
   sections_go end x y o at = goes_nowhere x y at
   sections_go (more (then_section f) fs) x y o at =
       let parts = out_parts out (identifiers role.Declaring f) (identifiers role.Declaring fs) o in
       let one = section_goes f x y parts.0 at in
-      goes_then one (sections_go fs (visit_section f x) (visit_section f y) parts.1 one.at)
+      goes_then one (sections_go fs (visit_parameter_section f x) (visit_parameter_section f y) parts.1 one.at)
 
   pub formals_go : (fs : Tree ℕ (maybe formals)) (x y : WalkState) → AllOut out (identifier_names fs) → Beside x y → Goes x y (visit_formals fs x) (visit_formals fs y)
   formals_go none x y o at = goes_nowhere x y at
@@ -260,7 +260,7 @@ module _ (out : ℕ → Bool) (a b : Spellings) (same_name : (i : ℕ) → out i
   formals_go (one (some_formals f fs)) x y o at =
       let parts = out_parts out (identifiers role.Declaring f) (identifiers role.Declaring fs) o in
       let one = section_goes f x y parts.0 at in
-      goes_then one (sections_go fs (visit_section f x) (visit_section f y) parts.1 one.at)
+      goes_then one (sections_go fs (visit_parameter_section f x) (visit_parameter_section f y) parts.1 one.at)
 
   pub constant_section_goes : (cs : Tree ℕ (maybe constants)) (x y : WalkState) → AllOut out (identifier_names cs) → Beside x y → Goes x y (visit_constant_section cs x) (visit_constant_section cs y)
   constant_section_goes none x y o at = goes_nowhere x y at

@@ -7,7 +7,7 @@ use Rattle.std.proofs.Math.Seq.{drop-append_seam}
 use Rattle.std.proofs.lemmas.Bool.{and_parts, lt-ltb}
 use Rattle.ob0_tree.specs.declared.tree.Role.{Role}
 use Rattle.ob0_tree.specs.declared.tree.Role.TheVariants as role
-use Rattle.ob0_tree.specs.Order.{AreAscending, identifier_names, names_without_roles}
+use Rattle.ob0_tree.specs.Order.{AreAscendingWithin, identifier_names, names_without_roles}
 use Rattle.ob0_tree.specs.Tree.{Tree, block, body, declares, declares_procedure, end, forms_block, identifiers, is_module, item, items, maybe, module_text, more, procedure}
 use Rattle.ob0_tree.proofs.AscendingNumbers.{AllBelow, ascend_first, ascend_past, ascend_second, before_one, below_more, below_second, leaves_append}
 use Rattle.ob0_language_names.specs.Names.{Name}
@@ -15,7 +15,7 @@ use Rattle.ob0_language_names.specs.Parts.{procedure_name}
 use Rattle.ob0_scope_table.specs.OneBody.{closing_name, is_range_in_body_of_block, is_range_in_one_body, is_range_in_body_of_procedure, is_range_in_body_of_procedures, is_outside_range}
 use Rattle.ob0_scope_table.specs.Resolution.{declaring_names}
 use Rattle.ob0_scope_table.proofs.Plain.{declares_nothing, declaring_names-append}
-use Rattle.ob0_scope_numbering.specs.MarkWalk.{WalkState, state_after_heading, with_mark, number_declaration, put_ordinal, initial_walk_state, visit_part, visit_block, visit_constant_section, visit_formals, visit_module, visit_procedure, visit_procedures, visit_type_section, visit_variable_section}
+use Rattle.ob0_scope_numbering.specs.MarkWalk.{WalkState, state_after_heading, with_mark, number_declaration, put_ordinal, initial_walk_state, visit_nondeclaring_tree, visit_block, visit_constant_section, visit_formals, visit_module, visit_procedure, visit_procedures, visit_type_section, visit_variable_section}
 use Rattle.ob0_scope_numbering.specs.Marks.{OrdinalMark}
 use Rattle.ob0_scope_numbering.specs.BodyWalk.{with_declarations_before, prefix_before, with_procedure_skipped, renumber_block, renumber_procedure, renumber_procedures}
 use Rattle.ob0_scope_numbering.specs.Written.{Spellings, spelling_at}
@@ -65,9 +65,9 @@ inside (declares_procedure x fs b closing) = x ∷ names_without_roles (identifi
 procedure_ends : (p : Tree ℕ (item procedure)) → identifier_names p ≡ inside p ++ (closing_name p ∷ [])
 procedure_ends (declares_procedure x fs b closing) = simp (leaves_append, append_assoc)
 
-procedure_below : (low : ℕ) (p : Tree ℕ (item procedure)) (from to : ℕ) → closing_name p < low → AreAscending from (identifier_names p) to → AllBelow low (identifier_names p)
+procedure_below : (low : ℕ) (p : Tree ℕ (item procedure)) (from to : ℕ) → closing_name p < low → AreAscendingWithin from (identifier_names p) to → AllBelow low (identifier_names p)
 procedure_below low p from to less h =
-    let ends = before_one from (inside p) (closing_name p) [] to (subst (λ l. AreAscending from l to) (procedure_ends p) h) in
+    let ends = before_one from (inside p) (closing_name p) [] to (subst (λ l. AreAscendingWithin from l to) (procedure_ends p) h) in
     subst (AllBelow low) (sym (procedure_ends p)) (both (inside p) (below_more (closing_name p) low (inside p) (omega (arith, less)) ends))
   where
     both : (xs : List ℕ) → AllBelow low xs → AllBelow low (xs ++ (closing_name p ∷ []))
@@ -75,14 +75,14 @@ procedure_below low p from to less h =
     both (x ∷ xs) h = (h.0, both xs h.1)
 
 -- The tokens after a procedure ascend from its closing name.
-ascend_after : (p : Tree ℕ (item procedure)) (rest : List ℕ) (from to : ℕ) → AreAscending from (identifier_names p ++ rest) to → AreAscending (closing_name p + 1) rest to
+ascend_after : (p : Tree ℕ (item procedure)) (rest : List ℕ) (from to : ℕ) → AreAscendingWithin from (identifier_names p ++ rest) to → AreAscendingWithin (closing_name p + 1) rest to
 ascend_after p rest from to h =
     let split : identifier_names p ++ rest ≡ inside p ++ (closing_name p ∷ rest) = ap (λ l. l ++ rest) (procedure_ends p) ∙ append_assoc (inside p) (closing_name p ∷ []) rest in
-    ascend_past from (inside p) (closing_name p) rest to (subst (λ l. AreAscending from l to) split h)
+    ascend_past from (inside p) (closing_name p) rest to (subst (λ l. AreAscendingWithin from l to) split h)
 
 -- ---- the walks
 
-module _ (old new : Spellings) (all : List ℕ) (bound low high : ℕ) (same : (i : ℕ) → is_outside_range low high i ≡ true → spelling_at old i ≡ spelling_at new i) (rise : AreAscending 0 all bound) where
+module _ (old new : Spellings) (all : List ℕ) (bound low high : ℕ) (same : (i : ℕ) → is_outside_range low high i ≡ true → spelling_at old i ≡ spelling_at new i) (rise : AreAscendingWithin 0 all bound) where
   abbrev out : ℕ → Bool
   out = is_outside_range low high
 
@@ -126,7 +126,7 @@ module _ (old new : Spellings) (all : List ℕ) (bound low high : ℕ) (same : (
   caught x extra v w at e =
       let split : all ≡ v.declaration_tokens ++ (at.behind ++ (x ∷ extra)) = e ∙ (ap (λ ds. ds ++ (x ∷ extra)) at.is ∙ append_assoc v.declaration_tokens at.behind (x ∷ extra)) in
       let rest : drop (length v.declaration_tokens) all ≡ at.behind ++ (x ∷ extra) = ap (drop (length v.declaration_tokens)) split ∙ drop-append_seam v.declaration_tokens (at.behind ++ (x ∷ extra)) in
-      let low_ones = before_one 0 w.declaration_tokens x extra bound (subst (λ l. AreAscending 0 l bound) e rise) in
+      let low_ones = before_one 0 w.declaration_tokens x extra bound (subst (λ l. AreAscendingWithin 0 l bound) e rise) in
       let below = below_second x v.declaration_tokens at.behind (subst (AllBelow x) at.is low_ones) in
       record {
         first = at.first;
@@ -177,22 +177,22 @@ module _ (old new : Spellings) (all : List ℕ) (bound low high : ℕ) (same : (
   -- one procedure
   abbrev Rest : Tree ℕ (items procedure) → Tree ℕ (maybe body) → Type 0
   Rest ps statements =
-      (o w v : WalkState) (from to : ℕ) (extra : List ℕ) → is_range_in_body_of_procedures low high ps statements ≡ true → AreAscending from (identifier_names ps ++ identifier_names statements) to
+      (o w v : WalkState) (from to : ℕ) (extra : List ℕ) → is_range_in_body_of_procedures low high ps statements ≡ true → AreAscendingWithin from (identifier_names ps ++ identifier_names statements) to
       → all ≡ w.declaration_tokens ++ (declaring_names (identifiers role.Declaring ps) ++ extra) → Itself w → Near o w → Behind v w
-      → Reaches o w v (visit_part statements (visit_procedures ps o)) (visit_part statements (visit_procedures ps w)) (renumber_procedures put_ordinal all low ps statements v)
+      → Reaches o w v (visit_nondeclaring_tree statements (visit_procedures ps o)) (visit_nondeclaring_tree statements (visit_procedures ps w)) (renumber_procedures put_ordinal all low ps statements v)
 
   abbrev Here : Tree ℕ (item procedure) → Type 0
   Here q =
-      (o w v : WalkState) (from to : ℕ) (extra : List ℕ) → is_range_in_body_of_procedure low high q ≡ true → high ≤ closing_name q → AreAscending from (identifier_names q) to
+      (o w v : WalkState) (from to : ℕ) (extra : List ℕ) → is_range_in_body_of_procedure low high q ≡ true → high ≤ closing_name q → AreAscendingWithin from (identifier_names q) to
       → all ≡ w.declaration_tokens ++ (declaring_names (identifiers role.Declaring q) ++ extra) → Itself w → Near o w → On v w
       → Reaches o w v (visit_procedure q o) (visit_procedure q w) (renumber_procedure put_ordinal all low q v)
 
   -- One more procedure is either skipped, or has the body in it.
   one_procedure : (q : Tree ℕ (item procedure)) (ps : Tree ℕ (items procedure)) (statements : Tree ℕ (maybe body)) (o w v : WalkState) (from to : ℕ) (rest : List ℕ) → Rest ps statements → Here q
       → all ≡ w.declaration_tokens ++ (declaring_names (identifiers role.Declaring q) ++ (declaring_names (identifiers role.Declaring ps) ++ rest)) → Itself w → Near o w → On (with_declarations_before all (procedure_name q) v) w
-      → AreAscending from (identifier_names q ++ (identifier_names ps ++ identifier_names statements)) to → (b : Bool) → nat_lt (closing_name q) low ≡ b
+      → AreAscendingWithin from (identifier_names q ++ (identifier_names ps ++ identifier_names statements)) to → (b : Bool) → nat_lt (closing_name q) low ≡ b
       → (if b then is_range_in_body_of_procedures low high ps statements else nat_le high (closing_name q) && is_range_in_body_of_procedure low high q) ≡ true
-      → Reaches o w v (visit_part statements (visit_procedures ps (visit_procedure q o))) (visit_part statements (visit_procedures ps (visit_procedure q w)))
+      → Reaches o w v (visit_nondeclaring_tree statements (visit_procedures ps (visit_procedure q o))) (visit_nondeclaring_tree statements (visit_procedures ps (visit_procedure q w)))
       (if b then renumber_procedures put_ordinal all low ps statements (with_procedure_skipped (procedure_name q) (with_declarations_before all (procedure_name q) v)) else renumber_procedure put_ordinal all low q (with_declarations_before all (procedure_name q) v))
   one_procedure q ps statements o w v from to rest later here first at near on parts true e inside_them =
       let x = procedure_name q in
@@ -233,7 +233,7 @@ module _ (old new : Spellings) (all : List ℕ) (bound low high : ℕ) (same : (
       let p₁ = procedures_passed nowhere written new value ps w₁ w₁.scope (7 + length w₁.declaration_tokens) (at_itself passed.at) in
       let p₂ = used_passed nowhere written new value statements w₂ w₂.scope (7 + length w₂.declaration_tokens) tt (at_itself p₁.at) in
       let t₁ : tokens_of n.adds.seconds ≡ identifier_names ps = tokens_added w₁.marks w₂.marks n.adds.seconds (identifier_names ps) n.adds.second_is p₁.tokens in
-      let t₂ : tokens_of m.adds.seconds ≡ identifier_names statements = tokens_added w₂.marks (visit_part statements w₂).marks m.adds.seconds (identifier_names statements) m.adds.second_is p₂.tokens in
+      let t₂ : tokens_of m.adds.seconds ≡ identifier_names statements = tokens_added w₂.marks (visit_nondeclaring_tree statements w₂).marks m.adds.seconds (identifier_names statements) m.adds.second_is p₂.tokens in
       let c₁ = covers_all out n.adds.seconds (subst (AllOut out) (sym t₁) outside.0) in
       let c₂ = covers_all out m.adds.seconds (subst (AllOut out) (sym t₂) outside.1) in
       record {
@@ -244,7 +244,7 @@ module _ (old new : Spellings) (all : List ℕ) (bound low high : ℕ) (same : (
       }
 
   mutual
-    pub block_reached : (b : Tree ℕ block) (o w v : WalkState) (from to : ℕ) (extra : List ℕ) → is_range_in_body_of_block low high b ≡ true → AreAscending from (identifier_names b) to
+    pub block_reached : (b : Tree ℕ block) (o w v : WalkState) (from to : ℕ) (extra : List ℕ) → is_range_in_body_of_block low high b ≡ true → AreAscendingWithin from (identifier_names b) to
         → all ≡ w.declaration_tokens ++ (declaring_names (identifiers role.Declaring b) ++ extra) → Itself w → Near o w → On v w → Reaches o w v (visit_block b o) (visit_block b w) (renumber_block put_ordinal all low b v)
     block_reached (forms_block (declares cs ts vs ps) statements) o w v from to extra inside_it rising declared at near on =
         let c = identifiers role.Declaring cs in
@@ -253,7 +253,7 @@ module _ (old new : Spellings) (all : List ℕ) (bound low high : ℕ) (same : (
         let p = identifiers role.Declaring ps in
         let s = identifiers role.Declaring statements in
         let split : names_without_roles ((c ++ (t ++ (g ++ p))) ++ s) ≡ names_without_roles (c ++ (t ++ g)) ++ (names_without_roles p ++ names_without_roles s) = simp (leaves_append, append_assoc) in
-        let parts = subst (λ l. AreAscending from l to) split rising in
+        let parts = subst (λ l. AreAscendingWithin from l to) split rising in
         let before = below_out low high (names_without_roles (c ++ (t ++ g))) (below_procedures low high ps statements (names_without_roles (c ++ (t ++ g))) from to inside_it parts) in
         let oc = out_parts out c (t ++ g) before in
         let ot = out_parts out t g oc.1 in
@@ -280,24 +280,24 @@ module _ (old new : Spellings) (all : List ℕ) (bound low high : ℕ) (same : (
         let rest = procedures_reached ps statements o₃ w₃ v₃ from to extra inside_it (ascend_second from (names_without_roles (c ++ (t ++ g))) (names_without_roles p ++ names_without_roles s) to parts) here (at_itself passed.at) n.at (on_behind v₃ w₃ m.at) in
         joined_reach o w v o₃ w₃ v₃ _ _ _ n m.adds rest
 
-    pub procedures_reached : (ps : Tree ℕ (items procedure)) (statements : Tree ℕ (maybe body)) (o w v : WalkState) (from to : ℕ) (extra : List ℕ) → is_range_in_body_of_procedures low high ps statements ≡ true → AreAscending from (identifier_names ps ++ identifier_names statements) to
+    pub procedures_reached : (ps : Tree ℕ (items procedure)) (statements : Tree ℕ (maybe body)) (o w v : WalkState) (from to : ℕ) (extra : List ℕ) → is_range_in_body_of_procedures low high ps statements ≡ true → AreAscendingWithin from (identifier_names ps ++ identifier_names statements) to
         → all ≡ w.declaration_tokens ++ (declaring_names (identifiers role.Declaring ps) ++ extra) → Itself w → Near o w → Behind v w
-        → Reaches o w v (visit_part statements (visit_procedures ps o)) (visit_part statements (visit_procedures ps w)) (renumber_procedures put_ordinal all low ps statements v)
+        → Reaches o w v (visit_nondeclaring_tree statements (visit_procedures ps o)) (visit_nondeclaring_tree statements (visit_procedures ps w)) (renumber_procedures put_ordinal all low ps statements v)
     procedures_reached end statements o w v from to extra inside_it rising declared at near behind =
         let n = used_goes out old new same statements o w near in
         let m = used_adds (λ i. true) new new nothing_new statements v w (record { first = behind.first; second = behind.second; scope = behind.scope }) in
-        record { near = n; added = m.firsts; is = m.first_is; covers = covers_part o w (visit_part statements o) (visit_part statements w) v (visit_part statements v) n.adds m }
+        record { near = n; added = m.firsts; is = m.first_is; covers = covers_part o w (visit_nondeclaring_tree statements o) (visit_nondeclaring_tree statements w) v (visit_nondeclaring_tree statements v) n.adds m }
     procedures_reached (more q ps) statements o w v from to rest inside_it rising declared at near behind =
         let iq = identifiers role.Declaring q in
         let ips = identifiers role.Declaring ps in
         let split : names_without_roles (iq ++ ips) ++ identifier_names statements ≡ identifier_names q ++ (identifier_names ps ++ identifier_names statements) = simp (leaves_append, append_assoc) in
-        let parts = subst (λ l. AreAscending from l to) split rising in
+        let parts = subst (λ l. AreAscendingWithin from l to) split rising in
         let first : all ≡ w.declaration_tokens ++ (declaring_names iq ++ (declaring_names ips ++ rest)) =
         declared ∙ (ap (λ l. w.declaration_tokens ++ (l ++ rest)) (declaring_names-append iq ips) ∙ ap (λ l. w.declaration_tokens ++ l) (append_assoc (declaring_names iq) (declaring_names ips) rest)) in
         let on = caught (procedure_name q) (others_declared q ++ (declaring_names ips ++ rest)) v w behind (first ∙ ap (λ l. w.declaration_tokens ++ (l ++ (declaring_names ips ++ rest))) (name_first q)) in
         one_procedure q ps statements o w v from to rest (procedures_reached ps statements) (procedure_reached q) first at near on parts (nat_lt (closing_name q) low) refl inside_it
 
-    pub procedure_reached : (q : Tree ℕ (item procedure)) (o w v : WalkState) (from to : ℕ) (extra : List ℕ) → is_range_in_body_of_procedure low high q ≡ true → high ≤ closing_name q → AreAscending from (identifier_names q) to
+    pub procedure_reached : (q : Tree ℕ (item procedure)) (o w v : WalkState) (from to : ℕ) (extra : List ℕ) → is_range_in_body_of_procedure low high q ≡ true → high ≤ closing_name q → AreAscendingWithin from (identifier_names q) to
         → all ≡ w.declaration_tokens ++ (declaring_names (identifiers role.Declaring q) ++ extra) → Itself w → Near o w → On v w
         → Reaches o w v (visit_procedure q o) (visit_procedure q w) (renumber_procedure put_ordinal all low q v)
     procedure_reached (declares_procedure x fs b closing) o w v from to extra inside_it le rising declared at near on =
@@ -305,10 +305,10 @@ module _ (old new : Spellings) (all : List ℕ) (bound low high : ℕ) (same : (
         let i = identifiers role.Declaring b in
         let last : List (Role × ℕ) = (role.ClosingName, closing) ∷ [] in
         let split : x ∷ names_without_roles (f ++ (i ++ last)) ≡ (x ∷ names_without_roles f) ++ (names_without_roles i ++ (closing ∷ [])) = simp (leaves_append, append_assoc) in
-        let parts = subst (λ l. AreAscending from l to) split rising in
+        let parts = subst (λ l. AreAscendingWithin from l to) split rising in
         let own = ascend_first from (names_without_roles i) (closing ∷ []) to (ascend_second from (x ∷ names_without_roles f) (names_without_roles i ++ (closing ∷ [])) to parts) in
         let joined : (x ∷ names_without_roles f) ++ (names_without_roles i ++ (closing ∷ [])) ≡ ((x ∷ names_without_roles f) ++ names_without_roles i) ++ (closing ∷ []) = sym (append_assoc (x ∷ names_without_roles f) (names_without_roles i) (closing ∷ [])) in
-        let before = below_out low high (x ∷ names_without_roles f) (below_block low high b (x ∷ names_without_roles f) from to inside_it (ascend_first from ((x ∷ names_without_roles f) ++ names_without_roles i) (closing ∷ []) to (subst (λ l. AreAscending from l to) joined parts))) in
+        let before = below_out low high (x ∷ names_without_roles f) (below_block low high b (x ∷ names_without_roles f) from to inside_it (ascend_first from ((x ∷ names_without_roles f) ++ names_without_roles i) (closing ∷ []) to (subst (λ l. AreAscendingWithin from l to) joined parts))) in
         let n = heading_goes out old new same x fs o w before.0 before.1 near in
         let m = heading_goes (λ i. true) new new nothing_new x fs v w refl (all_in (identifier_names fs)) on in
         let passed = heading_passed nowhere written new value x fs w w.scope (7 + length w.declaration_tokens) at in
@@ -342,7 +342,7 @@ module _ (old new : Spellings) (all : List ℕ) (bound low high : ℕ) (same : (
     pub alike : Alike out (visit_module m (initial_walk_state old)).marks (visit_module m (initial_walk_state new)).marks
     pub covers : Covers out (visit_module m (initial_walk_state new)).marks (marks_again all low m new)
 
-  pub module_marked : (m : Tree ℕ module_text) (to : ℕ) → is_range_in_one_body low high m ≡ true → AreAscending 0 (identifier_names m) to → all ≡ declaring_names (identifiers role.Declaring m) → Marked m
+  pub module_marked : (m : Tree ℕ module_text) (to : ℕ) → is_range_in_one_body low high m ≡ true → AreAscendingWithin 0 (identifier_names m) to → all ≡ declaring_names (identifiers role.Declaring m) → Marked m
   module_marked (is_module x b closing) to lies rising declared =
       let i = identifiers role.Declaring b in
       let last : List (Role × ℕ) = (role.ModuleName, closing) ∷ [] in
@@ -357,8 +357,8 @@ module _ (old new : Spellings) (all : List ℕ) (bound low high : ℕ) (same : (
       let at : Itself w₁ = record { writing = refl; scope = refl; next = refl; before = (at_start new).before } in
       let on : On w w₁ = record { first = refl; second = refl; scope = refl; declaration_tokens = refl; outside = tt } in
       let split : names_without_roles (i ++ last) ≡ names_without_roles i ++ (closing ∷ []) = leaves_append i last in
-      let parts : AreAscending 0 ((x ∷ names_without_roles i) ++ (closing ∷ [])) to = subst (λ l. AreAscending 0 (x ∷ l) to) split rising in
-      let own : AreAscending 0 (x ∷ names_without_roles i) to = ascend_first 0 (x ∷ names_without_roles i) (closing ∷ []) to parts in
+      let parts : AreAscendingWithin 0 ((x ∷ names_without_roles i) ++ (closing ∷ [])) to = subst (λ l. AreAscendingWithin 0 (x ∷ l) to) split rising in
+      let own : AreAscendingWithin 0 (x ∷ names_without_roles i) to = ascend_first 0 (x ∷ names_without_roles i) (closing ∷ []) to parts in
       let before = below_block low high b (x ∷ []) 0 to both.1 own in
       let here : all ≡ [] ++ (declaring_names i ++ []) = declared ∙ declaring_names-append i last in
       let r = block_reached b o₁ w₁ w (x + 1) to [] both.1 own.1 here at n.at on in

@@ -5,7 +5,7 @@ use Rattle.std.proofs.Math.ListN.{length-set}
 use Rattle.std.specs.List.{list_any}
 use Rattle.ob0_scan.specs.TextWithTokens.{IsScan, TextWithTokens}
 use Rattle.ob0_tree.specs.declared.tree.Role.TheVariants as role
-use Rattle.ob0_tree.specs.Order.{AreAscending, identifier_names}
+use Rattle.ob0_tree.specs.Order.{AreAscendingWithin, identifier_names}
 use Rattle.ob0_tree.specs.ParsedModule.{IsParsed, ParsedModule, tree_of}
 use Rattle.ob0_tree.specs.Tree.{identifiers}
 use Rattle.ob0_tree.proofs.Leaves.{ascending_bounds, ascending_lower, leaves_ascend}
@@ -26,7 +26,7 @@ use Rattle.ob0_scope_numbering.proofs.Passing.{HasMarks, at_start, module_passed
 use Rattle.ob0_scope_numbering.proofs.Tabled.{body_tabled, marks_again}
 use Rattle.ob0_scope_numbering.proofs.Tables.{kept_below, kept_elsewhere}
 
-covers_ascend : (out : ℕ → Bool) {ms ns : List OrdinalMark} (low high : ℕ) → Covers out ms ns → AreAscending low (tokens_of ms) high → AreAscending low (tokens_of ns) high
+covers_ascend : (out : ℕ → Bool) {ms ns : List OrdinalMark} (low high : ℕ) → Covers out ms ns → AreAscendingWithin low (tokens_of ms) high → AreAscendingWithin low (tokens_of ns) high
 covers_ascend out low high covers_none h = h
 covers_ascend out low high (covers_one m p) h = (h.0, covers_ascend out (m.token + 1) high p h.1)
 covers_ascend out low high (covers_more {ms} {ns} m e p) h = ascending_lower low (m.token + 1) (tokens_of ns) high (omega (arith, h.0)) (covers_ascend out (m.token + 1) high p h.1)
@@ -55,7 +55,7 @@ HasMarksAt out read [] = Unit {0}
 HasMarksAt out read (m ∷ ms) = (out m.token ≡ true → read m.token ≡ m.ordinal) × HasMarksAt out read ms
 
 -- Setting the entry of an earlier token doesn't change the later marks in a table.
-kept_marks : (out : ℕ → Bool) (table : List (Option ℕ)) (i : ℕ) (ordinal : Option ℕ) (ms : List OrdinalMark) (high : ℕ) → AreAscending (i + 1) (tokens_of ms) high → HasMarksAt out (ordinal_in table) ms → HasMarksAt out (ordinal_in (set table i ordinal)) ms
+kept_marks : (out : ℕ → Bool) (table : List (Option ℕ)) (i : ℕ) (ordinal : Option ℕ) (ms : List OrdinalMark) (high : ℕ) → AreAscendingWithin (i + 1) (tokens_of ms) high → HasMarksAt out (ordinal_in table) ms → HasMarksAt out (ordinal_in (set table i ordinal)) ms
 kept_marks out table i ordinal [] high ascend has = tt
 kept_marks out table i ordinal (m ∷ ms) high ascend has =
     let other : m.token ≢ i = omega (arith, ascend.0) in
@@ -71,7 +71,7 @@ marks_alike out read (o ∷ os) (m ∷ ms) has alike =
     (λ e. ap read (sym alike.0) ∙ (has.0 ∙ alike.1.0 (subst (λ i. out i ≡ true) (sym alike.0) e)), marks_alike out read os ms has.1 alike.1.1)
 
 -- A table with the marks outside a body has all marks after the marks of the body are entered.
-covered_marks : (out : ℕ → Bool) (table : List (Option ℕ)) {ms ns : List OrdinalMark} (low high : ℕ) → HasMarksAt out (ordinal_in table) ms → Covers out ms ns → AreAscending low (tokens_of ms) high → high ≤ length table
+covered_marks : (out : ℕ → Bool) (table : List (Option ℕ)) {ms ns : List OrdinalMark} (low high : ℕ) → HasMarksAt out (ordinal_in table) ms → Covers out ms ns → AreAscendingWithin low (tokens_of ms) high → high ≤ length table
     → HasMarks (ordinal_in (with_marks table ns)) ms
 covered_marks out table low high has covers_none ascend within = tt
 covered_marks out table low high has (covers_one {ms} {ns} m p) ascend within =
@@ -113,12 +113,12 @@ body_renumbered m low high table all parsed scan lies has declared within =
     let w = original_spellings m.source in
     let n = length m.source.tokens in
     let rising = leaves_ascend m parsed in
-    let declared_rise = subst (λ l. AreAscending 0 l n) (sym declared) (declaring_ascend (identifiers role.Declaring (tree_of m)) 0 n rising) in
+    let declared_rise = subst (λ l. AreAscendingWithin 0 l n) (sym declared) (declaring_ascend (identifiers role.Declaring (tree_of m)) 0 n rising) in
     let with_mark = module_marked w w all n low high (λ i e. refl) declared_rise (tree_of m) n lies rising declared in
     let news = (visit_module (tree_of m) (initial_walk_state w)).marks in
     let again = marks_again all low (tree_of m) w in
     let passed = module_passed (λ i. None) (label_from_ordinal naming_by_spelling) w (tree_of m) (initial_walk_state w) (at_start w) in
-    let ascend : AreAscending 0 (tokens_of news) n = subst (λ ts. AreAscending 0 ts n) (sym passed.tokens) rising in
+    let ascend : AreAscendingWithin 0 (tokens_of news) n = subst (λ ts. AreAscendingWithin 0 ts n) (sym passed.tokens) rising in
     let few = marks_few m w parsed scan in
     let kept : with_entries table again ≡ with_marks table again = entries_kept few.read few.bound again table few.small (covers_before out few.read few.bound with_mark.covers few.before) in
     let made : (renumber_module all low (tree_of m) (initial_walk_state_with_table w table)).marks ≡ with_marks table again = body_tabled all low (tree_of m) w table ∙ kept in

@@ -6,7 +6,7 @@ use Rattle.std.proofs.lemmas.Bool.Decides.{nat_tests}
 use Rattle.std.proofs.lemmas.Bool.{and_parts}
 use Rattle.ob0_tree.specs.declared.tree.Role.{Role}
 use Rattle.ob0_tree.specs.declared.tree.Role.TheVariants as role
-use Rattle.ob0_tree.specs.Order.{AreAscending, identifier_names, names_without_roles}
+use Rattle.ob0_tree.specs.Order.{AreAscendingWithin, identifier_names, names_without_roles}
 use Rattle.ob0_tree.specs.Tree.{Tree, block, body, declares, declares_procedure, end, forms_block, identifiers, item, items, maybe, more, procedure}
 use Rattle.ob0_tree.proofs.Leaves.{ascending_lower}
 use Rattle.ob0_tree.proofs.AscendingNumbers.{AllBelow, ascend_first, ascend_second, before_one, below_first, below_more, leaves_append}
@@ -17,7 +17,7 @@ use Rattle.ob0_scope_numbering.proofs.Alongside.{AllOut}
 use Rattle.ob0_scope_numbering.proofs.Passing.{tokens_of}
 
 -- The declaring identifiers ascend if all identifiers do.
-pub declaring_ascend : (xs : List (Role × ℕ)) (low high : ℕ) → AreAscending low (names_without_roles xs) high → AreAscending low (declaring_names xs) high
+pub declaring_ascend : (xs : List (Role × ℕ)) (low high : ℕ) → AreAscendingWithin low (names_without_roles xs) high → AreAscendingWithin low (declaring_names xs) high
 declaring_ascend [] low high h = h
 declaring_ascend ((role.Declaring, n) ∷ xs) low high h = (h.0, declaring_ascend xs (n + 1) high h.1)
 declaring_ascend ((role.LookedUp, n) ∷ xs) low high h = ascending_lower low (n + 1) (declaring_names xs) high (omega (arith, h.0)) (declaring_ascend xs (n + 1) high h.1)
@@ -44,13 +44,13 @@ pub below_out : (low high : ℕ) (xs : List ℕ) → AllBelow low xs → AllOut 
 below_out low high [] h = tt
 below_out low high (x ∷ xs) h = (is_below_out low high x h.0, below_out low high xs h.1)
 
-pub above_out : (low high from : ℕ) (xs : List ℕ) (to : ℕ) → high ≤ from → AreAscending from xs to → AllOut (is_outside_range low high) xs
+pub above_out : (low high from : ℕ) (xs : List ℕ) (to : ℕ) → high ≤ from → AreAscendingWithin from xs to → AllOut (is_outside_range low high) xs
 above_out low high from [] to le h = tt
 above_out low high from (x ∷ xs) to le h = (is_above_out low high x (omega (arith, le, h.0)), above_out low high (x + 1) xs to (omega (arith, le, h.0)) h.1)
 
 -- ---- the tokens before the body are before the range
 
-begun : (low high : ℕ) (pre : List ℕ) (xs : List (Role × ℕ)) (from to : ℕ) → first_identifier_is_at_or_before low xs ≡ true → AreAscending from (pre ++ names_without_roles xs) to → AllBelow low pre
+begun : (low high : ℕ) (pre : List ℕ) (xs : List (Role × ℕ)) (from to : ℕ) → first_identifier_is_at_or_before low xs ≡ true → AreAscendingWithin from (pre ++ names_without_roles xs) to → AllBelow low pre
 begun low high pre [] from to e h = absurd (cc)
 begun low high pre (x ∷ xs) from to e h = let le : x.1 ≤ low = grind (arith, nat_tests) in below_more x.1 low pre le (before_one from pre x.1 (names_without_roles xs) to h)
 
@@ -60,7 +60,7 @@ sections (forms_block (declares cs ts vs ps) statements) = identifiers role.Decl
 
 module _ (low high : ℕ) where
   mutual
-    pub below_block : (b : Tree ℕ block) (pre : List ℕ) (from to : ℕ) → is_range_in_body_of_block low high b ≡ true → AreAscending from (pre ++ identifier_names b) to → AllBelow low pre
+    pub below_block : (b : Tree ℕ block) (pre : List ℕ) (from to : ℕ) → is_range_in_body_of_block low high b ≡ true → AreAscendingWithin from (pre ++ identifier_names b) to → AllBelow low pre
     below_block (forms_block (declares cs ts vs ps) statements) pre from to e h =
         let c = identifiers role.Declaring cs in
         let t = identifiers role.Declaring ts in
@@ -70,31 +70,31 @@ module _ (low high : ℕ) where
         let split : pre ++ names_without_roles ((c ++ (t ++ (v ++ p))) ++ s) ≡ (pre ++ names_without_roles (c ++ (t ++ v))) ++ (names_without_roles p ++ names_without_roles s) =
         simp (leaves_append, append_assoc) in
         below_first low pre (names_without_roles (c ++ (t ++ v)))
-        (below_procedures ps statements (pre ++ names_without_roles (c ++ (t ++ v))) from to e (subst (λ l. AreAscending from l to) split h))
+        (below_procedures ps statements (pre ++ names_without_roles (c ++ (t ++ v))) from to e (subst (λ l. AreAscendingWithin from l to) split h))
 
-    pub below_procedures : (ps : Tree ℕ (items procedure)) (statements : Tree ℕ (maybe body)) (pre : List ℕ) (from to : ℕ) → is_range_in_body_of_procedures low high ps statements ≡ true → AreAscending from (pre ++ (identifier_names ps ++ identifier_names statements)) to → AllBelow low pre
+    pub below_procedures : (ps : Tree ℕ (items procedure)) (statements : Tree ℕ (maybe body)) (pre : List ℕ) (from to : ℕ) → is_range_in_body_of_procedures low high ps statements ≡ true → AreAscendingWithin from (pre ++ (identifier_names ps ++ identifier_names statements)) to → AllBelow low pre
     below_procedures end statements pre from to e h = begun low high pre (identifiers role.Declaring statements) from to e h
     below_procedures (more p ps) statements pre from to e h =
         one (below_procedures ps statements (pre ++ identifier_names p) from to) (below_procedure p pre from to) (nat_lt (closing_name p) low) e
       where
-        one : (is_range_in_body_of_procedures low high ps statements ≡ true → AreAscending from ((pre ++ identifier_names p) ++ (identifier_names ps ++ identifier_names statements)) to → AllBelow low (pre ++ identifier_names p))
-            → (is_range_in_body_of_procedure low high p ≡ true → AreAscending from (pre ++ identifier_names p) to → AllBelow low pre)
+        one : (is_range_in_body_of_procedures low high ps statements ≡ true → AreAscendingWithin from ((pre ++ identifier_names p) ++ (identifier_names ps ++ identifier_names statements)) to → AllBelow low (pre ++ identifier_names p))
+            → (is_range_in_body_of_procedure low high p ≡ true → AreAscendingWithin from (pre ++ identifier_names p) to → AllBelow low pre)
             → (b : Bool) → (if b then is_range_in_body_of_procedures low high ps statements else nat_le high (closing_name p) && is_range_in_body_of_procedure low high p) ≡ true → AllBelow low pre
         one later here true g =
             let split : pre ++ (names_without_roles (identifiers role.Declaring p ++ identifiers role.Declaring ps) ++ identifier_names statements) ≡ (pre ++ identifier_names p) ++ (identifier_names ps ++ identifier_names statements) = simp (leaves_append, append_assoc) in
-            below_first low pre (identifier_names p) (later g (subst (λ l. AreAscending from l to) split h))
+            below_first low pre (identifier_names p) (later g (subst (λ l. AreAscendingWithin from l to) split h))
         one later here false g =
             let split : pre ++ (names_without_roles (identifiers role.Declaring p ++ identifiers role.Declaring ps) ++ identifier_names statements) ≡ (pre ++ identifier_names p) ++ (identifier_names ps ++ identifier_names statements) = simp (leaves_append, append_assoc) in
-            here (and_parts (nat_le high (closing_name p)) (is_range_in_body_of_procedure low high p) g).1 (ascend_first from (pre ++ identifier_names p) (identifier_names ps ++ identifier_names statements) to (subst (λ l. AreAscending from l to) split h))
+            here (and_parts (nat_le high (closing_name p)) (is_range_in_body_of_procedure low high p) g).1 (ascend_first from (pre ++ identifier_names p) (identifier_names ps ++ identifier_names statements) to (subst (λ l. AreAscendingWithin from l to) split h))
 
-    pub below_procedure : (p : Tree ℕ (item procedure)) (pre : List ℕ) (from to : ℕ) → is_range_in_body_of_procedure low high p ≡ true → AreAscending from (pre ++ identifier_names p) to → AllBelow low pre
+    pub below_procedure : (p : Tree ℕ (item procedure)) (pre : List ℕ) (from to : ℕ) → is_range_in_body_of_procedure low high p ≡ true → AreAscendingWithin from (pre ++ identifier_names p) to → AllBelow low pre
     below_procedure (declares_procedure x fs b closing) pre from to e h =
         let f = identifiers role.Declaring fs in
         let i = identifiers role.Declaring b in
         let last : List (Role × ℕ) = (role.ClosingName, closing) ∷ [] in
         let split : pre ++ (x ∷ names_without_roles (f ++ (i ++ last))) ≡ ((pre ++ (x ∷ names_without_roles f)) ++ names_without_roles i) ++ (closing ∷ []) = simp (leaves_append, append_assoc) in
         below_first low pre (x ∷ names_without_roles f)
-        (below_block b (pre ++ (x ∷ names_without_roles f)) from to e (ascend_first from ((pre ++ (x ∷ names_without_roles f)) ++ names_without_roles i) (closing ∷ []) to (subst (λ l. AreAscending from l to) split h)))
+        (below_block b (pre ++ (x ∷ names_without_roles f)) from to e (ascend_first from ((pre ++ (x ∷ names_without_roles f)) ++ names_without_roles i) (closing ∷ []) to (subst (λ l. AreAscendingWithin from l to) split h)))
 
 -- ---- marks of which some are skipped
 

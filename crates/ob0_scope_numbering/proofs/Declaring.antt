@@ -3,9 +3,9 @@
 use Rattle.std.proofs.Common.{◌≡◌, ℕ, List, [], ◌∷◌, refl, ap}
 use Rattle.ob0_tree.specs.Tree.{one, then_name}
 use Rattle.ob0_tree.specs.declared.tree.ParameterSection.{ParameterSection}
-use Rattle.ob0_tree.specs.View.{items_of, formals_of_list, further_section_of}
+use Rattle.ob0_tree.specs.View.{items_of, formals_of_list, further_parameter_section_of}
 use Rattle.ob0_language_names.specs.Parts.{further_names}
-use Rattle.ob0_scope_numbering.specs.TableWalk.{WalkState, with_visible_names_from, visit_formals, visit_sections}
+use Rattle.ob0_scope_numbering.specs.TableWalk.{WalkState, with_visible_names_from, visit_formals, visit_parameter_sections}
 
 pub names_further : (xs : List ℕ) → further_names (items_of then_name xs) ≡ xs
 names_further [] = refl
@@ -16,6 +16,6 @@ pub record Showing (first : ℕ) (start : WalkState) (index : ℕ) (now : WalkSt
   pub so_far : with_visible_names_from index now ≡ with_visible_names_from first start
   pub kept : now.declaration_tokens ≡ start.declaration_tokens
 
-pub sections_first : (ss : List ParameterSection) (v : WalkState) → visit_sections (items_of further_section_of ss) v ≡ visit_formals (one (formals_of_list ss)) v
+pub sections_first : (ss : List ParameterSection) (v : WalkState) → visit_parameter_sections (items_of further_parameter_section_of ss) v ≡ visit_formals (one (formals_of_list ss)) v
 sections_first [] v = refl
 sections_first (s ∷ ss) v = refl

@@ -5,7 +5,7 @@ use Rattle.std.proofs.Math.Nat.{min-eq_left}
 use Rattle.ob0_scan.specs.TextWithTokens.{IsScan}
 use Rattle.ob0_tree.specs.declared.tree.Role.{Role}
 use Rattle.ob0_tree.specs.declared.tree.Role.TheVariants as role
-use Rattle.ob0_tree.specs.Order.{AreAscending, names_without_roles}
+use Rattle.ob0_tree.specs.Order.{AreAscendingWithin, names_without_roles}
 use Rattle.ob0_tree.specs.ParsedModule.{IsParsed, ParsedModule, tree_of}
 use Rattle.ob0_tree.specs.Tree.{identifiers}
 use Rattle.ob0_tree.proofs.Leaves.{leaves_ascend}
@@ -20,7 +20,7 @@ use Rattle.ob0_scope_numbering.specs.Written.{Spellings}
 use Rattle.ob0_scope_numbering.proofs.Passing.{AreInOrder, HasMarks, IsBefore, at_start, module_passed, tokens_of}
 use Rattle.ob0_scope_numbering.proofs.Tables.{marks_in_table}
 
-few_between : (low : ℕ) (xs : List ℕ) (high : ℕ) → AreAscending low xs high → low + length xs ≤ high
+few_between : (low : ℕ) (xs : List ℕ) (high : ℕ) → AreAscendingWithin low xs high → low + length xs ≤ high
 few_between low [] high h = omega (arith, h)
 few_between low (x ∷ xs) high h = let more = few_between (x + 1) xs high h.1 in omega (arith, h.0, more)
 

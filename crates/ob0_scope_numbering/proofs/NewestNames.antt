@@ -11,7 +11,7 @@ use Rattle.std.specs.Cmp.{nat_cmp_is}
 use Rattle.std.specs.Cmp.Lexicographic.{slice_cmp}
 use Rattle.std.specs.Ordering.{nat_cmp, ordering_then}
 use Rattle.ob0_scope_numbering.specs.declared.newest.NameEntry.{NameEntry}
-use Rattle.ob0_scope_numbering.specs.Keys.{Key, compare_keys, compare_name_with_key, suffix_number}
+use Rattle.ob0_scope_numbering.specs.Keys.{NameKey, compare_keys, compare_name_with_key, suffix_number}
 use Rattle.ob0_language_names.specs.Names.{Name, same_name}
 use Rattle.ob0_language_names.proofs.NameEquality.{same_name-comm, same_name-refl}
 use Rattle.ob0_scope_numbering.specs.NewestNames.{AreNamePositions, SetsNewestBinding, KeepsNewestBindings, newest_binding_in, position_of_name}
@@ -123,7 +123,7 @@ place_added (e ∷ es) r h y =
     (apart r.name.now y e.name.now n.0) (place_added es r n.1 y)
 
 -- The map has the positions of the names after one gets another newest binding.
-pub places_renewed : (name_positions : BTreeMap Key ℕ) (es : List NameEntry) (x : Name) (i : ℕ) (r : NameEntry) → r.name.now ≡ x → position_of_name es x ≡ Some i → AreNamePositions name_positions es → AreNamePositions name_positions (set es i r)
+pub places_renewed : (name_positions : BTreeMap NameKey ℕ) (es : List NameEntry) (x : Name) (i : ℕ) (r : NameEntry) → r.name.now ≡ x → position_of_name es x ≡ Some i → AreNamePositions name_positions es → AreNamePositions name_positions (set es i r)
 places_renewed name_positions es x i r named h w =
     let name : NameEntry → Name = λ (e : NameEntry). e.name.now in
     let names : map name (set es i r) ≡ map name es = map-set_same name es i r r (named ∙ sym (place_holds es x i r h).named) in
@@ -152,16 +152,16 @@ same_key a x =
     (cases_Bool (bytes_eq a x))
 
 -- holds if a map results from setting the value of a key
-abbrev pub Renews : Key → BTreeMap Key ℕ → BTreeMap Key ℕ → Option ℕ → Type 0
+abbrev pub Renews : NameKey → BTreeMap NameKey ℕ → BTreeMap NameKey ℕ → Option ℕ → Type 0
 Renews key name_positions next value = UpdatesBy compare_keys (compare_keys key) name_positions next value
 
-abbrev pub key_of : Bor Name → Key
-key_of name = (suffix_number name.now, name)
+abbrev pub key_of_name : Bor Name → NameKey
+key_of_name name = (suffix_number name.now, name)
 
-renewed_at : (name : Bor Name) (name_positions next : BTreeMap Key ℕ) (value : Option ℕ) → Renews (key_of name) name_positions next value
+renewed_at : (name : Bor Name) (name_positions next : BTreeMap NameKey ℕ) (value : Option ℕ) → Renews (key_of_name name) name_positions next value
     → (x : Name) → get_by (compare_name_with_key x) next ≡ cond (bytes_eq name.now x) value (get_by (compare_name_with_key x) name_positions)
 renewed_at name name_positions next value h x =
-    let key : Key = (suffix_number x, record { ref_ptr = name.ref_ptr; now = x }) in
+    let key : NameKey = (suffix_number x, record { ref_ptr = name.ref_ptr; now = x }) in
     h.0 key ∙ ap (λ same. cond same value (get_by (compare_name_with_key x) name_positions)) (same_key name.now x)
 
 some_apart : (o : Option ℕ) (i : ℕ) → o ≡ Some i → o ≡ None → false ≡ true
@@ -179,7 +179,7 @@ last_or_before (suc j) (suc n) less =
     let l : j < n + 1 = omega (arith, less) in
     elim (last_or_before j n l) [ inl h ↦ inl (omega (arith, h)) | inr h ↦ inr (ap suc h) ]
 
-pub places_added : (name_positions next : BTreeMap Key ℕ) (es : List NameEntry) (r : NameEntry) → position_of_name es r.name.now ≡ None → Renews (key_of r.name) name_positions next (Some (length es)) → AreNamePositions name_positions es → AreNamePositions next (es ++ (r ∷ []))
+pub places_added : (name_positions next : BTreeMap NameKey ℕ) (es : List NameEntry) (r : NameEntry) → position_of_name es r.name.now ≡ None → Renews (key_of_name r.name) name_positions next (Some (length es)) → AreNamePositions name_positions es → AreNamePositions next (es ++ (r ∷ []))
 places_added name_positions next es r h renews w =
     record {
       placed = λ y. renewed_at r.name name_positions next (Some (length es)) renews y

@@ -12,10 +12,10 @@ use Rattle.ob0_scope_numbering.specs.Written.{Spellings, spelling_at, tree_with_
 use Rattle.ob0_tree.proofs.Occurring.{looked_up_only, looked_up_only-append}
 use Rattle.ob0_scope_numbering.specs.Marks.{OrdinalMark}
 use Rattle.ob0_language_names.specs.Names.{Name, naming_by_spelling, same_name}
-use Rattle.ob0_language_names.specs.Parts.{constant_names, formal_names, formal_sections, further_names, module_block, declared_type_names, names_in_list, procedure_name, section_constants, section_names, section_types, section_variables, variable_names}
+use Rattle.ob0_language_names.specs.Parts.{constant_names, formal_names, formal_sections, further_names, module_block, declared_type_names, names_in_list, procedure_name, section_constants, parameter_section_names, section_types, section_variables, variable_names}
 use Rattle.ob0_scope_table.specs.Resolution.{declaring_names}
 use Rattle.ob0_language_names.specs.Scopes.{Labelling, Scope, ordinal_after_block, ordinal_after_names, ordinal_after_procedure, ordinal_after_procedures, body_scope, declare_names, declare_procedure_names, ordinal_of, predeclared_scope, relabel_block, relabel_constant_section, relabel_constants, relabel_formals, relabel_further_names, relabel_names, relabel_procedure, relabel_procedures, relabel_section, relabel_sections, relabel_type_section, relabel_types, relabel_uses, relabel_variable_section, relabel_variables, relabel_module}
-use Rattle.ob0_scope_numbering.specs.MarkWalk.{WalkState, initial_walk_state, state_after_procedure_block, state_after_heading, visit_identifier, visit_identifiers, with_oldest_bindings, with_mark, number_declarations, number_declaration, with_visible_names_from, visit_part, visit_block, visit_constant, visit_constant_section, visit_constants, visit_formals, visit_module, visit_procedure, visit_procedures, visit_section, visit_sections, visit_type, visit_type_section, visit_types, visit_variable, visit_variable_section, visit_variables}
+use Rattle.ob0_scope_numbering.specs.MarkWalk.{WalkState, initial_walk_state, state_after_procedure_block, state_after_heading, visit_identifier, visit_identifiers, with_oldest_bindings, with_mark, number_declarations, number_declaration, with_visible_names_from, visit_nondeclaring_tree, visit_block, visit_constant, visit_constant_section, visit_constants, visit_formals, visit_module, visit_procedure, visit_procedures, visit_parameter_section, visit_parameter_sections, visit_type, visit_type_section, visit_types, visit_variable, visit_variable_section, visit_variables}
 use Rattle.ob0_scope_numbering.proofs.Agreed.{AllFit, agreed}
 use Rattle.ob0_language_names.proofs.Ordinals.{ordinal_after_names-append, declare_names-append, le-ordinal_after_block, le-ordinal_after_names}
 use Rattle.ob0_language_names.proofs.OccurrenceNames.{length-map}
@@ -246,7 +246,7 @@ module _ {M : Type 0} (table : ℕ → Option ℕ) (label : Labelling Name M) (s
       }
 
   pub used_passed : {σ : Sort} (t : Tree ℕ σ) (v : WalkState) (s : Scope Name) (k : ℕ) → IsPlain σ → At v src s k
-      → Passes v (visit_part t v) (identifiers role.Declaring t) s k (relabel_uses naming_by_spelling label s (spelled t) ≡ by_table t)
+      → Passes v (visit_nondeclaring_tree t v) (identifiers role.Declaring t) s k (relabel_uses naming_by_spelling label s (spelled t) ≡ by_table t)
   used_passed t v s k is_plain at =
       let plain = (declares_nothing is_plain t).plain in
       let f = found_every table src (identifiers role.Declaring t) v in
@@ -361,7 +361,7 @@ module _ {M : Type 0} (table : ℕ → Option ℕ) (label : Labelling Name M) (s
 
   -- Names of one type are visible after their type.
   group_passed : (ns : Tree ℕ names) (t : Tree ℕ written_type) (v : WalkState) (s : Scope Name) (k : ℕ) → At v src s k
-      → Passes v (with_visible_names_from (length v.declaration_tokens) (visit_part t (number_declarations (names_in_list ns) v))) (identifiers role.Declaring ns ++ identifiers role.Declaring t)
+      → Passes v (with_visible_names_from (length v.declaration_tokens) (visit_nondeclaring_tree t (number_declarations (names_in_list ns) v))) (identifiers role.Declaring ns ++ identifiers role.Declaring t)
       (declare_names k (names_in_list (spelled ns)) s) (ordinal_after_names k (names_in_list (spelled ns)))
       (Two (relabel_names label k (spelled ns) ≡ by_table ns) (relabel_uses naming_by_spelling label s (spelled t) ≡ by_table t))
   group_passed ns t v s k at =
@@ -404,24 +404,24 @@ module _ {M : Type 0} (table : ℕ → Option ℕ) (label : Labelling Name M) (s
       (λ p i. more (declares_variable (p.first.first i) (p.first.second i)) (p.second i)))
 
   section_passed : (f : Tree ℕ section) (v : WalkState) (s : Scope Name) (k : ℕ) → At v src s k
-      → Passes v (visit_section f v) (identifiers role.Declaring f) (declare_names k (section_names (spelled f)) s) (ordinal_after_names k (section_names (spelled f)))
+      → Passes v (visit_parameter_section f v) (identifiers role.Declaring f) (declare_names k (parameter_section_names (spelled f)) s) (ordinal_after_names k (parameter_section_names (spelled f)))
       (relabel_section naming_by_spelling label s k (spelled f) ≡ by_table f)
   section_passed (value_section ns t) v s k at = pass_to (group_passed ns t v s k at) (λ p i. value_section (p.first i) (p.second i))
   section_passed (variable_section ns t) v s k at = pass_to (group_passed ns t v s k at) (λ p i. variable_section (p.first i) (p.second i))
 
   sections_passed : (fs : Tree ℕ (items further_section)) (v : WalkState) (s : Scope Name) (k : ℕ) → At v src s k
-      → Passes v (visit_sections fs v) (identifiers role.Declaring fs) (declare_names k (formal_names (spelled fs)) s) (ordinal_after_names k (formal_names (spelled fs)))
+      → Passes v (visit_parameter_sections fs v) (identifiers role.Declaring fs) (declare_names k (formal_names (spelled fs)) s) (ordinal_after_names k (formal_names (spelled fs)))
       (relabel_sections naming_by_spelling label s k (spelled fs) ≡ by_table fs)
   sections_passed end v s k at = pass_to (pass_nothing v s k at) (λ h. refl)
   sections_passed (more (then_section f) fs) v s k at =
-      let xs = section_names (spelled f) in
+      let xs = parameter_section_names (spelled f) in
       let rest = formal_names (spelled fs) in
       let a = section_passed f v s k at in
       pass_is refl (sym (declare_names-append k xs rest s)) (sym (ordinal_after_names-append k xs rest))
-      (pass_to (pass_then a (sections_passed fs (visit_section f v) (declare_names k xs s) (ordinal_after_names k xs) a.at))
+      (pass_to (pass_then a (sections_passed fs (visit_parameter_section f v) (declare_names k xs s) (ordinal_after_names k xs) a.at))
       (λ p i. more (then_section (p.first i)) (p.second i)))
 
-  section_declaring : (f : Tree ℕ section) → map (spelling_at src) (declaring_names (identifiers role.Declaring f)) ≡ section_names (spelled f)
+  section_declaring : (f : Tree ℕ section) → map (spelling_at src) (declaring_names (identifiers role.Declaring f)) ≡ parameter_section_names (spelled f)
   section_declaring (value_section ns t) = ap (map (spelling_at src)) (group_declaring ns t) ∙ names_named ns
   section_declaring (variable_section ns t) = ap (map (spelling_at src)) (group_declaring ns t) ∙ names_named ns
 
@@ -438,11 +438,11 @@ module _ {M : Type 0} (table : ℕ → Option ℕ) (label : Labelling Name M) (s
   formals_passed none v s k at = pass_to (pass_nothing v s k at) (λ h. refl)
   formals_passed (one no_formals) v s k at = pass_to (pass_nothing v s k at) (λ h. refl)
   formals_passed (one (some_formals f fs)) v s k at =
-      let xs = section_names (spelled f) in
+      let xs = parameter_section_names (spelled f) in
       let rest = formal_names (spelled fs) in
       let a = section_passed f v s k at in
       pass_is refl (sym (declare_names-append k xs rest s)) (sym (ordinal_after_names-append k xs rest))
-      (pass_to (pass_then a (sections_passed fs (visit_section f v) (declare_names k xs s) (ordinal_after_names k xs) a.at))
+      (pass_to (pass_then a (sections_passed fs (visit_parameter_section f v) (declare_names k xs s) (ordinal_after_names k xs) a.at))
       (λ p i. one (some_formals (p.first i) (p.second i))))
 
   formals_declaring : (fs : Tree ℕ (maybe formals)) → map (spelling_at src) (declaring_names (identifiers role.Declaring fs)) ≡ formal_names (formal_sections (spelled fs))

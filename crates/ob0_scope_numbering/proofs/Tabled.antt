@@ -49,13 +49,13 @@ module _ (table : List (Option ℕ)) where
   visit_identifiers-entered [] v = refl
   visit_identifiers-entered (x ∷ xs) v = ap (tabling.visit_identifiers xs) (visit_identifier-entered x.0 x.1 v) ∙ visit_identifiers-entered xs (listing.visit_identifier x.0 x.1 v)
 
-  used-entered : {s : Sort} (t : Tree ℕ s) (v : listing.WalkState) → tabling.visit_part t (entered table v) ≡ entered table (listing.visit_part t v)
+  used-entered : {s : Sort} (t : Tree ℕ s) (v : listing.WalkState) → tabling.visit_nondeclaring_tree t (entered table v) ≡ entered table (listing.visit_nondeclaring_tree t v)
   used-entered t v = visit_identifiers-entered (identifiers role.Declaring t) v
 
   -- Visiting names and the part after them with a table enters their listed marks.
   names-entered : {s : Sort} (is : List ℕ) (t : Tree ℕ s) (v : listing.WalkState)
-      → tabling.with_visible_names_from (length v.declaration_tokens) (tabling.visit_part t (tabling.number_declarations is (entered table v))) ≡ entered table (listing.with_visible_names_from (length v.declaration_tokens) (listing.visit_part t (listing.number_declarations is v)))
-  names-entered is t v = ap (tabling.with_visible_names_from (length v.declaration_tokens)) (ap (tabling.visit_part t) (number_declarations-entered is v) ∙ used-entered t (listing.number_declarations is v))
+      → tabling.with_visible_names_from (length v.declaration_tokens) (tabling.visit_nondeclaring_tree t (tabling.number_declarations is (entered table v))) ≡ entered table (listing.with_visible_names_from (length v.declaration_tokens) (listing.visit_nondeclaring_tree t (listing.number_declarations is v)))
+  names-entered is t v = ap (tabling.with_visible_names_from (length v.declaration_tokens)) (ap (tabling.visit_nondeclaring_tree t) (number_declarations-entered is v) ∙ used-entered t (listing.number_declarations is v))
 
   constant-entered : (c : Tree ℕ (item constant)) (v : listing.WalkState) → tabling.visit_constant c (entered table v) ≡ entered table (listing.visit_constant c v)
   constant-entered (declares_constant x e) v = names-entered (x ∷ []) e v
@@ -78,18 +78,18 @@ module _ (table : List (Option ℕ)) where
   variables-entered end v = refl
   variables-entered (more g gs) v = ap (tabling.visit_variables gs) (variable-entered g v) ∙ variables-entered gs (listing.visit_variable g v)
 
-  section-entered : (s : Tree ℕ section) (v : listing.WalkState) → tabling.visit_section s (entered table v) ≡ entered table (listing.visit_section s v)
+  section-entered : (s : Tree ℕ section) (v : listing.WalkState) → tabling.visit_parameter_section s (entered table v) ≡ entered table (listing.visit_parameter_section s v)
   section-entered (value_section ns t) v = names-entered (names_in_list ns) t v
   section-entered (variable_section ns t) v = names-entered (names_in_list ns) t v
 
-  sections-entered : (ss : Tree ℕ (items further_section)) (v : listing.WalkState) → tabling.visit_sections ss (entered table v) ≡ entered table (listing.visit_sections ss v)
+  sections-entered : (ss : Tree ℕ (items further_section)) (v : listing.WalkState) → tabling.visit_parameter_sections ss (entered table v) ≡ entered table (listing.visit_parameter_sections ss v)
   sections-entered end v = refl
-  sections-entered (more (then_section s) rest) v = ap (tabling.visit_sections rest) (section-entered s v) ∙ sections-entered rest (listing.visit_section s v)
+  sections-entered (more (then_section s) rest) v = ap (tabling.visit_parameter_sections rest) (section-entered s v) ∙ sections-entered rest (listing.visit_parameter_section s v)
 
   formals-entered : (fs : Tree ℕ (maybe formals)) (v : listing.WalkState) → tabling.visit_formals fs (entered table v) ≡ entered table (listing.visit_formals fs v)
   formals-entered none v = refl
   formals-entered (one no_formals) v = refl
-  formals-entered (one (some_formals s rest)) v = ap (tabling.visit_sections rest) (section-entered s v) ∙ sections-entered rest (listing.visit_section s v)
+  formals-entered (one (some_formals s rest)) v = ap (tabling.visit_parameter_sections rest) (section-entered s v) ∙ sections-entered rest (listing.visit_parameter_section s v)
 
   constant_section-entered : (cs : Tree ℕ (maybe constants)) (v : listing.WalkState) → tabling.visit_constant_section cs (entered table v) ≡ entered table (listing.visit_constant_section cs v)
   constant_section-entered none v = refl
@@ -124,7 +124,7 @@ module _ (table : List (Option ℕ)) where
     block-entered : (b : Tree ℕ block) (v : listing.WalkState) → tabling.visit_block b (entered table v) ≡ entered table (listing.visit_block b v)
     block-entered (forms_block (declares cs ts vs ps) statements) v =
         let w = listing.visit_variable_section vs (listing.visit_type_section ts (listing.visit_constant_section cs v)) in
-        ap (tabling.visit_part statements) (ap (tabling.visit_procedures ps) (declaration_tokens-entered cs ts vs v) ∙ procedures-entered ps w) ∙ used-entered statements (listing.visit_procedures ps w)
+        ap (tabling.visit_nondeclaring_tree statements) (ap (tabling.visit_procedures ps) (declaration_tokens-entered cs ts vs v) ∙ procedures-entered ps w) ∙ used-entered statements (listing.visit_procedures ps w)
 
     procedures-entered : (ps : Tree ℕ (items procedure)) (v : listing.WalkState) → tabling.visit_procedures ps (entered table v) ≡ entered table (listing.visit_procedures ps v)
     procedures-entered end v = refl

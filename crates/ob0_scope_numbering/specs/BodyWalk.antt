@@ -8,7 +8,7 @@ use Rattle.ob0_language_names.specs.Names.{naming_by_spelling}
 use Rattle.ob0_language_names.specs.Parts.{procedure_name}
 use Rattle.ob0_language_names.specs.Scopes.{predeclared_count, predeclared_scope}
 use Rattle.ob0_scope_numbering.specs.TableWalk as tabling
-use Rattle.ob0_scope_numbering.specs.IdentifierWalk.{WalkState, state_after_heading, number_declaration, visit_part, with_visible_name, visit_constant_section, visit_formals, visit_type_section, visit_variable_section}
+use Rattle.ob0_scope_numbering.specs.IdentifierWalk.{WalkState, state_after_heading, number_declaration, visit_nondeclaring_tree, with_visible_name, visit_constant_section, visit_formals, visit_type_section, visit_variable_section}
 use Rattle.ob0_scope_numbering.specs.Written.{Spellings}
 use Rattle.ob0_scope_table.specs.OneBody.{closing_name}
 
@@ -29,8 +29,8 @@ with_declarations_before all token v =
 abbrev pub with_declaration : {M : Type 0} → ℕ → WalkState M → WalkState M
 with_declaration token v = record v { declaration_tokens = v.declaration_tokens ++ (token ∷ []) }
 
--- makes the name of the procedure that is declared at the token `x` visible with the next ordinal,
--- without visiting the procedure
+-- makes a procedure's name visible with the next ordinal, without visiting the procedure; the name
+-- is declared at the token `x`
 abbrev pub with_procedure_skipped : {M : Type 0} → ℕ → WalkState M → WalkState M
 with_procedure_skipped x v = with_visible_name x (predeclared_count + length v.declaration_tokens) v
 
@@ -51,7 +51,7 @@ module _ {M : Type 0} (put_ordinal : ℕ → Option ℕ → M → M) (all : List
     -- names of the earlier procedures only become visible. If there is no such procedure, visits the
     -- statements of the procedures' block.
     pub renumber_procedures : Tree ℕ (items procedure) → Tree ℕ (maybe body) → WalkState M → WalkState M
-    renumber_procedures end statements v = visit_part put_ordinal statements v
+    renumber_procedures end statements v = visit_nondeclaring_tree put_ordinal statements v
     renumber_procedures (more p ps) statements v =
         if nat_lt (closing_name p) low
         then renumber_procedures ps statements

@@ -1,6 +1,7 @@
 -- Defines the walk over a module's identifiers in text order, by the state after each part of the
--- module. The walk gives each identifier the ordinal of its declaration, which is the declaration's
--- number in text order. The parameter `put_ordinal` says how the ordinals are collected.
+-- module. The walk assigns to each identifier the ordinal of its declaration, which is the
+-- declaration's number in text order. The parameter `put_ordinal` says how the ordinals are
+-- collected.
 -- Rule: none; used in contracts of the walk over identifiers.
 use Rattle.std.specs.Prelude.{ℕ, ◌+◌, ◌-◌, List, [], ◌∷◌, ◌++◌, Option, Some, None, map, length, drop}
 use Rattle.ob0_tree.specs.declared.tree.Role.{Role}
@@ -55,12 +56,12 @@ state_after_procedure_block x ordinal outside v = with_visible_name x ordinal (w
 -- The following definitions are for any collection `M` of ordinals. The function `put_ordinal` adds
 -- the ordinal of the identifier at a token (None if it has no ordinal) to the collection.
 module _ {M : Type 0} (put_ordinal : ℕ → Option ℕ → M → M) where
-  -- gives the identifier at the token `i` this ordinal, or no ordinal (None)
+  -- assigns this ordinal, or None, to the identifier at the token `i`
   abbrev pub with_mark : ℕ → Option ℕ → WalkState M → WalkState M
   with_mark i ordinal v = record v { marks = put_ordinal i ordinal v.marks }
 
-  -- appends the token `i` of a declaring name to the declarations, and gives this name the next
-  -- ordinal
+  -- appends the token `i` of a declaring name to the declarations, and assigns the next ordinal to
+  -- this name
   abbrev pub number_declaration : ℕ → WalkState M → WalkState M
   number_declaration i v =
       record v {
@@ -72,7 +73,7 @@ module _ {M : Type 0} (put_ordinal : ℕ → Option ℕ → M → M) where
   number_declarations [] v = v
   number_declarations (i ∷ is) v = number_declarations is (number_declaration i v)
 
-  -- Visits the identifier at the token `i` in a part that declares nothing. A looked-up name gets
+  -- Visits the identifier at the token `i` in a tree that declares nothing. A looked-up name gets
   -- the ordinal of its declaration, or None if the name is unbound. Any other identifier gets None.
   abbrev pub visit_identifier : Role → ℕ → WalkState M → WalkState M
   visit_identifier role.LookedUp i v =
@@ -88,21 +89,21 @@ module _ {M : Type 0} (put_ordinal : ℕ → Option ℕ → M → M) where
   abbrev pub visit_identifiers : List (Role × ℕ) → WalkState M → WalkState M
   visit_identifiers xs v = state_after_identifiers visit_identifier xs v
 
-  -- visits a part that declares nothing
-  abbrev pub visit_part : {s : Sort} → Tree ℕ s → WalkState M → WalkState M
-  visit_part t v = state_after_visit visit_identifier t v
+  -- visits a tree that declares nothing: an expression, a written type or statements
+  abbrev pub visit_nondeclaring_tree : {s : Sort} → Tree ℕ s → WalkState M → WalkState M
+  visit_nondeclaring_tree t v = state_after_visit visit_identifier t v
 
   -- visits the declaration of a constant, and then makes the constant's name visible
   abbrev pub visit_constant : Tree ℕ (item constant) → WalkState M → WalkState M
   visit_constant (declares_constant x e) v =
-      with_visible_names_from (length v.declaration_tokens) (visit_part e (number_declaration x v))
+      with_visible_names_from (length v.declaration_tokens) (visit_nondeclaring_tree e (number_declaration x v))
 
   abbrev pub visit_constants : Tree ℕ (items constant) → WalkState M → WalkState M
   visit_constants end v = v
   visit_constants (more c cs) v = visit_constants cs (visit_constant c v)
 
   abbrev pub visit_type : Tree ℕ (item type_definition) → WalkState M → WalkState M
-  visit_type (declares_type x t) v = with_visible_names_from (length v.declaration_tokens) (visit_part t (number_declaration x v))
+  visit_type (declares_type x t) v = with_visible_names_from (length v.declaration_tokens) (visit_nondeclaring_tree t (number_declaration x v))
 
   abbrev pub visit_types : Tree ℕ (items type_definition) → WalkState M → WalkState M
   visit_types end v = v
@@ -110,26 +111,26 @@ module _ {M : Type 0} (put_ordinal : ℕ → Option ℕ → M → M) where
 
   abbrev pub visit_variable : Tree ℕ (item variable) → WalkState M → WalkState M
   visit_variable (declares_variable ns t) v =
-      with_visible_names_from (length v.declaration_tokens) (visit_part t (number_declarations (names_in_list ns) v))
+      with_visible_names_from (length v.declaration_tokens) (visit_nondeclaring_tree t (number_declarations (names_in_list ns) v))
 
   abbrev pub visit_variables : Tree ℕ (items variable) → WalkState M → WalkState M
   visit_variables end v = v
   visit_variables (more g gs) v = visit_variables gs (visit_variable g v)
 
-  abbrev pub visit_section : Tree ℕ section → WalkState M → WalkState M
-  visit_section (value_section ns t) v =
-      with_visible_names_from (length v.declaration_tokens) (visit_part t (number_declarations (names_in_list ns) v))
-  visit_section (variable_section ns t) v =
-      with_visible_names_from (length v.declaration_tokens) (visit_part t (number_declarations (names_in_list ns) v))
+  abbrev pub visit_parameter_section : Tree ℕ section → WalkState M → WalkState M
+  visit_parameter_section (value_section ns t) v =
+      with_visible_names_from (length v.declaration_tokens) (visit_nondeclaring_tree t (number_declarations (names_in_list ns) v))
+  visit_parameter_section (variable_section ns t) v =
+      with_visible_names_from (length v.declaration_tokens) (visit_nondeclaring_tree t (number_declarations (names_in_list ns) v))
 
-  abbrev pub visit_sections : Tree ℕ (items further_section) → WalkState M → WalkState M
-  visit_sections end v = v
-  visit_sections (more (then_section s) rest) v = visit_sections rest (visit_section s v)
+  abbrev pub visit_parameter_sections : Tree ℕ (items further_section) → WalkState M → WalkState M
+  visit_parameter_sections end v = v
+  visit_parameter_sections (more (then_section s) rest) v = visit_parameter_sections rest (visit_parameter_section s v)
 
   abbrev pub visit_formals : Tree ℕ (maybe formals) → WalkState M → WalkState M
   visit_formals none v = v
   visit_formals (one no_formals) v = v
-  visit_formals (one (some_formals s rest)) v = visit_sections rest (visit_section s v)
+  visit_formals (one (some_formals s rest)) v = visit_parameter_sections rest (visit_parameter_section s v)
 
   abbrev pub visit_constant_section : Tree ℕ (maybe constants) → WalkState M → WalkState M
   visit_constant_section none v = v
@@ -147,7 +148,7 @@ module _ {M : Type 0} (put_ordinal : ℕ → Option ℕ → M → M) where
     -- visits a block: its sections, its procedures and its statements, in text order
     pub visit_block : Tree ℕ block → WalkState M → WalkState M
     visit_block (forms_block (declares cs ts vs ps) statements) v =
-        visit_part statements (visit_procedures ps
+        visit_nondeclaring_tree statements (visit_procedures ps
         (visit_variable_section vs (visit_type_section ts (visit_constant_section cs v))))
 
     -- visits the procedures of a block, in order

@@ -8,11 +8,11 @@ use Rattle.std.specs.Cmp.Lexicographic.{slice_cmp}
 use Rattle.std.specs.Ordering.{nat_cmp, ordering_then}
 use Rattle.ob0_language_names.specs.Names.{Name}
 
--- appends a byte to a number as its last digit to the base 256, modulo 2^64
+-- appends a byte to a number as its last base-256 digit, modulo 2^64
 abbrev pub append_byte : ℕ → ℕ → ℕ
 append_byte number byte = (number * 256 % 2 ^ 64 + byte) % 2 ^ 64
 
--- appends bytes to a number, one after another, as its last digits to the base 256, modulo 2^64
+-- appends bytes to a number, one after another, as its last base-256 digits, modulo 2^64
 abbrev pub append_bytes : List ℕ → ℕ → ℕ
 append_bytes [] number = number
 append_bytes (byte ∷ bytes) number = append_bytes bytes (append_byte number byte)
@@ -22,13 +22,13 @@ abbrev pub suffix_number : Name → ℕ
 suffix_number x = append_bytes (drop (length x - 8) x) 0
 
 -- a key of the map: a name preceded by the number made of its last eight bytes
-abbrev pub Key : Type 0
-Key = ℕ × Bor Name
+abbrev pub NameKey : Type 0
+NameKey = ℕ × Bor Name
 
 -- compares two keys by their numbers, and by their names if the numbers are equal
-abbrev pub compare_keys : Key → Key → Ordering
+abbrev pub compare_keys : NameKey → NameKey → Ordering
 compare_keys a b = ordering_then (nat_cmp a.0 b.0) (slice_cmp nat_cmp a.1.now b.1.now)
 
 -- compares a name with a key by their numbers, and by their names if the numbers are equal
-abbrev pub compare_name_with_key : Name → Key → Ordering
+abbrev pub compare_name_with_key : Name → NameKey → Ordering
 compare_name_with_key x key = ordering_then (nat_cmp (suffix_number x) key.0) (slice_cmp nat_cmp x key.1.now)

@@ -4,7 +4,7 @@
 use Rattle.std.specs.Prelude.{◌≡◌, ◌<◌, ℕ, suc, List, [], ◌∷◌, Option, Some, None, if◌then◌else◌, length, option_map, slice_index_or}
 use Rattle.std.specs.BTreeMap.{BTreeMap, get_by}
 use Rattle.ob0_scope_numbering.specs.declared.newest.NameEntry.{NameEntry}
-use Rattle.ob0_scope_numbering.specs.Keys.{Key, compare_name_with_key}
+use Rattle.ob0_scope_numbering.specs.Keys.{NameKey, compare_name_with_key}
 use Rattle.ob0_language_names.specs.Names.{Name, same_name}
 
 -- Returns the index of a name's newest binding. Returns None if the name has no binding or isn't in
@@ -25,7 +25,7 @@ SetsNewestBinding before after x newest =
     (y : Name) → newest_binding_in after y ≡ (if same_name x y then newest else newest_binding_in before y)
 
 -- States that the map has each name's position in the list, and that no name is in the list twice.
-pub record AreNamePositions (name_positions : BTreeMap Key ℕ) (entries : List NameEntry) : Type 0 where
+pub record AreNamePositions (name_positions : BTreeMap NameKey ℕ) (entries : List NameEntry) : Type 0 where
   pub placed : (x : Name) → get_by (compare_name_with_key x) name_positions ≡ position_of_name entries x
   pub distinct : (i : ℕ) (d : NameEntry)
       → i < length entries

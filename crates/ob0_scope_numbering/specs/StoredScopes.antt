@@ -30,7 +30,8 @@ pub record HasNewestBindings (newest : List NameEntry) (bindings : List Binding)
   pub found : (x : Name) → newest_binding_in newest x ≡ newest_binding_index x (reverse bindings)
   pub hidden_binding_index : HaveHiddenBindingIndexes (reverse bindings)
 
--- The names that are visible at a place, and `new_name`, the name that a renaming introduces.
+-- The names that are visible at a point of a text, and `new_name`, the name that a renaming
+-- introduces.
 pub record VisibleNames : Type 0 where
   pub new_name : Name
   pub scope : Scope Name

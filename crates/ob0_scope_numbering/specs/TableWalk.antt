@@ -21,33 +21,33 @@ WalkState = visit.WalkState (List (Option ℕ))
 abbrev pub put_ordinal : ℕ → Option ℕ → List (Option ℕ) → List (Option ℕ)
 put_ordinal i ordinal table = slice_set table i (stored_ordinal ordinal)
 
--- returns the state after giving an identifier this ordinal, in the walk that fills a table
+-- returns the state after assigning this ordinal to an identifier, in the walk that fills a table
 abbrev pub with_mark : ℕ → Option ℕ → WalkState → WalkState
 with_mark = visit.with_mark put_ordinal
 
--- returns the state after giving a declaring identifier the next ordinal, in the walk that fills a
--- table
+-- returns the state after assigning the next ordinal to a declaring identifier, in the walk that
+-- fills a table
 abbrev pub number_declaration : ℕ → WalkState → WalkState
 number_declaration = visit.number_declaration put_ordinal
 
--- returns the state after giving declaring identifiers the next ordinals, in order, in the walk
--- that fills a table
+-- returns the state after assigning the next ordinals to declaring identifiers, in order, in the
+-- walk that fills a table
 abbrev pub number_declarations : List ℕ → WalkState → WalkState
 number_declarations = visit.number_declarations put_ordinal
 
--- returns the state after an identifier of a part that declares nothing, in the walk that fills a
+-- returns the state after an identifier of a tree that declares nothing, in the walk that fills a
 -- table
 abbrev pub visit_identifier : Role → ℕ → WalkState → WalkState
 visit_identifier = visit.visit_identifier put_ordinal
 
--- returns the state after the identifiers of a part that declares nothing, in the walk that fills a
+-- returns the state after the identifiers of a tree that declares nothing, in the walk that fills a
 -- table
 abbrev pub visit_identifiers : List (Role × ℕ) → WalkState → WalkState
 visit_identifiers = visit.visit_identifiers put_ordinal
 
--- returns the state after a part that declares nothing, in the walk that fills a table
-abbrev pub visit_part : {s : Sort} → Tree ℕ s → WalkState → WalkState
-visit_part = visit.visit_part put_ordinal
+-- returns the state after a tree that declares nothing, in the walk that fills a table
+abbrev pub visit_nondeclaring_tree : {s : Sort} → Tree ℕ s → WalkState → WalkState
+visit_nondeclaring_tree = visit.visit_nondeclaring_tree put_ordinal
 
 -- returns the state after the declaration of a constant, in the walk that fills a table
 abbrev pub visit_constant : Tree ℕ (item constant) → WalkState → WalkState
@@ -74,12 +74,12 @@ abbrev pub visit_variables : Tree ℕ (items variable) → WalkState → WalkSta
 visit_variables = visit.visit_variables put_ordinal
 
 -- returns the state after a section of parameters, in the walk that fills a table
-abbrev pub visit_section : Tree ℕ section → WalkState → WalkState
-visit_section = visit.visit_section put_ordinal
+abbrev pub visit_parameter_section : Tree ℕ section → WalkState → WalkState
+visit_parameter_section = visit.visit_parameter_section put_ordinal
 
 -- returns the state after the further sections of parameters, in the walk that fills a table
-abbrev pub visit_sections : Tree ℕ (items further_section) → WalkState → WalkState
-visit_sections = visit.visit_sections put_ordinal
+abbrev pub visit_parameter_sections : Tree ℕ (items further_section) → WalkState → WalkState
+visit_parameter_sections = visit.visit_parameter_sections put_ordinal
 
 -- returns the state after the parameters of a heading, in the walk that fills a table
 abbrev pub visit_formals : Tree ℕ (maybe formals) → WalkState → WalkState

@@ -9,9 +9,9 @@ use Rattle.ob0_language_names.specs.Names.{Name}
 use Rattle.ob0_scope_table.specs.Resolution.{ordinal_in}
 use Rattle.ob0_language_names.specs.Scopes.{same_ordinal}
 
--- A text with a renaming of one declaration. `ordinals` has the ordinals of the text's identifiers
--- by token index. `declaration` is the ordinal of the renamed declaration, or None if nothing is
--- renamed. `new` is the name that the renaming introduces.
+-- The spellings of a text's identifiers after one declaration is renamed. `ordinals` has the
+-- ordinals of the text's identifiers by token index. `declaration` is the ordinal of the renamed
+-- declaration, or None if nothing is renamed. `new` is the name that the renaming introduces.
 pub record Spellings : Type 0 where
   pub source : TextWithTokens
   pub ordinals : List (Option ℕ)

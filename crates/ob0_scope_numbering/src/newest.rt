@@ -28,10 +28,10 @@ const RECENT_SLOT_COUNT: usize = 1024;
 
 /// A name as a key of the map. The number before the name is made of the name's last eight bytes,
 /// which distinguish most names.
-type Key<'t> = (u64, &'t str);
+type NameKey<'t> = (u64, &'t str);
 
 /// Returns the key of a name in the map.
-fn key_of<'t>(name: &'t str) -> (u64, &'t str)
+fn key_of_name<'t>(name: &'t str) -> (u64, &'t str)
     ensures { result ≡ (suffix_number name.entry.now, name.entry) }
 {
     (suffix_number(name.as_bytes()), name)
@@ -45,7 +45,7 @@ fn suffix_number(bytes: &[u8]) -> u64
     number_from_bytes(&bytes[bytes.len().saturating_sub(8)..])
 }
 
-/// Returns the number whose digits to the base 256 are these bytes, modulo 2^64.
+/// Returns the number whose base-256 digits are these bytes, modulo 2^64.
 fn number_from_bytes(bytes: &[u8]) -> u64
     ensures { result ≡ append_bytes bytes.now 0 }
 {
@@ -56,7 +56,7 @@ fn number_from_bytes(bytes: &[u8]) -> u64
     number
 }
 
-/// Appends a byte to a number as its last digit to the base 256, modulo 2^64.
+/// Appends a byte to a number as its last base-256 digit, modulo 2^64.
 fn append_byte(number: u64, byte: u8) -> u64
     ensures { result ≡ append_byte number byte }
 {
@@ -84,13 +84,13 @@ fn name_fingerprint(name: &str) -> u64 {
 /// Returns the slot of a name in the table of recent names: the ten highest bits of the product of
 /// the name's fingerprint (`name_fingerprint`) and a large constant. These bits depend on all bits
 /// of the fingerprint.
-fn slot_of(name: &str) -> usize {
+fn recent_slot_of_name(name: &str) -> usize {
     (name_fingerprint(name).wrapping_mul(0x9E37_79B9_7F4A_7C15) >> 54) as usize
 }
 
-/// Returns a table of recent names in which each slot has position 0, because no name was looked up
-/// yet. That is harmless, because a look-up compares the name at a slot's position with the sought
-/// name (`find_in_recent_names`).
+/// Returns a table of recent names in which each slot has position 0, although no name has been
+/// looked up yet. That is harmless, because a look-up compares the name at a slot's position with
+/// the sought name (`find_position_in_recent_names`).
 fn empty_recent_slots(alloc: Global) -> Result<Vec<usize>, AllocError> {
     vec![in alloc; 0; RECENT_SLOT_COUNT]
 }
@@ -110,7 +110,7 @@ pub(crate) struct NameEntry<'t> {
 #[derive(Drop)]
 pub(crate) struct NewestBindings<'t> {
     entries: Vec<NameEntry<'t>>,
-    name_positions: BTreeMap<Key<'t>, usize>,
+    name_positions: BTreeMap<NameKey<'t>, usize>,
     recent_positions: Vec<usize>,
 }
 
@@ -164,7 +164,7 @@ impl<'t> NewestBindings<'t> {
     /// Returns the position in the slot `slot` of the table of recent names, if `name` is at this
     /// position of the list. Otherwise returns None.
     #[inline(always)]
-    fn find_in_recent_names(&self, slot: usize, name: &'t str) -> Option<usize>
+    fn find_position_in_recent_names(&self, slot: usize, name: &'t str) -> Option<usize>
         ensures { IfSome result (λ name_position. position_of_name self.now name.now ≡ Some name_position) }
     {
         let name_position = match self.recent_positions.get(slot) {
@@ -194,21 +194,21 @@ impl<'t> NewestBindings<'t> {
         ensures found { result ≡ position_of_name self.old name.now }
         ensures same { self.new ≡ self.old }
     {
-        let slot = slot_of(name);
-        match self.find_in_recent_names(slot, name) {
+        let slot = recent_slot_of_name(name);
+        match self.find_position_in_recent_names(slot, name) {
             Some(name_position) => Some(name_position),
-            None => self.find_in_map(slot, name),
+            None => self.find_position_in_map(slot, name),
         }
     }
 
     /// Returns the position of a name in the list, found in the map. Writes the position into the
     /// slot `slot` of the table of recent names. Returns None if the name isn't in the list.
     #[cold]
-    fn find_in_map(&mut self, slot: usize, name: &'t str) -> Option<usize>
+    fn find_position_in_map(&mut self, slot: usize, name: &'t str) -> Option<usize>
         ensures found { result ≡ position_of_name self.old name.now }
         ensures same { self.new ≡ self.old }
     {
-        let name_position = match self.name_positions.get(&key_of(name)) {
+        let name_position = match self.name_positions.get(&key_of_name(name)) {
             None => return None,
             Some(name_position) => *name_position,
         };
@@ -226,7 +226,7 @@ impl<'t> NewestBindings<'t> {
     {
         self.entries.reserve(1)?;
         self.name_positions
-            .insert(key_of(name), self.entries.len())?;
+            .insert(key_of_name(name), self.entries.len())?;
         self.entries.push_reserved(NameEntry { name, newest: None });
         Ok(())
     }
@@ -244,7 +244,7 @@ impl<'t> NewestBindings<'t> {
         }
         let name_position = self.entries.len();
         self.add_name(name)?;
-        self.remember_position(slot_of(name), name_position);
+        self.remember_position(recent_slot_of_name(name), name_position);
         Ok(name_position)
     }
 

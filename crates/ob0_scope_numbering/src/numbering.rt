@@ -1,10 +1,10 @@
-//! Visits the declarations of a module in text order, and gives each identifier the ordinal of its
-//! declaration: the declaration's number in text order, after the predeclared names.
+//! Visits the declarations of a module in text order, and assigns to each identifier the ordinal of
+//! its declaration: the declaration's number in text order, after the predeclared names.
 //!
 //! Expressions, types and statements declare nothing. The walk of `ob0_tree` visits them, with
-//! `Numbering` as its `Visitor`. The contract of each function is an equation between whole states,
-//! for example `self.new ≡ visit_constant c self.old`. With such contracts, most functions that
-//! visit declarations need no proof file.
+//! `NumberingWalk` as its `Visitor`. The contract of each function is an equation between whole
+//! states, for example `self.new ≡ visit_constant c self.old`. With such contracts, most functions
+//! that visit declarations need no proof file.
 //!
 //! `make_names_visible_from` makes declared names visible, in the order of their ordinals. It is
 //! called after each constant, each type, and each group of variables or parameters. It is also
@@ -27,17 +27,17 @@
 ghost use Rattle.std.specs.Prelude.{◌≡◌, ◌+◌, ◌<◌, ◌^◌, [], OnOk, IfOk, length, Some, None};
 ghost use Rattle.ob0_tree.specs.declared.tree.Role.TheVariants as roles;
 ghost use Rattle.ob0_tree.specs.ParsedModule.{tree_of};
-ghost use Rattle.ob0_tree.specs.View.{names_of, constant_of, constants_of, type_declaration_of, types_of, variable_of, variables_of, section_of, formals_of, procedure_of, block_of};
+ghost use Rattle.ob0_tree.specs.View.{names_of, constant_of, constants_of, type_declaration_of, types_of, variable_of, variables_of, parameter_section_of, formals_of, procedure_of, block_of};
 ghost use Rattle.ob0_language_names.specs.Names.{naming_by_spelling};
 ghost use Rattle.ob0_language_names.specs.Parts.{names_in_list};
 ghost use Rattle.ob0_scope_table.specs.Resolution.{ordinal_in};
 ghost use Rattle.ob0_language_names.specs.Scopes.{ordinal_of, predeclared_count, predeclared_scope};
 ghost use Rattle.ob0_scope_numbering.specs.StoredScopes.{with_scope};
 ghost use Rattle.ob0_scope_numbering.specs.Written.{original_spellings, is_bound_to_renamed, spelling_at};
-ghost use Rattle.ob0_scope_numbering.specs.TableWalk.{with_mark, number_declaration, number_declarations, with_visible_name, with_visible_names_from, with_oldest_bindings, visit_identifier, visit_constant, visit_constant_section, visit_type, visit_type_section, visit_variable, visit_variable_section, visit_section, visit_formals, visit_procedure, visit_block, visit_module, initial_walk_state, number_module, put_ordinal};
+ghost use Rattle.ob0_scope_numbering.specs.TableWalk.{with_mark, number_declaration, number_declarations, with_visible_name, with_visible_names_from, with_oldest_bindings, visit_identifier, visit_constant, visit_constant_section, visit_type, visit_type_section, visit_variable, visit_variable_section, visit_parameter_section, visit_formals, visit_procedure, visit_block, visit_module, initial_walk_state, number_module, put_ordinal};
 ghost use Rattle.ob0_scope_numbering.specs.BodyWalk.{with_declarations_before, with_declaration, renumber_module, with_procedure_skipped, renumber_block, renumber_procedure, initial_walk_state_with_table};
 
-use crate::visible::VisibleBindings;
+use crate::visible::ScopeBindings;
 use crate::writing::{Spellings, is_bound_to_renamed};
 use ob0_scan::Tokens;
 use ob0_scope_table::{OrdinalEntry, PREDECLARED_COUNT, ordinal_at};
@@ -57,17 +57,17 @@ use std::marker::Model;
 /// identifier whose ordinal in this list is `declaration` gets the name that the renaming
 /// introduces.
 #[derive(Drop)]
-pub struct Numbering<'t> {
+pub struct NumberingWalk<'t> {
     tokens: &'t Tokens,
     ordinals: &'t [OrdinalEntry],
     declaration: Option<usize>,
-    visible: VisibleBindings<'t>,
+    visible: ScopeBindings<'t>,
     declaration_tokens: Vec<usize>,
     occurrences: Vec<usize>,
     table: Vec<OrdinalEntry>,
 }
 
-impl<'t> Model for Numbering<'t> {
+impl<'t> Model for NumberingWalk<'t> {
     ghost use Rattle.ob0_scope_numbering.specs.TableWalk.{WalkState};
 
     ghost Value = { WalkState };
@@ -87,7 +87,7 @@ impl<'t> Model for Numbering<'t> {
 }
 
 /// Visits the identifiers in expressions, types and statements, which declare nothing.
-impl<'t> Visitor for Numbering<'t> {
+impl<'t> Visitor for NumberingWalk<'t> {
     ghost use Rattle.ob0_scope_numbering.specs.TableWalk.{visit_identifier};
 
     ghost seen = { visit_identifier };
@@ -119,17 +119,17 @@ fn ordinal_at_index(index: usize) -> usize
 fn scope_with_predeclared_names<'t>(
     alloc: Global,
     new: &'t str,
-) -> Result<VisibleBindings<'t>, AllocError>
+) -> Result<ScopeBindings<'t>, AllocError>
     ensures { IfOk result
         (λ v. v ≡ record { new_name = new.entry.now; scope = predeclared_scope naming_by_spelling }) }
 {
-    let mut visible = VisibleBindings::new(alloc, new)?;
+    let mut visible = ScopeBindings::new(alloc, new)?;
     declare_predeclared(&mut visible)?;
     Ok(visible)
 }
 
 /// Binds the predeclared names in an empty scope, to the ordinals 0 to 6.
-fn declare_predeclared(visible: &mut VisibleBindings<'_>) -> Result<(), AllocError>
+fn declare_predeclared(visible: &mut ScopeBindings<'_>) -> Result<(), AllocError>
     ensures { OnOk result (visible.old.scope ≡ []
         → visible.new ≡ with_scope visible.old (predeclared_scope naming_by_spelling)) }
 {
@@ -149,11 +149,11 @@ fn visit_module<'t>(
     alloc: Global,
     read: &'t Module<'t>,
     writing: Spellings<'t>,
-) -> Result<Numbering<'t>, AllocError>
+) -> Result<NumberingWalk<'t>, AllocError>
     ensures { IfOk result (λ n. n ≡ visit_module (tree_of read.now) (initial_walk_state writing.entry)) }
 {
     let table = vec![in alloc; OrdinalEntry::new(None); writing.tokens.tokens().len()]?;
-    let mut numbering = Numbering {
+    let mut numbering = NumberingWalk {
         tokens: writing.tokens,
         ordinals: writing.ordinals,
         declaration: writing.declaration,
@@ -168,9 +168,9 @@ fn visit_module<'t>(
     Ok(numbering)
 }
 
-/// Gives the names of the body that contains the token `low` their ordinals again, and returns the
-/// changed table. `table` has the ordinals of all other identifiers. `all` has the declaring tokens
-/// of the whole module, in text order.
+/// Numbers the names in the body that contains the token `low` again, and returns the changed
+/// table. `table` has the ordinals of all other identifiers. `all` has the declaring tokens of the
+/// whole module, in text order.
 pub fn renumber_body(
     alloc: Global,
     read: &Module<'_>,
@@ -182,7 +182,7 @@ pub fn renumber_body(
         ≡ (renumber_module all.now low (tree_of read.now)
         (initial_walk_state_with_table (original_spellings read.now.source) table.items)).marks) }
 {
-    let mut numbering = Numbering {
+    let mut numbering = NumberingWalk {
         tokens: read.tokens(),
         ordinals: &[],
         declaration: None,
@@ -196,14 +196,14 @@ pub fn renumber_body(
     Ok(ordinals)
 }
 
-/// Gives the identifiers of a module, spelled as in `writing`, their ordinals, and returns the
-/// state after the visit. An entry of the table can hold every ordinal, because a text has at most
-/// 2^20 bytes and no more declarations than bytes.
+/// Assigns to each identifier of a module, spelled as in `writing`, the ordinal of its declaration,
+/// and returns the state after the visit. An entry of the table can hold every ordinal, because a
+/// text has at most 2^20 bytes and no more declarations than bytes.
 pub fn number_identifiers<'t>(
     alloc: Global,
     read: &'t Module<'t>,
     writing: Spellings<'t>,
-) -> Result<Numbering<'t>, AllocError>
+) -> Result<NumberingWalk<'t>, AllocError>
     ensures { IfOk result (λ n. n ≡ number_module (tree_of read.now) writing.entry) }
 {
     // The proof needs the contracts of these calls.
@@ -211,7 +211,7 @@ pub fn number_identifiers<'t>(
     visit_module(alloc, read, writing)
 }
 
-impl<'t> Numbering<'t> {
+impl<'t> NumberingWalk<'t> {
     /// Returns the tokens of the declaring names, the tokens of the looked-up names, and the table
     /// of ordinals.
     pub fn into_parts(self) -> (Vec<usize>, Vec<usize>, Vec<OrdinalEntry>)
@@ -219,7 +219,7 @@ impl<'t> Numbering<'t> {
         ensures uses { result.1.items ≡ self.entry.uses }
         ensures table { result.2.items ≡ self.entry.marks }
     {
-        let Numbering {
+        let NumberingWalk {
             tokens: _,
             ordinals: _,
             declaration: _,
@@ -254,8 +254,8 @@ impl<'t> Numbering<'t> {
         }
     }
 
-    /// Gives the declaring name at a token the next ordinal, and returns this ordinal. The name
-    /// isn't visible yet.
+    /// Assigns the next ordinal to the declaring name at a token, and returns this ordinal. Does
+    /// not make the name visible.
     fn number_name(&mut self, token: usize) -> Result<usize, AllocError>
         ensures next { IfOk result (λ ordinal. ordinal ≡ predeclared_count + length self.old.declaration_tokens) }
         ensures numbered { OnOk result (self.new ≡ number_declaration token self.old) }
@@ -341,8 +341,8 @@ impl<'t> Numbering<'t> {
         Ok(())
     }
 
-    /// Gives the declaring names of a list the next ordinals, in order. The names aren't visible
-    /// yet.
+    /// Assigns the next ordinals to the names in a declaration's name list, in order. Does not make
+    /// the names visible.
     fn number_names(&mut self, ns: &Names) -> Result<(), AllocError>
         ensures { OnOk result (self.new ≡ number_declarations (names_in_list (names_of ns.now)) self.old) }
     {
@@ -380,8 +380,8 @@ impl<'t> Numbering<'t> {
         self.make_names_visible_from(first)
     }
 
-    fn walk_section(&mut self, s: &ParameterSection) -> Result<(), AllocError>
-        ensures { OnOk result (self.new ≡ visit_section (section_of s.now) self.old) }
+    fn walk_parameter_section(&mut self, s: &ParameterSection) -> Result<(), AllocError>
+        ensures { OnOk result (self.new ≡ visit_parameter_section (parameter_section_of s.now) self.old) }
     {
         let first = self.declaration_count();
         self.number_names(&s.names)?;
@@ -437,7 +437,7 @@ impl<'t> Numbering<'t> {
     {
         if let Some(sections) = formals {
             for s in sections {
-                self.walk_section(s)?;
+                self.walk_parameter_section(s)?;
             }
         }
         Ok(())
@@ -501,8 +501,8 @@ impl<'t> Numbering<'t> {
         Ok(())
     }
 
-    /// Makes the name of the procedure that is declared at a token visible with the next ordinal,
-    /// without visiting the procedure.
+    /// Makes a procedure's name visible with the next ordinal, without visiting the procedure. The
+    /// name is declared at the token `token`.
     fn skip_procedure(&mut self, token: usize) -> Result<(), AllocError>
         ensures { OnOk result (self.new ≡ with_procedure_skipped token self.old) }
     {

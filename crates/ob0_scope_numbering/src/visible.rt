@@ -1,5 +1,5 @@
-//! Defines a scope: the names that are visible at a place of a module, with the ordinals of the
-//! declarations to which they are bound.
+//! Defines a scope: the names that are visible at a point of a module's text, with the ordinals of
+//! the declarations to which they are bound.
 
 ghost use Rattle.std.specs.Prelude.{◌≡◌, [], ◌∷◌, OnErr, OnOk, IfOk, length, drop, ◌-◌};
 ghost use Rattle.ob0_scope_numbering.specs.StoredScopes.{with_scope};
@@ -21,18 +21,18 @@ pub(crate) struct Binding<'t> {
     hidden_binding_index: Option<usize>,
 }
 
-/// The bindings of names at a place of a module, oldest first, including the hidden ones. `newest`
-/// has the index of the newest binding of each name. `new_name` is the name that a renaming
-/// introduces, or the empty name if nothing is renamed. `new_name` may be far longer than the names
-/// of the text, so its binding is found without reading the name.
+/// The bindings of names at a point of a module's text, oldest first, including hidden bindings.
+/// `newest` has the index of the newest binding of each name. `new_name` is the name that a
+/// renaming introduces, or the empty name if nothing is renamed. `new_name` may be far longer than
+/// the names of the text, so its binding is found without reading the name.
 #[derive(Drop)]
-pub(crate) struct VisibleBindings<'t> {
+pub(crate) struct ScopeBindings<'t> {
     new_name: &'t str,
     newest: NewestBindings<'t>,
     bindings: Vec<Binding<'t>>,
 }
 
-impl<'t> Model for VisibleBindings<'t> {
+impl<'t> Model for ScopeBindings<'t> {
     ghost use Rattle.ob0_scope_numbering.specs.StoredScopes.{VisibleNames, scope_of, IsConsistentScope};
 
     ghost Value = { VisibleNames };
@@ -42,12 +42,12 @@ impl<'t> Model for VisibleBindings<'t> {
     ghost invariant = { λ v. IsConsistentScope v.new_name.now v.newest v.bindings.items };
 }
 
-impl<'t> VisibleBindings<'t> {
+impl<'t> ScopeBindings<'t> {
     /// Returns an empty scope, for a renaming to `new_name`. No name is bound yet.
-    pub(crate) fn new(alloc: Global, new_name: &'t str) -> Result<VisibleBindings<'t>, AllocError>
+    pub(crate) fn new(alloc: Global, new_name: &'t str) -> Result<ScopeBindings<'t>, AllocError>
         ensures { IfOk result (λ v. v ≡ record { new_name = new_name.entry.now; scope = [] }) }
     {
-        Ok(VisibleBindings {
+        Ok(ScopeBindings {
             new_name,
             newest: NewestBindings::new(alloc, new_name)?,
             bindings: Vec::new(alloc),

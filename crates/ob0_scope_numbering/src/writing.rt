@@ -1,4 +1,4 @@
-//! Gives the spellings of a text's identifiers, as they are or as they are after a renaming.
+//! Gives the spellings of a text's identifiers, either as written or after a renaming.
 //!
 //! An identifier has its spelling in the text, unless the table of ordinals binds it to the renamed
 //! declaration. In that case it has the name that the renaming introduces. So one walk can number
@@ -11,10 +11,10 @@ use ob0_scan::Tokens;
 use ob0_scope_table::OrdinalEntry;
 use std::marker::Model;
 
-/// A text with a renaming of one declaration. `ordinals` is the table of the text's ordinals by
-/// token index. `declaration` is the ordinal of the renamed declaration, or None if nothing is
-/// renamed. `new` is the name that the renaming introduces, for all identifiers with the ordinal
-/// `declaration`.
+/// The spellings of a text's identifiers after one declaration is renamed. `ordinals` is the table
+/// of the text's ordinals by token index. `declaration` is the ordinal of the renamed declaration,
+/// or None if nothing is renamed. `new` is the name that the renaming introduces, for all
+/// identifiers with the ordinal `declaration`.
 #[derive(Drop)]
 pub struct Spellings<'t> {
     pub tokens: &'t Tokens,

@@ -11,42 +11,42 @@ use Rattle.ob0_tree.specs.View.{block_of, body_of, constants_of, items_of, proce
 use Rattle.ob0_tree.specs.declared.tree.Block.{Block, out-Block}
 use Rattle.ob0_tree.specs.declared.tree.Procedure.{Procedure, out-Procedure}
 use Rattle.ob0_tree.proofs.Viewed.{block_parts, procedure_parts}
-use Rattle.ob0_scope_table.specs.BodyPlaces.{body_place_of_range, body_place_of_statements_if, body_place_in_block, body_place_in_procedure}
+use Rattle.ob0_scope_table.specs.BodyPlaces.{body_bounds_of_range, body_bounds_of_statements_if, body_bounds_in_block, body_bounds_in_procedure}
 use Rattle.ob0_tree.specs.FirstIdentifier.{token_of_first_identifier}
 use Rattle.ob0_scope_table.specs.BodyReplaced.{PathToBody, body_at_path, body_at_path_in_block, body_at_path_in_procedure, closing_name_at_path, closing_name_at_path_in_block, closing_name_at_path_in_procedure, path_after_insertion_in_front, path_to_body_in_procedures, path_to_body_in_block, path_to_body_in_procedure, path_to_body_in_module}
 use Rattle.ob0_scope_table.specs.OneBody.{first_identifier_is_at_or_before, closing_name, is_range_in_body_of_block, is_range_in_one_body, is_range_in_body_of_procedure, is_range_in_body_of_procedures}
-use Rattle.ob0_scope_table.specs.declared.one_body.BodyPlace.{BodyPlace}
+use Rattle.ob0_scope_table.specs.declared.one_body.BodyBounds.{BodyBounds}
 
-abbrev pub a_place : ℕ → ℕ → Option BodyPlace
+abbrev pub a_place : ℕ → ℕ → Option BodyBounds
 a_place first closing = Some (record { first = first; closing = closing })
 
 -- ---- the properties of a place
 
 -- states that a place belongs to a sought body with this closing name
-pub record IsPlaceOf (sought : Bool) (statements : Tree ℕ (maybe body)) (closing : ℕ) (p : BodyPlace) : Type 0 where
+pub record IsPlaceOf (sought : Bool) (statements : Tree ℕ (maybe body)) (closing : ℕ) (p : BodyBounds) : Type 0 where
   pub is_bound_to_declaration : sought ≡ true
   pub first : token_of_first_identifier (identifiers role.Declaring statements) ≡ Some p.first
   pub closes : closing ≡ p.closing
 
-place_there : (statements : Tree ℕ (maybe body)) (closing : ℕ) (p : BodyPlace) (o : Option ℕ) → token_of_first_identifier (identifiers role.Declaring statements) ≡ o
+place_there : (statements : Tree ℕ (maybe body)) (closing : ℕ) (p : BodyBounds) (o : Option ℕ) → token_of_first_identifier (identifiers role.Declaring statements) ≡ o
     → option_map (λ first. record { first = first; closing = closing }) o ≡ Some p → IsPlaceOf true statements closing p
 place_there statements closing p None is e = absurd (cc)
 place_there statements closing p (Some first) is e =
     let same = same_Some (record { first = first; closing = closing }) p e in
-    record { is_bound_to_declaration = refl; first = is ∙ ap (λ (q : BodyPlace). Some q.first) same; closes = ap (λ (q : BodyPlace). q.closing) same }
+    record { is_bound_to_declaration = refl; first = is ∙ ap (λ (q : BodyBounds). Some q.first) same; closes = ap (λ (q : BodyBounds). q.closing) same }
 
-place_read : (sought : Bool) (statements : Tree ℕ (maybe body)) (closing : ℕ) (p : BodyPlace) → body_place_of_statements_if sought statements closing ≡ Some p → IsPlaceOf sought statements closing p
+place_read : (sought : Bool) (statements : Tree ℕ (maybe body)) (closing : ℕ) (p : BodyBounds) → body_bounds_of_statements_if sought statements closing ≡ Some p → IsPlaceOf sought statements closing p
 place_read true statements closing p e = place_there statements closing p (token_of_first_identifier (identifiers role.Declaring statements)) refl e
 place_read false statements closing p e = absurd (cc)
 
 -- The place that is found in a module belongs to the sought body.
-pub body_place_read : (low high : ℕ) (t : Tree ℕ module_text) (p : BodyPlace) → body_place_of_range low high t ≡ Some p
+pub body_place_read : (low high : ℕ) (t : Tree ℕ module_text) (p : BodyBounds) → body_bounds_of_range low high t ≡ Some p
     → IsPlaceOf (is_range_in_one_body low high t) (body_at_path (path_to_body_in_module low t) t) (closing_name_at_path (path_to_body_in_module low t) t) p
 body_place_read low high t p e = place_read (is_range_in_one_body low high t) (body_at_path (path_to_body_in_module low t) t) (closing_name_at_path (path_to_body_in_module low t) t) p e
 
 -- ---- the place of some statements, from their first identifier
 
-abbrev pub place_by : ℕ → ℕ → List (Role × ℕ) → Option BodyPlace
+abbrev pub place_by : ℕ → ℕ → List (Role × ℕ) → Option BodyBounds
 place_by low closing xs = if first_identifier_is_at_or_before low xs then option_map (λ first. record { first = first; closing = closing }) (token_of_first_identifier xs) else None
 
 module _ (low closing : ℕ) where
@@ -67,8 +67,8 @@ module _ (low closing : ℕ) where
       ap (λ n. a_place n closing) (sym same) ∙ ap (λ b. if b then a_place x.1 closing else None) (sym (le-leb x.1 low (omega (arith, same, le))))
 
   module _ (statements : Tree ℕ (maybe body)) where
-    abbrev own_place : Option BodyPlace
-    own_place = body_place_of_statements_if (first_identifier_is_at_or_before low (identifiers role.Declaring statements)) statements closing
+    abbrev own_place : Option BodyBounds
+    own_place = body_bounds_of_statements_if (first_identifier_is_at_or_before low (identifiers role.Declaring statements)) statements closing
 
     pub placed_none : token_of_first_identifier (identifiers role.Declaring statements) ≡ None → None ≡ own_place
     placed_none e = by_none (identifiers role.Declaring statements) e
@@ -95,38 +95,38 @@ module _ (cs : Tree ℕ (maybe constants)) (ts : Tree ℕ (maybe type_definition
 
 module _ (low high own : ℕ) where
   -- returns the place in a procedure that doesn't close before the range
-  abbrev pub place_reached : ℕ → Tree ℕ (item procedure) → Option BodyPlace
-  place_reached closing p = body_place_of_statements_if (nat_le high closing && is_range_in_body_of_procedure low high p) (body_at_path_in_procedure (path_to_body_in_procedure low p) p) (closing_name_at_path_in_procedure (path_to_body_in_procedure low p) p)
+  abbrev pub place_reached : ℕ → Tree ℕ (item procedure) → Option BodyBounds
+  place_reached closing p = body_bounds_of_statements_if (nat_le high closing && is_range_in_body_of_procedure low high p) (body_at_path_in_procedure (path_to_body_in_procedure low p) p) (closing_name_at_path_in_procedure (path_to_body_in_procedure low p) p)
 
   -- returns the place in procedures, or else in the statements of their block
-  abbrev pub place_among : Tree ℕ (items procedure) → Tree ℕ (maybe body) → Option BodyPlace
-  place_among end statements = body_place_of_statements_if (first_identifier_is_at_or_before low (identifiers role.Declaring statements)) statements own
+  abbrev pub place_among : Tree ℕ (items procedure) → Tree ℕ (maybe body) → Option BodyBounds
+  place_among end statements = body_bounds_of_statements_if (first_identifier_is_at_or_before low (identifiers role.Declaring statements)) statements own
   place_among (more p ps) statements = if nat_lt (closing_name p) low then place_among ps statements else place_reached (closing_name p) p
 
   pub among_block : (cs : Tree ℕ (maybe constants)) (ts : Tree ℕ (maybe type_definitions)) (vs : Tree ℕ (maybe variables)) (ps : Tree ℕ (items procedure)) (statements : Tree ℕ (maybe body))
-      → body_place_in_block low high own (forms_block (declares cs ts vs ps) statements) ≡ place_among ps statements
+      → body_bounds_in_block low high own (forms_block (declares cs ts vs ps) statements) ≡ place_among ps statements
   among_block cs ts vs end statements = refl
   among_block cs ts vs (more p ps) statements =
       elim (nat_lt (closing_name p) low) as (λ z.
-      body_place_of_statements_if (if z then is_range_in_body_of_procedures low high ps statements else nat_le high (closing_name p) && is_range_in_body_of_procedure low high p)
+      body_bounds_of_statements_if (if z then is_range_in_body_of_procedures low high ps statements else nat_le high (closing_name p) && is_range_in_body_of_procedure low high p)
       (body_at_path_in_block (if z then path_after_insertion_in_front (path_to_body_in_procedures low ps) else zero ∷ path_to_body_in_procedure low p) (forms_block (declares cs ts vs (more p ps)) statements))
       (closing_name_at_path_in_block (if z then path_after_insertion_in_front (path_to_body_in_procedures low ps) else zero ∷ path_to_body_in_procedure low p) own (forms_block (declares cs ts vs (more p ps)) statements))
       ≡ (if z then place_among ps statements else place_reached (closing_name p) p)) [
         | true ↦
-            ap (λ b. body_place_of_statements_if (is_range_in_body_of_procedures low high ps statements) b (closing_name_at_path_in_block (path_after_insertion_in_front (path_to_body_in_procedures low ps)) own (forms_block (declares cs ts vs (more p ps)) statements))) (body_later cs ts vs p ps statements (path_to_body_in_procedures low ps))
-            ∙ (ap (body_place_of_statements_if (is_range_in_body_of_procedures low high ps statements) (body_at_path_in_block (path_to_body_in_procedures low ps) (forms_block (declares cs ts vs ps) statements))) (closing_later cs ts vs p ps statements (path_to_body_in_procedures low ps) own)
+            ap (λ b. body_bounds_of_statements_if (is_range_in_body_of_procedures low high ps statements) b (closing_name_at_path_in_block (path_after_insertion_in_front (path_to_body_in_procedures low ps)) own (forms_block (declares cs ts vs (more p ps)) statements))) (body_later cs ts vs p ps statements (path_to_body_in_procedures low ps))
+            ∙ (ap (body_bounds_of_statements_if (is_range_in_body_of_procedures low high ps statements) (body_at_path_in_block (path_to_body_in_procedures low ps) (forms_block (declares cs ts vs ps) statements))) (closing_later cs ts vs p ps statements (path_to_body_in_procedures low ps) own)
             ∙ among_block cs ts vs ps statements)
         | false ↦ refl
       ]
 
-  pub block_place : (b : Block) → body_place_in_block low high own (block_of b) ≡ place_among (items_of procedure_of (out-Block b).procedures.items) (body_of (out-Block b).body)
+  pub block_place : (b : Block) → body_bounds_in_block low high own (block_of b) ≡ place_among (items_of procedure_of (out-Block b).procedures.items) (body_of (out-Block b).body)
   block_place b =
-      ap (body_place_in_block low high own) (block_parts b)
+      ap (body_bounds_in_block low high own) (block_parts b)
       ∙ among_block (constants_of (out-Block b).constants) (types_of (out-Block b).types) (variables_of (out-Block b).variables) (items_of procedure_of (out-Block b).procedures.items) (body_of (out-Block b).body)
 
   module _ (statements : Tree ℕ (maybe body)) where
     -- returns the place in the procedures from the k-th onwards, or else in the statements
-    abbrev pub place_from : ℕ → List Procedure → Option BodyPlace
+    abbrev pub place_from : ℕ → List Procedure → Option BodyBounds
     place_from k xs = place_among (items_of procedure_of (drop k xs)) statements
 
     one_more : (xs : List Procedure) (k : ℕ) (q : Procedure) → k < length xs → q ≡ get_or xs k q
@@ -145,27 +145,27 @@ module _ (low high own : ℕ) where
 
     -- The place is in this procedure if the range doesn't extend beyond its end (`b`).
     at_end : (q : Procedure) (b : Bool) → nat_le high (out-Procedure q).closing ≡ b
-        → place_reached (out-Procedure q).closing (procedure_of q) ≡ body_place_of_statements_if (b && is_range_in_body_of_procedure low high (procedure_of q)) (body_at_path_in_procedure (path_to_body_in_procedure low (procedure_of q)) (procedure_of q)) (closing_name_at_path_in_procedure (path_to_body_in_procedure low (procedure_of q)) (procedure_of q))
-    at_end q b e = ap (λ b. body_place_of_statements_if (b && is_range_in_body_of_procedure low high (procedure_of q)) (body_at_path_in_procedure (path_to_body_in_procedure low (procedure_of q)) (procedure_of q)) (closing_name_at_path_in_procedure (path_to_body_in_procedure low (procedure_of q)) (procedure_of q))) e
+        → place_reached (out-Procedure q).closing (procedure_of q) ≡ body_bounds_of_statements_if (b && is_range_in_body_of_procedure low high (procedure_of q)) (body_at_path_in_procedure (path_to_body_in_procedure low (procedure_of q)) (procedure_of q)) (closing_name_at_path_in_procedure (path_to_body_in_procedure low (procedure_of q)) (procedure_of q))
+    at_end q b e = ap (λ b. body_bounds_of_statements_if (b && is_range_in_body_of_procedure low high (procedure_of q)) (body_at_path_in_procedure (path_to_body_in_procedure low (procedure_of q)) (procedure_of q)) (closing_name_at_path_in_procedure (path_to_body_in_procedure low (procedure_of q)) (procedure_of q))) e
 
     pub past_end : (xs : List Procedure) (k : ℕ) (q : Procedure) → k < length xs → q ≡ get_or xs k q → low ≤ (out-Procedure q).closing → (out-Procedure q).closing < high → place_from k xs ≡ None
     past_end xs k q less here le far = in_one xs k q less here le ∙ at_end q false (lt-leb high (out-Procedure q).closing far)
 
-    pub in_procedure : (xs : List Procedure) (k : ℕ) (q : Procedure) → k < length xs → q ≡ get_or xs k q → low ≤ (out-Procedure q).closing → high ≤ (out-Procedure q).closing → place_from k xs ≡ body_place_in_procedure low high (procedure_of q)
+    pub in_procedure : (xs : List Procedure) (k : ℕ) (q : Procedure) → k < length xs → q ≡ get_or xs k q → low ≤ (out-Procedure q).closing → high ≤ (out-Procedure q).closing → place_from k xs ≡ body_bounds_in_procedure low high (procedure_of q)
     in_procedure xs k q less here le near = in_one xs k q less here le ∙ at_end q true (le-leb high (out-Procedure q).closing near)
 
-    pub in_statements : (xs : List Procedure) (k : ℕ) → length xs ≤ k → place_from k xs ≡ body_place_of_statements_if (first_identifier_is_at_or_before low (identifiers role.Declaring statements)) statements own
+    pub in_statements : (xs : List Procedure) (k : ℕ) → length xs ≤ k → place_from k xs ≡ body_bounds_of_statements_if (first_identifier_is_at_or_before low (identifiers role.Declaring statements)) statements own
     in_statements xs k all = ap (λ ys. place_among (items_of procedure_of ys) statements) (drop_all k xs all)
 
 -- ---- a range has a place exactly if it is inside a body
 
 module _ (low high : ℕ) where
-  begins_placed : (own : ℕ) (statements : Tree ℕ (maybe body)) → is_some (body_place_of_statements_if (first_identifier_is_at_or_before low (identifiers role.Declaring statements)) statements own) ≡ first_identifier_is_at_or_before low (identifiers role.Declaring statements)
+  begins_placed : (own : ℕ) (statements : Tree ℕ (maybe body)) → is_some (body_bounds_of_statements_if (first_identifier_is_at_or_before low (identifiers role.Declaring statements)) statements own) ≡ first_identifier_is_at_or_before low (identifiers role.Declaring statements)
   begins_placed own statements = one (identifiers role.Declaring statements)
     where
       one : (xs : List (Role × ℕ)) → is_some (place_by low own xs) ≡ first_identifier_is_at_or_before low xs
       one [] = refl
-      one (x ∷ xs) = elim (nat_le x.1 low) as (λ z. is_some {T = BodyPlace} (if z then a_place x.1 own else None) ≡ z) [ true ↦ refl | false ↦ refl ]
+      one (x ∷ xs) = elim (nat_le x.1 low) as (λ z. is_some {T = BodyBounds} (if z then a_place x.1 own else None) ≡ z) [ true ↦ refl | false ↦ refl ]
 
   mutual
     among_placed : (own : ℕ) (ps : Tree ℕ (items procedure)) (statements : Tree ℕ (maybe body)) → is_some (place_among low high own ps statements) ≡ is_range_in_body_of_procedures low high ps statements
@@ -175,19 +175,19 @@ module _ (low high : ℕ) where
         ≡ (if z then is_range_in_body_of_procedures low high ps statements else nat_le high (closing_name p) && is_range_in_body_of_procedure low high p)) [
           | true ↦ among_placed own ps statements
           | false ↦
-              elim (nat_le high (closing_name p)) as (λ z. is_some (body_place_of_statements_if (z && is_range_in_body_of_procedure low high p) (body_at_path_in_procedure (path_to_body_in_procedure low p) p) (closing_name_at_path_in_procedure (path_to_body_in_procedure low p) p))
+              elim (nat_le high (closing_name p)) as (λ z. is_some (body_bounds_of_statements_if (z && is_range_in_body_of_procedure low high p) (body_at_path_in_procedure (path_to_body_in_procedure low p) p) (closing_name_at_path_in_procedure (path_to_body_in_procedure low p) p))
               ≡ (z && is_range_in_body_of_procedure low high p)) [ true ↦ procedure_placed p | false ↦ refl ]
         ]
 
-    pub block_placed : (own : ℕ) (b : Tree ℕ block) → is_some (body_place_in_block low high own b) ≡ is_range_in_body_of_block low high b
+    pub block_placed : (own : ℕ) (b : Tree ℕ block) → is_some (body_bounds_in_block low high own b) ≡ is_range_in_body_of_block low high b
     block_placed own (forms_block (declares cs ts vs ps) statements) = ap is_some (among_block low high own cs ts vs ps statements) ∙ among_placed own ps statements
 
-    procedure_placed : (p : Tree ℕ (item procedure)) → is_some (body_place_in_procedure low high p) ≡ is_range_in_body_of_procedure low high p
+    procedure_placed : (p : Tree ℕ (item procedure)) → is_some (body_bounds_in_procedure low high p) ≡ is_range_in_body_of_procedure low high p
     procedure_placed (declares_procedure x fs b closing) = block_placed closing b
 
-  pub body_placed : (t : Tree ℕ module_text) → is_some (body_place_of_range low high t) ≡ is_range_in_one_body low high t
+  pub body_placed : (t : Tree ℕ module_text) → is_some (body_bounds_of_range low high t) ≡ is_range_in_one_body low high t
   body_placed (is_module x b closing) =
-      elim (nat_le high closing) as (λ z. is_some (body_place_of_statements_if (z && is_range_in_body_of_block low high b) (body_at_path_in_block (path_to_body_in_block low b) b) (closing_name_at_path_in_block (path_to_body_in_block low b) closing b)) ≡ (z && is_range_in_body_of_block low high b)) [
+      elim (nat_le high closing) as (λ z. is_some (body_bounds_of_statements_if (z && is_range_in_body_of_block low high b) (body_at_path_in_block (path_to_body_in_block low b) b) (closing_name_at_path_in_block (path_to_body_in_block low b) closing b)) ≡ (z && is_range_in_body_of_block low high b)) [
         | true ↦ block_placed closing b
         | false ↦ refl
       ]

@@ -3,7 +3,7 @@
 use Rattle.std.proofs.Common.{◌≡◌, ℕ, suc, ◌+◌, List, [], ◌∷◌, ◌++◌, length, refl, sym, ap, ◌∙◌, arith, append-nil}
 use Rattle.ob0_tree.specs.declared.tree.Role.TheVariants as role
 use Rattle.ob0_tree.specs.Tree.{Tree, identifiers, block, constant, constants, declares, declares_constant, declares_constants, declares_procedure, declares_type, declares_types, declares_variable, declares_variables, end, formals, further_name, further_section, forms_block, is_module, item, items, listed, maybe, module_text, more, names, none, one, procedure, section, some_formals, then_name, then_section, type_definition, type_definitions, value_section, variable, variable_section, variables, written_type}
-use Rattle.ob0_language_names.specs.Parts.{constant_names, formal_names, formal_sections, further_names, module_block, declared_type_names, names_in_list, section_constants, section_names, section_types, section_variables, variable_names}
+use Rattle.ob0_language_names.specs.Parts.{constant_names, formal_names, formal_sections, further_names, module_block, declared_type_names, names_in_list, section_constants, parameter_section_names, section_types, section_variables, variable_names}
 use Rattle.ob0_scope_table.specs.Resolution.{declaring_names}
 use Rattle.ob0_language_names.specs.Scopes.{ordinal_after_block, ordinal_after_names, ordinal_after_procedure, ordinal_after_procedures}
 use Rattle.ob0_language_names.proofs.Ordinals.{ordinal_after_names-append}
@@ -63,7 +63,7 @@ group_declared ns t =
     declaring_names-append (identifiers role.Declaring ns) (identifiers role.Declaring t)
     ∙ ((λ i. listed_declared ns i ++ (declares_nothing tt t).plain i) ∙ append-nil (names_in_list ns))
 
-section_declared : (s : Tree ℕ section) → declaring_names (identifiers role.Declaring s) ≡ section_names s
+section_declared : (s : Tree ℕ section) → declaring_names (identifiers role.Declaring s) ≡ parameter_section_names s
 section_declared (value_section ns t) = group_declared ns t
 section_declared (variable_section ns t) = group_declared ns t
 

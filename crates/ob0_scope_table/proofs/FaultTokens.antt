@@ -11,16 +11,16 @@ use Rattle.ob0_scan.specs.Reused.{words_of_tokens}
 use Rattle.ob0_scan.specs.TextWithTokens.{TextWithTokens, Word}
 use Rattle.ob0_tree.specs.declared.tree.ModuleTree.{ModuleTree}
 use Rattle.ob0_tree.specs.ParsedModule.{named_tree_of, parsed_module, tree_of}
-use Rattle.ob0_tree.specs.Places.{token_text_at, token_text_or_empty, token_value_at, token_value_or_zero, kind_value_or_zero}
+use Rattle.ob0_tree.specs.Places.{token_text_at, token_text_or_empty, token_value_at, token_value_or_zero, integer_value_or_zero}
 use Rattle.ob0_tree.specs.Tree.{Tree, array_type, block, declares, declares_procedure, declares_type, declares_variable, end, fields, further_fields, further_section, forms_block, is_module, item, items, mapped_tree, module_text, more, named_type, no_fields, occurrences, procedure, record_type, some_fields, then_fields, then_section, type_definition, variable, written_type}
 use Rattle.ob0_language_names.specs.ConsistentNames.{block_names, group_field_names, further_field_names, is_among}
 use Rattle.ob0_language_names.specs.Names.{Label, Name, same_name}
 use Rattle.ob0_language_names.specs.Occurrences.{bindings}
-use Rattle.ob0_language_names.specs.Parts.{formal_names, formal_sections, section_type, section_types, section_variables}
+use Rattle.ob0_language_names.specs.Parts.{formal_names, formal_sections, parameter_section_type, section_types, section_variables}
 use Rattle.ob0_scope_table.specs.DuplicatesAndEndNames.{duplicate_faults, block_declaration_faults, closing_name_faults, duplicate_fault, end_name_fault, duplicate_field_faults, duplicate_field_faults_in_formals, duplicate_field_faults_in_group, duplicate_field_faults_in_groups, tree_declaration_faults, procedure_declaration_faults, procedures_declaration_faults, declaration_faults, duplicate_field_faults_in_types, fault_unless, duplicate_field_faults_in_variables}
-use Rattle.ob0_scope_table.specs.FaultTokens.{AreFaultsAtSameTokens, AreWrittenAlike, fault_at}
+use Rattle.ob0_scope_table.specs.FaultTokens.{AreFaultsAtSameTokens, HaveSameKindsAndSpellings, fault_with_span}
 use Rattle.ob0_scope_table.specs.Resolution.{is_unbound, undeclared_faults_by_labels, undeclared_faults}
-use Rattle.ob0_scope_table.specs.declared.fault_tokens.FaultByTokens.{FaultByTokens}
+use Rattle.ob0_scope_table.specs.declared.fault_tokens.FaultWithTokenIndexes.{FaultWithTokenIndexes}
 
 -- ---- spellings and values of tokens
 
@@ -38,17 +38,17 @@ value_same : (a b : List ℕ) (ts us : List Token) (i : ℕ) → words_of_tokens
 value_same a b [] [] i e = refl
 value_same a b [] (u ∷ us) i e = absurd (omega (arith, ap length e))
 value_same a b (t ∷ ts) [] i e = absurd (omega (arith, ap length e))
-value_same a b (t ∷ ts) (u ∷ us) zero e = ap (λ (l : List Word). kind_value_or_zero (get_or l 0 no_word).kind) e
+value_same a b (t ∷ ts) (u ∷ us) zero e = ap (λ (l : List Word). integer_value_or_zero (get_or l 0 no_word).kind) e
 value_same a b (t ∷ ts) (u ∷ us) (suc i) e = value_same a b ts us i (ap (drop 1) e)
 
-pub texts_stay : (old new : TextWithTokens) → AreWrittenAlike old new → token_text_at new ≡ token_text_at old
+pub texts_stay : (old new : TextWithTokens) → HaveSameKindsAndSpellings old new → token_text_at new ≡ token_text_at old
 texts_stay old new w = λ j i. text_same old.text new.text old.tokens new.tokens i w.same_words j
 
-pub values_stay : (old new : TextWithTokens) → AreWrittenAlike old new → token_value_at new ≡ token_value_at old
+pub values_stay : (old new : TextWithTokens) → HaveSameKindsAndSpellings old new → token_value_at new ≡ token_value_at old
 values_stay old new w = λ j i. value_same old.text new.text old.tokens new.tokens i w.same_words j
 
 -- The tree has the same names and numbers over both texts.
-pub tree_named : (old new : TextWithTokens) → AreWrittenAlike old new → (tree : ModuleTree) → named_tree_of (parsed_module new tree) ≡ named_tree_of (parsed_module old tree)
+pub tree_named : (old new : TextWithTokens) → HaveSameKindsAndSpellings old new → (tree : ModuleTree) → named_tree_of (parsed_module new tree) ≡ named_tree_of (parsed_module old tree)
 tree_named old new w tree = λ j. mapped_tree (texts_stay old new w j) (values_stay old new w j) (tree_of (parsed_module old tree))
 
 -- ---- faults at the same tokens
@@ -68,31 +68,31 @@ module _ (old new : TextWithTokens) where
   pub none_same : Same [] []
   none_same = record { tokens = []; in_old = refl; in_new = refl }
 
-  pub one_same : (f : FaultByTokens) → Same (fault_at old f ∷ []) (fault_at new f ∷ [])
+  pub one_same : (f : FaultWithTokenIndexes) → Same (fault_with_span old f ∷ []) (fault_with_span new f ∷ [])
   one_same f = record { tokens = f ∷ []; in_old = refl; in_new = refl }
 
   pub both_same : {a b c d : List Fault} → Same a b → Same c d → Same (a ++ c) (b ++ d)
   both_same p q = record {
     tokens = p.tokens ++ q.tokens;
-    in_old = ap₂ (λ x y. x ++ y) p.in_old q.in_old ∙ sym (map-append (fault_at old) p.tokens q.tokens);
-    in_new = ap₂ (λ x y. x ++ y) p.in_new q.in_new ∙ sym (map-append (fault_at new) p.tokens q.tokens);
+    in_old = ap₂ (λ x y. x ++ y) p.in_old q.in_old ∙ sym (map-append (fault_with_span old) p.tokens q.tokens);
+    in_new = ap₂ (λ x y. x ++ y) p.in_new q.in_new ∙ sym (map-append (fault_with_span new) p.tokens q.tokens);
   }
 
   -- The faults whose codes pass a test are at the same tokens.
-  pub filter_same : {a b : List Fault} (p : Fault → Bool) → ((f : FaultByTokens) → p (fault_at new f) ≡ p (fault_at old f)) → Same a b → Same (filter p a) (filter p b)
+  pub filter_same : {a b : List Fault} (p : Fault → Bool) → ((f : FaultWithTokenIndexes) → p (fault_with_span new f) ≡ p (fault_with_span old f)) → Same a b → Same (filter p a) (filter p b)
   filter_same p alike h = record {
-    tokens = filter (λ f. p (fault_at old f)) h.tokens;
-    in_old = ap (filter p) h.in_old ∙ filter_mapped (fault_at old) p h.tokens;
-    in_new = ap (filter p) h.in_new ∙ (filter_mapped (fault_at new) p h.tokens ∙ ap (λ (q : FaultByTokens → Bool). map (fault_at new) (filter q h.tokens)) (λ j f. alike f j));
+    tokens = filter (λ f. p (fault_with_span old f)) h.tokens;
+    in_old = ap (filter p) h.in_old ∙ filter_mapped (fault_with_span old) p h.tokens;
+    in_new = ap (filter p) h.in_new ∙ (filter_mapped (fault_with_span new) p h.tokens ∙ ap (λ (q : FaultWithTokenIndexes → Bool). map (fault_with_span new) (filter q h.tokens)) (λ j f. alike f j));
   }
 
   -- ---- duplicate declarations and closing names
 
-  module _ (w : AreWrittenAlike old new) where
+  module _ (w : HaveSameKindsAndSpellings old new) where
     same_texts : token_text_at old ≡ token_text_at new
     same_texts = sym (texts_stay old new w)
 
-    unless_same : (b : Bool) (f : FaultByTokens) → Same (fault_unless b (fault_at old f)) (fault_unless b (fault_at new f))
+    unless_same : (b : Bool) (f : FaultWithTokenIndexes) → Same (fault_unless b (fault_with_span old f)) (fault_unless b (fault_with_span new f))
     unless_same true f = none_same
     unless_same false f = one_same f
 
@@ -129,7 +129,7 @@ module _ (old new : TextWithTokens) where
 
     formals_same : (fs : Tree ℕ (items further_section)) → Same (duplicate_field_faults_in_formals old fs) (duplicate_field_faults_in_formals new fs)
     formals_same end = none_same
-    formals_same (more (then_section s) fs) = both_same (fields_same (section_type s)) (formals_same fs)
+    formals_same (more (then_section s) fs) = both_same (fields_same (parameter_section_type s)) (formals_same fs)
 
     mutual
       block_same : (own : List ℕ) (b : Tree ℕ block) → Same (block_declaration_faults old own b) (block_declaration_faults new own b)
@@ -150,7 +150,7 @@ module _ (old new : TextWithTokens) where
 
     -- ---- undeclared names
 
-    with_one : (b : Bool) (f : FaultByTokens) (before after : List Fault) → Same before after → Same (if b then fault_at old f ∷ before else before) (if b then fault_at new f ∷ after else after)
+    with_one : (b : Bool) (f : FaultWithTokenIndexes) (before after : List Fault) → Same before after → Same (if b then fault_with_span old f ∷ before else before) (if b then fault_with_span new f ∷ after else after)
     with_one true f before after h = both_same (one_same f) h
     with_one false f before after h = h
 

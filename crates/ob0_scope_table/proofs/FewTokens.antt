@@ -5,10 +5,10 @@ use Rattle.ob0_scan.specs.declared.lexeme.LexemeKind.TheVariants as lexeme
 use Rattle.ob0_scan.specs.declared.lexeme.Span.{Span}
 use Rattle.ob0_scan.specs.declared.lexeme.Token.{Token}
 use Rattle.ob0_scan.specs.Lexed.{Lexeme, text_of_lexemes}
-use Rattle.ob0_scan.specs.TextWithTokens.{IsScan, TextWithTokens, max_text, span_from, token_at, tokens_from}
+use Rattle.ob0_scan.specs.TextWithTokens.{IsScan, TextWithTokens, max_text_length, span_from, tokens_of_lexeme, tokens_from}
 use Rattle.ob0_scan.proofs.AtLexemes.{Full, full}
 
-one_token : (k : LexemeKind) (place : Span) → length (token_at k place) ≤ 1
+one_token : (k : LexemeKind) (place : Span) → length (tokens_of_lexeme k place) ≤ 1
 one_token lexeme.Space place = omega arith
 one_token lexeme.Comment place = omega arith
 one_token (lexeme.Token k) place = omega arith
@@ -21,11 +21,11 @@ few_from from (l ∷ ls) h =
     let some = h.0 in
     let one = one_token l.kind place in
     let more = few_from (from + length l.text) ls h.1 in
-    let tokens = length-append (token_at l.kind place) rest in
+    let tokens = length-append (tokens_of_lexeme l.kind place) rest in
     let bytes = length-append l.text (text_of_lexemes ls) in
     omega (arith, some, one, more, tokens, bytes)
 
-pub few_tokens : (s : TextWithTokens) → IsScan s → length s.tokens ≤ max_text
+pub few_tokens : (s : TextWithTokens) → IsScan s → length s.tokens ≤ max_text_length
 few_tokens s scan =
     let few = few_from 0 scan.lexemes (full scan.lexemes [] scan.lexed.each) in
     let tokens : length s.tokens ≡ length (tokens_from 0 scan.lexemes) = ap (λ (ts : List Token). length ts) scan.tokens in

@@ -1,7 +1,7 @@
 -- Proves which new indexes the tokens outside the replaced range have.
 use Rattle.std.proofs.Common.{◌≡◌, ◌<◌, ◌≤◌, ◌+◌, ◌-◌, ◌||◌, ◌⊎◌, ℕ, Bool, true, false, nat_le, nat_lt, if◌then◌else◌, refl, sym, ap, ◌∙◌, arith, inl, inr, leb-true, ltb-true}
 use Rattle.std.proofs.lemmas.Bool.{le-leb, le-ltb, lt-ltb}
-use Rattle.ob0_scan.specs.declared.tokens.SameParts.{SameParts}
+use Rattle.ob0_scan.specs.declared.tokens.CommonPrefixAndSuffix.{CommonPrefixAndSuffix}
 use Rattle.ob0_scope_table.specs.BodyReplaced.{moved_token_index}
 use Rattle.ob0_scope_table.specs.OneBody.{is_outside_range}
 
@@ -23,7 +23,7 @@ above_out low high k le = one (nat_lt k low)
     one true = refl
     one false = le-leb high k le
 
-module _ (s : SameParts) where
+module _ (s : CommonPrefixAndSuffix) where
   pub moved_below : (k : ℕ) → k < s.prefix → moved_token_index s k ≡ k
   moved_below k less = ap (λ b. if b then k else s.new_suffix + (k - s.old_suffix)) (lt-ltb k s.prefix less)
 

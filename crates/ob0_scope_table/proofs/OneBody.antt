@@ -5,7 +5,7 @@ use Rattle.ob0_scan.specs.declared.lexeme.Token.{Token}
 use Rattle.ob0_scan.specs.Reused.{words_of_tokens}
 use Rattle.ob0_scan.specs.TextWithTokens.{TextWithTokens, Word}
 use Rattle.ob0_tree.specs.ParsedModule.{ParsedModule}
-use Rattle.ob0_tree.specs.Places.{token_text_at, token_text_or_empty, token_value_or_zero, kind_value_or_zero}
+use Rattle.ob0_tree.specs.Places.{token_text_at, token_text_or_empty, token_value_or_zero, integer_value_or_zero}
 use Rattle.ob0_scope_table.specs.OneBody.{IsBodyChange, is_outside_range}
 
 -- returns the spelling of a token's word
@@ -15,7 +15,7 @@ word_text (Some w) = w.text
 
 abbrev pub word_value : Option Word → ℕ
 word_value None = 0
-word_value (Some w) = kind_value_or_zero w.kind
+word_value (Some w) = integer_value_or_zero w.kind
 
 pub text_in_word : (text : List ℕ) (ts : List Token) (i : ℕ) → token_text_or_empty text (slice_get ts i) ≡ word_text (slice_get (words_of_tokens text ts) i)
 text_in_word text [] i = refl

@@ -5,9 +5,9 @@ use Rattle.ob0_scan.specs.declared.lexeme.Token.{Token}
 use Rattle.ob0_scan.specs.declared.lexeme.TokenKind.{TokenKind}
 use Rattle.ob0_scan.specs.declared.lexeme.TokenKind.TheVariants as kind
 use Rattle.ob0_tree.specs.Lexeme.{EndOfText, WordOrSymbol, Name, Number, Terminal}
-use Rattle.ob0_tree.specs.Order.{AreAscending}
+use Rattle.ob0_tree.specs.Order.{AreAscendingWithin}
 use Rattle.ob0_tree.specs.ParsedModule.{IsParsed, ParsedModule, tree_of}
-use Rattle.ob0_tree.specs.Places.{index_terminal, index_terminals_from}
+use Rattle.ob0_tree.specs.Places.{indexed_terminal, indexed_terminals_from}
 use Rattle.ob0_tree.specs.Tree.{Sort, Tree, adds, array_type, assigns, begins, branches, calls, compares, declares, declares_constant, declares_constants, declares_procedure, declares_type, declares_types, declares_variable, declares_variables, designator, else_branch, elsif_branch, empty, end, field, forms_block, index, integer, is_module, listed, more, multiplies, named_type, negation, no_arguments, no_fields, no_formals, none, one, parenthesised, product, record_type, relates, repeat_loop, runs, some_arguments, some_fields, some_formals, sum, then_argument, then_fields, then_name, then_section, then_statement, value_section, variable_section, while_loop, spell}
 use Rattle.ob0_tree.proofs.Leaves.{ascending_higher, ascending_lower}
 use Rattle.ob0_scope_table.specs.TokenProperty.{EachTokenHas}
@@ -140,22 +140,22 @@ places_spelled (forms_block ds b) = simp (token_places-append, places_spelled ds
 places_spelled (is_module name b closing) = simp (token_places-append, append-nil, places_spelled b)
 
 -- The tokens of names and numbers in a text ascend.
-from_ascend : (ts : List Token) (i : ℕ) → AreAscending i (token_places (index_terminals_from i ts)) (i + length ts)
+from_ascend : (ts : List Token) (i : ℕ) → AreAscendingWithin i (token_places (indexed_terminals_from i ts)) (i + length ts)
 from_ascend [] i = omega arith
 from_ascend (t ∷ ts) i =
-    let others = ascending_higher (i + 1) (token_places (index_terminals_from (i + 1) ts)) (i + 1 + length ts) (i + length (t ∷ ts)) (omega arith) (from_ascend ts (i + 1)) in
-    first t.kind i (index_terminals_from (i + 1) ts) (i + length (t ∷ ts)) others
+    let others = ascending_higher (i + 1) (token_places (indexed_terminals_from (i + 1) ts)) (i + 1 + length ts) (i + length (t ∷ ts)) (omega arith) (from_ascend ts (i + 1)) in
+    first t.kind i (indexed_terminals_from (i + 1) ts) (i + length (t ∷ ts)) others
   where
-    first : (k : TokenKind) (i : ℕ) (xs : List (Terminal ℕ)) (high : ℕ) → AreAscending (i + 1) (token_places xs) high → AreAscending i (token_places (index_terminal i k ∷ xs)) high
+    first : (k : TokenKind) (i : ℕ) (xs : List (Terminal ℕ)) (high : ℕ) → AreAscendingWithin (i + 1) (token_places xs) high → AreAscendingWithin i (token_places (indexed_terminal i k ∷ xs)) high
     first kind.Identifier i xs high p = (omega arith, p)
     first (kind.Integer v) i xs high p = (omega arith, p)
     first _ i xs high p = ascending_lower i (i + 1) (token_places xs) high (omega arith) p
 
-pub places_ascend : (m : ParsedModule) → IsParsed m → AreAscending 0 (places (tree_of m)) (length m.source.tokens)
+pub places_ascend : (m : ParsedModule) → IsParsed m → AreAscendingWithin 0 (places (tree_of m)) (length m.source.tokens)
 places_ascend m p =
-    let all : token_places (index_terminals_from 0 m.source.tokens) ≡ places (tree_of m) =
+    let all : token_places (indexed_terminals_from 0 m.source.tokens) ≡ places (tree_of m) =
     sym (ap token_places p.places) ∙ (token_places-append (spell (tree_of m)) (EndOfText ∷ []) ∙ (append-nil (token_places (spell (tree_of m))) ∙ places_spelled (tree_of m))) in
-    subst (λ l. AreAscending 0 l (length m.source.tokens)) all (subst (λ n. AreAscending 0 (token_places (index_terminals_from 0 m.source.tokens)) n) (zero-add (length m.source.tokens)) (from_ascend m.source.tokens 0))
+    subst (λ l. AreAscendingWithin 0 l (length m.source.tokens)) all (subst (λ n. AreAscendingWithin 0 (token_places (indexed_terminals_from 0 m.source.tokens)) n) (zero-add (length m.source.tokens)) (from_ascend m.source.tokens 0))
 
 -- holds if all tokens in a list have property P
 abbrev pub AllOf : (ℕ → Type 0) → List ℕ → Type 0

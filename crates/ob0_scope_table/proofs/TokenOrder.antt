@@ -13,7 +13,7 @@ use Rattle.std.proofs.lemmas.List.{length-map, map-append}
 use Rattle.std.proofs.Math.Seq.{take-suc}
 use Rattle.std.proofs.lemmas.List.Sums.{prefix_len_is}
 use Rattle.ob0_scan.specs.Lexed.{Lexeme}
-use Rattle.ob0_scan.specs.TextWithTokens.{IsScan, TextWithTokens, word_of_token, span_from, token_at, tokens_from}
+use Rattle.ob0_scan.specs.TextWithTokens.{IsScan, TextWithTokens, word_of_token, span_from, tokens_of_lexeme, tokens_from}
 use Rattle.ob0_scan.specs.declared.fault.Fault.{Fault}
 use Rattle.ob0_scan.specs.declared.lexeme.LexemeKind.{LexemeKind}
 use Rattle.ob0_scan.specs.declared.lexeme.LexemeKind.TheVariants as lexeme
@@ -21,9 +21,9 @@ use Rattle.ob0_scan.specs.declared.lexeme.Span.{Span}
 use Rattle.ob0_scan.specs.declared.lexeme.Token.{Token}
 use Rattle.ob0_scan.specs.declared.lexeme.TokenKind.TheVariants as kind
 use Rattle.ob0_scan.proofs.AtLexemes.{Full, full}
-use Rattle.ob0_scope_table.specs.FaultTokens.{AreFaultsAtSameTokens, AreWrittenAlike, fault_at, moved_faults, fault_by_tokens}
+use Rattle.ob0_scope_table.specs.FaultTokens.{AreFaultsAtSameTokens, HaveSameKindsAndSpellings, fault_with_span, moved_faults, fault_with_token_indexes}
 use Rattle.ob0_scope_table.specs.Spans.{span_at, span_or_empty}
-use Rattle.ob0_scope_table.specs.declared.fault_tokens.FaultByTokens.{FaultByTokens}
+use Rattle.ob0_scope_table.specs.declared.fault_tokens.FaultWithTokenIndexes.{FaultWithTokenIndexes}
 
 -- ---- lists
 
@@ -42,7 +42,7 @@ apart_lower : (less from : ℕ) (ts : List Token) → less ≤ from → Apart fr
 apart_lower less from [] low h = tt
 apart_lower less from (t ∷ ts) low h = (omega (arith, low, h.0), h.1)
 
-apart_one : (k : LexemeKind) (from len : ℕ) (ts : List Token) → 0 < len → Apart (from + len) ts → Apart from (token_at k (span_from from len) ++ ts)
+apart_one : (k : LexemeKind) (from len : ℕ) (ts : List Token) → 0 < len → Apart (from + len) ts → Apart from (tokens_of_lexeme k (span_from from len) ++ ts)
 apart_one lexeme.Space from len ts some h = apart_lower from (from + len) ts (omega arith) h
 apart_one lexeme.Comment from len ts some h = apart_lower from (from + len) ts (omega arith) h
 apart_one (lexeme.Token k) from len ts some h = (omega arith, (omega (arith, some), h))
@@ -228,7 +228,7 @@ module _ (of : Span → ℕ) (none : of (record { start = 0; end = 0 }) ≡ 0) w
 
 -- ---- two texts whose tokens have the same spellings
 
-module _ (old new : TextWithTokens) (w : AreWrittenAlike old new) where
+module _ (old new : TextWithTokens) (w : HaveSameKindsAndSpellings old new) where
   same_count : length new.tokens ≡ length old.tokens
   same_count = sym (length-map new.tokens (word_of_token new.text)) ∙ (ap length w.same_words ∙ length-map old.tokens (word_of_token old.text))
 
@@ -268,14 +268,14 @@ module _ (old new : TextWithTokens) (w : AreWrittenAlike old new) where
       let back = below (λ v. v.end) refl new.tokens old.tokens (sym same_count) other rise fro to in
       same_order (span_at old i).end (span_at old j).end (span_at new i).end (span_at new j).end (on i j) (back i j) (on j i) (back j i)
 
-  pub fault_stays : (f : FaultByTokens) → fault_at new (fault_by_tokens old.tokens (fault_at old f)) ≡ fault_at new f
+  pub fault_stays : (f : FaultWithTokenIndexes) → fault_with_span new (fault_with_token_indexes old.tokens (fault_with_span old f)) ≡ fault_with_span new f
   fault_stays f =
       let start = stays (λ v. v.start) refl old.tokens new.tokens same_count (starts_rise 0 old.tokens old_apart) (starts_rise 0 new.tokens new_apart) start_front start_back f.first in
       let end = stays (λ v. v.end) refl old.tokens new.tokens same_count (ends_rise 0 old.tokens old_apart) (ends_rise 0 new.tokens new_apart)
       (no_end old.tokens new.tokens same_count old_apart) (no_end new.tokens old.tokens (sym same_count) new_apart) f.last in
       λ i. record { code = f.code; span = record { start = start i; end = end i } }
 
-  all_stay : (fs : List FaultByTokens) → moved_faults old new (map (fault_at old) fs) ≡ map (fault_at new) fs
+  all_stay : (fs : List FaultWithTokenIndexes) → moved_faults old new (map (fault_with_span old) fs) ≡ map (fault_with_span new) fs
   all_stay [] = refl
   all_stay (f ∷ fs) = λ i. fault_stays f i ∷ all_stay fs i
 

@@ -5,7 +5,7 @@
 use Rattle.std.specs.Prelude.{◌≡◌, ◌<◌, ◌≤◌, ◌+◌, ◌-◌, ℕ, zero, suc, true, nat_lt, List, [], ◌∷◌, Option, Some, None, if◌then◌else◌, slice_get}
 use Rattle.ob0_scan.specs.Reused.{words_of_tokens}
 use Rattle.ob0_scan.specs.TextWithTokens.{IsScan}
-use Rattle.ob0_scan.specs.declared.tokens.SameParts.{SameParts}
+use Rattle.ob0_scan.specs.declared.tokens.CommonPrefixAndSuffix.{CommonPrefixAndSuffix}
 use Rattle.ob0_tree.specs.FirstIdentifier.{first_identifier}
 use Rattle.ob0_tree.specs.ParsedModule.{IsParsed, ParsedModule, tree_of}
 use Rattle.ob0_tree.specs.Tree.{Tree, block, body, declares, declares_procedure, end, forms_block, is_module, item, items, mapped_tree, maybe, module_text, more, none, procedure}
@@ -17,8 +17,9 @@ use Rattle.ob0_scope_table.specs.OneBody.{closing_name, is_range_in_one_body, is
 abbrev pub PathToBody : Type 0
 PathToBody = List ℕ
 
--- Returns the path to the same body once another procedure is inserted before all procedures of the
--- first block on the path. So the first number of the path is increased by 1.
+-- Returns the path to the same body after a procedure is inserted before all procedures of the
+-- block in which the path starts. So the first number of the path, if there is one, is increased by
+-- 1.
 abbrev pub path_after_insertion_in_front : PathToBody → PathToBody
 path_after_insertion_in_front [] = []
 path_after_insertion_in_front (k ∷ path) = suc k ∷ path
@@ -48,31 +49,31 @@ path_to_body_in_module low (is_module x b closing) = path_to_body_in_block low b
 
 -- Returns a tree without the statements to which a path leads.
 abbrev mutual
-  -- returns a block without the statements to which a path leads
-  pub block_without : {N : Type 0} → PathToBody → Tree N block → Tree N block
-  block_without [] (forms_block ds statements) = forms_block ds none
-  block_without (k ∷ path) (forms_block (declares cs ts vs ps) statements) =
-      forms_block (declares cs ts vs (procedures_without k path ps)) statements
+  -- returns a block without the statements to which a path leads from this block
+  pub block_without_body : {N : Type 0} → PathToBody → Tree N block → Tree N block
+  block_without_body [] (forms_block ds statements) = forms_block ds none
+  block_without_body (k ∷ path) (forms_block (declares cs ts vs ps) statements) =
+      forms_block (declares cs ts vs (procedures_without_body k path ps)) statements
 
   -- Returns these procedures, with one change: procedure `k`, counted from 0, loses the statements to
   -- which the path leads from that procedure. Changes nothing if there is no procedure `k`.
-  pub procedures_without : {N : Type 0}
+  pub procedures_without_body : {N : Type 0}
       → ℕ
       → PathToBody
       → Tree N (items procedure)
       → Tree N (items procedure)
-  procedures_without k path end = end
-  procedures_without zero path (more p ps) = more (procedure_without path p) ps
-  procedures_without (suc k) path (more p ps) = more p (procedures_without k path ps)
+  procedures_without_body k path end = end
+  procedures_without_body zero path (more p ps) = more (procedure_without_body path p) ps
+  procedures_without_body (suc k) path (more p ps) = more p (procedures_without_body k path ps)
 
-  -- returns a procedure without the statements to which a path leads
-  pub procedure_without : {N : Type 0} → PathToBody → Tree N (item procedure) → Tree N (item procedure)
-  procedure_without path (declares_procedure x fs b closing) =
-      declares_procedure x fs (block_without path b) closing
+  -- returns a procedure without the statements to which a path leads from this procedure
+  pub procedure_without_body : {N : Type 0} → PathToBody → Tree N (item procedure) → Tree N (item procedure)
+  procedure_without_body path (declares_procedure x fs b closing) =
+      declares_procedure x fs (block_without_body path b) closing
 
 -- returns a module without the statements to which a path leads
 abbrev pub module_without_body : {N : Type 0} → PathToBody → Tree N module_text → Tree N module_text
-module_without_body path (is_module x b closing) = is_module x (block_without path b) closing
+module_without_body path (is_module x b closing) = is_module x (block_without_body path b) closing
 
 -- Returns the statements to which a path leads, or `none` if the path leads to no body.
 abbrev mutual
@@ -122,7 +123,7 @@ closing_name_at_path path (is_module x b closing) = closing_name_at_path_in_bloc
 
 -- Returns the index in the new text of the token that has the index `i` in the old text. The token
 -- must be outside the replaced tokens, which are `s.prefix..s.old_suffix` in the old text.
-abbrev pub moved_token_index : SameParts → ℕ → ℕ
+abbrev pub moved_token_index : CommonPrefixAndSuffix → ℕ → ℕ
 moved_token_index s i = if nat_lt i s.prefix then i else s.new_suffix + (i - s.old_suffix)
 
 -- States that two modules are the same except for the statements of one body, to which `path` leads.
@@ -130,7 +131,7 @@ moved_token_index s i = if nat_lt i s.prefix then i else s.new_suffix + (i - s.o
 -- `s.prefix..s.old_suffix` of the module `old`. All other tokens have the same spellings. The tokens
 -- after the replaced ones may have other indexes. In both modules, the body's first identifier is
 -- before the replaced tokens, and the closing name of its block is after them.
-pub record IsBodyReplaced (old new : ParsedModule) (path : PathToBody) (s : SameParts) : Type 0 where
+pub record IsBodyReplaced (old new : ParsedModule) (path : PathToBody) (s : CommonPrefixAndSuffix) : Type 0 where
   pub old_range : s.prefix ≤ s.old_suffix
   pub new_range : s.prefix ≤ s.new_suffix
   pub old_scan : IsScan old.source

@@ -10,7 +10,7 @@ use Rattle.ob0_tree.specs.Places.{token_text_at}
 use Rattle.ob0_tree.specs.Tree.{Tree, array_type, block, declares, declares_procedure, declares_type, declares_variable, end, fields, further_fields, further_section, forms_block, is_module, item, items, module_text, more, named_type, no_fields, procedure, record_type, some_fields, then_fields, then_section, type_definition, variable, written_type}
 use Rattle.ob0_language_names.specs.ConsistentNames.{block_names, group_field_names, further_field_names, is_among}
 use Rattle.ob0_language_names.specs.Names.{Name, same_name}
-use Rattle.ob0_language_names.specs.Parts.{formal_names, formal_sections, section_type, section_types, section_variables}
+use Rattle.ob0_language_names.specs.Parts.{formal_names, formal_sections, parameter_section_type, section_types, section_variables}
 use Rattle.ob0_scope_table.specs.Spans.{span_at}
 
 -- returns a list with only this fault if the condition `holds` is false, otherwise an empty list
@@ -39,11 +39,11 @@ abbrev pub closing_name_faults : TextWithTokens → ℕ → ℕ → List Fault
 closing_name_faults source x closing =
     fault_unless (same_name (token_text_at source x) (token_text_at source closing)) (end_name_fault source closing)
 
--- Returns the faults of duplicate fields in a written type: of an outer record first, then of the
--- records inside it.
+-- Returns the faults of duplicate fields in a written type. The faults of an outer record come
+-- before the faults of the records inside it.
 abbrev mutual
-  -- returns the faults of duplicate fields in a written type: of an outer record first, then of the
-  -- records inside it
+  -- returns the faults of duplicate fields in a written type; the faults of an outer record come
+  -- before the faults of the records inside it
   pub duplicate_field_faults : TextWithTokens → Tree ℕ written_type → List Fault
   duplicate_field_faults source (named_type x) = []
   duplicate_field_faults source (array_type e t) = duplicate_field_faults source t
@@ -76,7 +76,7 @@ duplicate_field_faults_in_variables source (more (declares_variable ns t) gs) =
 abbrev pub duplicate_field_faults_in_formals : TextWithTokens → Tree ℕ (items further_section) → List Fault
 duplicate_field_faults_in_formals source end = []
 duplicate_field_faults_in_formals source (more (then_section s) fs) =
-    duplicate_field_faults source (section_type s) ++ duplicate_field_faults_in_formals source fs
+    duplicate_field_faults source (parameter_section_type s) ++ duplicate_field_faults_in_formals source fs
 
 -- Returns the faults of duplicate declarations and wrong closing names in a block, in procedures, or in
 -- one procedure.

@@ -13,9 +13,9 @@ abbrev pub stored_ordinal : Option ℕ → Option ℕ
 stored_ordinal ordinal = option_map (λ n. min n greatest_ordinal) ordinal
 
 -- returns the ordinal that an entry with this number has: the number minus 1, or None for 0
-abbrev pub ordinal_from_number : ℕ → Option ℕ
-ordinal_from_number zero = None
-ordinal_from_number (suc n) = Some n
+abbrev pub ordinal_from_entry_number : ℕ → Option ℕ
+ordinal_from_entry_number zero = None
+ordinal_from_entry_number (suc n) = Some n
 
 -- returns the number that an entry has for an optional ordinal: the ordinal plus 1, or 0 for None
 abbrev pub entry_number_of_ordinal : Option ℕ → ℕ

@@ -23,12 +23,13 @@ abbrev pub first_identifier_is_at_or_before : ℕ → List (Role × ℕ) → Boo
 first_identifier_is_at_or_before low [] = false
 first_identifier_is_at_or_before low (x ∷ xs) = nat_le x.1 low
 
--- Returns whether the tokens from `low` up to, but not including, `high` are inside the statements
--- of one block.
+-- Returns whether one body contains the tokens from `low` up to, but not including, `high`. This
+-- means that `low` is at or after the body's first identifier, and `high` is at or before the
+-- closing name of the body's block.
 abbrev mutual
-  -- Returns whether the tokens from `low` up to, but not including, `high` are in the statements of
-  -- a block, or of a block inside it. The caller checks that `high` is at or before the closing name
-  -- of the outer block.
+  -- Returns whether the body of a block, or of a procedure inside it, contains the tokens from
+  -- `low` up to, but not including, `high`. The caller checks that `high` is at or before the
+  -- closing name of the outer block.
   pub is_range_in_body_of_block : ℕ → ℕ → Tree ℕ block → Bool
   is_range_in_body_of_block low high (forms_block (declares cs ts vs ps) statements) =
       is_range_in_body_of_procedures low high ps statements
@@ -44,14 +45,14 @@ abbrev mutual
       if nat_lt (closing_name p) low then is_range_in_body_of_procedures low high ps statements
       else nat_le high (closing_name p) && is_range_in_body_of_procedure low high p
 
-  -- Returns whether the tokens from `low` up to, but not including, `high` are in the statements of
-  -- a procedure's block, or of a block inside it. The caller checks that `high` is at or before the
+  -- Returns whether the body of a procedure, or of a procedure inside it, contains the tokens from
+  -- `low` up to, but not including, `high`. The caller checks that `high` is at or before the
   -- procedure's closing name.
   pub is_range_in_body_of_procedure : ℕ → ℕ → Tree ℕ (item procedure) → Bool
   is_range_in_body_of_procedure low high (declares_procedure x fs b closing) = is_range_in_body_of_block low high b
 
--- returns whether the tokens from `low` up to, but not including, `high` are inside the statements
--- of one block of a module
+-- returns whether one body of a module contains the tokens from `low` up to, but not including,
+-- `high`
 abbrev pub is_range_in_one_body : ℕ → ℕ → Tree ℕ module_text → Bool
 is_range_in_one_body low high (is_module x b closing) = nat_le high closing && is_range_in_body_of_block low high b
 

@@ -107,8 +107,8 @@ ordinal_and_spelling ordinal x = (ordinal, x)
 abbrev pub ordinal_and_spelling_at : TextWithTokens → List (Option ℕ) → ℕ → Option ℕ × Name
 ordinal_and_spelling_at source ordinals token = (ordinal_in ordinals token, token_text_at source token)
 
--- States that the table of ordinals is right according to the scope rules. It gives each identifier
--- the ordinal of its declaration, or None if the identifier is unbound.
+-- States that the table of ordinals is correct according to the scope rules. It gives each
+-- identifier the ordinal of its declaration, or None if the identifier is unbound.
 abbrev pub IsBindingTable : ParsedModule → List (Option ℕ) → Type 0
 IsBindingTable m ordinals =
     relabel_module naming_by_spelling ordinal_and_spelling (named_tree_of m)
@@ -144,8 +144,8 @@ abbrev pub is_identifier_token : ParsedModule → ℕ → Bool
 is_identifier_token m token = list_any (λ i. i == token) (identifier_names (tree_of m))
 
 -- states that a table has no ordinal at a token that isn't an identifier of the module
-abbrev pub OnlyNamesHaveOrdinals : ParsedModule → List (Option ℕ) → Type 0
-OnlyNamesHaveOrdinals m ordinals =
+abbrev pub OnlyIdentifiersHaveOrdinals : ParsedModule → List (Option ℕ) → Type 0
+OnlyIdentifiersHaveOrdinals m ordinals =
     (token : ℕ) → is_identifier_token m token ≡ false → ordinal_in ordinals token ≡ None
 
 -- States that the ordinals, the declaring names, the looked-up names and the faults of a resolved
@@ -154,7 +154,7 @@ pub record IsResolution (r : Resolution) : Type 0 where
   pub parsed : IsParsed r.module_read
   pub numbering : IsNumberingTable r.module_read r.ordinals
   pub binding : IsBindingTable r.module_read r.ordinals
-  pub ordinals_only_at_names : OnlyNamesHaveOrdinals r.module_read r.ordinals
+  pub ordinals_only_at_names : OnlyIdentifiersHaveOrdinals r.module_read r.ordinals
   pub declaring : r.declaration_tokens
       ≡ declaring_names (identifiers role.Declaring (tree_of r.module_read))
   pub occurring : r.uses ≡ occurrences (tree_of r.module_read)

@@ -1,10 +1,10 @@
--- States that the tokens of all names and numbers in a part of a tree have a property, for example
--- that their spellings are unchanged.
+-- Defines when the tokens of all names and numbers in a tree have a property, for example that
+-- their spellings are unchanged.
 -- Rule: none; used in contracts about changes of a tree's names and numbers.
 use Rattle.std.specs.Prelude.{ℕ}
 use Rattle.ob0_tree.specs.Tree.{Sort, Tree, adds, array_type, assigns, begins, branches, calls, compares, declares, declares_constant, declares_constants, declares_procedure, declares_type, declares_types, declares_variable, declares_variables, designator, else_branch, elsif_branch, empty, end, field, forms_block, index, integer, is_module, listed, more, multiplies, named_type, negation, no_arguments, no_fields, no_formals, none, one, parenthesised, product, record_type, relates, repeat_loop, runs, some_arguments, some_fields, some_formals, sum, then_argument, then_fields, then_name, then_section, then_statement, value_section, variable_section, while_loop}
 
--- states that the token of each name and of each number in a part of a tree has the property `P`
+-- states that the token of each name and of each number in a tree has the property `P`
 abbrev pub EachTokenHas : {s : Sort} → (ℕ → Type 0) → Tree ℕ s → Type 0
 EachTokenHas P none = Unit {0}
 EachTokenHas P (one t) = EachTokenHas P t

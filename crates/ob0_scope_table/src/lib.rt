@@ -10,8 +10,8 @@ mod predeclared_names;
 mod resolved;
 mod table;
 
-pub use fault_tokens::{FaultByTokens, faults_at_tokens, faults_by_tokens};
-pub use one_body::{BodyPlace, body_place_in_module, body_place_in_tree, is_range_in_one_body};
+pub use fault_tokens::{FaultWithTokenIndexes, faults_with_spans, faults_with_token_indexes};
+pub use one_body::{BodyBounds, body_bounds_in_module, body_bounds_in_tree, is_range_in_one_body};
 pub use ordinal_entry::OrdinalEntry;
 pub use predeclared_names::{
     FALSE_ORDINAL, PREDECLARED_COUNT, READ_ORDINAL, TRUE_ORDINAL, WRITE_LN_ORDINAL, WRITE_ORDINAL,

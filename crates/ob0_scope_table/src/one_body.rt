@@ -7,15 +7,15 @@ ghost use Rattle.ob0_tree.specs.ParsedModule.{tree_of};
 ghost use Rattle.ob0_tree.specs.View.{block_of, body_of, procedure_of};
 ghost use Rattle.ob0_tree.specs.Tree.{identifiers};
 ghost use Rattle.ob0_tree.specs.declared.tree.Role.TheVariants as roles;
-ghost use Rattle.ob0_scope_table.specs.BodyPlaces.{body_place_of_range, body_place_of_statements_if, body_place_in_block, body_place_in_procedure, module_tree_of};
+ghost use Rattle.ob0_scope_table.specs.BodyPlaces.{body_bounds_of_range, body_bounds_of_statements_if, body_bounds_in_block, body_bounds_in_procedure, module_tree_of};
 ghost use Rattle.ob0_scope_table.specs.OneBody.{first_identifier_is_at_or_before, is_range_in_one_body};
 
 use ob0_tree::{Block, Module, ModuleTree, Procedure, Statement, first_identifier};
 
-/// The place of a body: the token index of its first identifier, and the token index of its block's
-/// closing name.
+/// The bounds of a body: the token index of its first identifier, and the token index of its
+/// block's closing name.
 #[derive(Clone, Copy)]
-pub struct BodyPlace {
+pub struct BodyBounds {
     pub first: usize,
     pub closing: usize,
 }
@@ -26,75 +26,75 @@ pub struct BodyPlace {
 pub fn is_range_in_one_body(read: &Module<'_>, low: usize, high: usize) -> bool
     ensures { result ≡ is_range_in_one_body low high (tree_of read.now) }
 {
-    body_place_in_module(read, low, high).is_some()
+    body_bounds_in_module(read, low, high).is_some()
 }
 
-/// Returns the place of the body, in a tree, that contains the tokens from `low` up to, but not
-/// including, `high`. Returns None if no body contains them.
-pub fn body_place_in_tree(tree: &ModuleTree, low: usize, high: usize) -> Option<BodyPlace>
-    ensures { result ≡ body_place_of_range low high (module_tree_of tree.now) }
+/// Returns the bounds of the body that contains the tokens from `low` up to, but not including,
+/// `high` in a tree. Returns None if no body contains them.
+pub fn body_bounds_in_tree(tree: &ModuleTree, low: usize, high: usize) -> Option<BodyBounds>
+    ensures { result ≡ body_bounds_of_range low high (module_tree_of tree.now) }
 {
     if high > tree.closing {
         return None;
     }
-    body_place_in_block(&tree.block, tree.closing, low, high)
+    body_bounds_in_block(&tree.block, tree.closing, low, high)
 }
 
-/// Returns the place of the body, in a module, that contains the tokens from `low` up to, but not
-/// including, `high`. Returns None if no body contains them.
-pub fn body_place_in_module(read: &Module<'_>, low: usize, high: usize) -> Option<BodyPlace>
-    ensures { result ≡ body_place_of_range low high (tree_of read.now) }
+/// Returns the bounds of the body that contains the tokens from `low` up to, but not including,
+/// `high` in a module. Returns None if no body contains them.
+pub fn body_bounds_in_module(read: &Module<'_>, low: usize, high: usize) -> Option<BodyBounds>
+    ensures { result ≡ body_bounds_of_range low high (tree_of read.now) }
 {
     if high > read.closing_name() {
         return None;
     }
-    body_place_in_block(read.block(), read.closing_name(), low, high)
+    body_bounds_in_block(read.block(), read.closing_name(), low, high)
 }
 
-/// Returns the place of the body, in this block or a procedure inside it, that contains the tokens
-/// from `low` up to, but not including, `high`. `closing` is the token of the block's closing name.
-/// The caller checks that `high` is at or before `closing`. Returns None if no body contains the
-/// tokens.
+/// Returns the bounds of the body that contains the tokens from `low` up to, but not including,
+/// `high`: the body of this block or of a procedure inside it. `closing` is the token of the
+/// block's closing name. The caller checks that `high` is at or before `closing`. Returns None if
+/// no body contains the tokens.
 #[cycle(places)]
-fn body_place_in_block(b: &Block, closing: usize, low: usize, high: usize) -> Option<BodyPlace>
-    ensures { result ≡ body_place_in_block low high closing (block_of b.now) }
+fn body_bounds_in_block(b: &Block, closing: usize, low: usize, high: usize) -> Option<BodyBounds>
+    ensures { result ≡ body_bounds_in_block low high closing (block_of b.now) }
 {
     for p in &b.procedures {
         if p.closing >= low {
             if high > p.closing {
                 return None;
             }
-            return body_place_in_procedure(p, low, high);
+            return body_bounds_in_procedure(p, low, high);
         }
     }
-    body_place_of_statements(&b.body, closing, low)
+    body_bounds_of_statements(&b.body, closing, low)
 }
 
-/// Returns the place of the body, in this procedure or one inside it, that contains the tokens from
-/// `low` up to, but not including, `high`. The caller checks that `high` is at or before the
-/// procedure's closing name. Returns None if no body contains the tokens.
+/// Returns the bounds of the body that contains the tokens from `low` up to, but not including,
+/// `high`: the body of this procedure or of one inside it. The caller checks that `high` is at or
+/// before the procedure's closing name. Returns None if no body contains the tokens.
 #[cycle(places)]
-fn body_place_in_procedure(p: &Procedure, low: usize, high: usize) -> Option<BodyPlace>
-    ensures { result ≡ body_place_in_procedure low high (procedure_of p.now) }
+fn body_bounds_in_procedure(p: &Procedure, low: usize, high: usize) -> Option<BodyBounds>
+    ensures { result ≡ body_bounds_in_procedure low high (procedure_of p.now) }
 {
-    body_place_in_block(&p.block, p.closing, low, high)
+    body_bounds_in_block(&p.block, p.closing, low, high)
 }
 
-/// Returns the place of a body with these statements, in a block with the closing name at the token
-/// `closing`. Returns None if the statements have no identifier, or if their first identifier is
-/// after the token `low`.
-fn body_place_of_statements(
+/// Returns the bounds of a body with these statements, in a block with the closing name at the
+/// token `closing`. Returns None if the statements have no identifier, or if their first identifier
+/// is after the token `low`.
+fn body_bounds_of_statements(
     statements: &Option<Vec<Statement>>,
     closing: usize,
     low: usize,
-) -> Option<BodyPlace>
+) -> Option<BodyBounds>
     ensures { result
-        ≡ body_place_of_statements_if (first_identifier_is_at_or_before low (identifiers roles.Declaring (body_of statements.now)))
+        ≡ body_bounds_of_statements_if (first_identifier_is_at_or_before low (identifiers roles.Declaring (body_of statements.now)))
         (body_of statements.now) closing }
 {
     let first = first_identifier(statements)?;
     if first > low {
         return None;
     }
-    Some(BodyPlace { first, closing })
+    Some(BodyBounds { first, closing })
 }

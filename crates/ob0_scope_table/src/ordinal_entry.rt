@@ -17,11 +17,11 @@ pub struct OrdinalEntry {
 
 impl Model for OrdinalEntry {
     ghost use Rattle.std.specs.Prelude.{ℕ, Option};
-    ghost use Rattle.ob0_scope_table.specs.Entries.{ordinal_from_number, entry_number_of_ordinal};
+    ghost use Rattle.ob0_scope_table.specs.Entries.{ordinal_from_entry_number, entry_number_of_ordinal};
 
     ghost Value = { Option ℕ };
 
-    ghost view = { λ e. ordinal_from_number e.number };
+    ghost view = { λ e. ordinal_from_entry_number e.number };
 
     ghost inverse = { λ ordinal. record { number = entry_number_of_ordinal ordinal } };
 }

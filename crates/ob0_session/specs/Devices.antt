@@ -1,5 +1,4 @@
--- Defines the counts of a device's reads.
--- Rule: none; used in the contracts of functions that read from a device.
+-- Defines statistics about a device's reads.
 use Rattle.std.specs.Prelude.{◌+◌, ◌-◌, ◌^◌, ℕ, min, max}
 
 -- The number of reads of a device, and the length in bytes of the longest buffer that was passed to
@@ -8,12 +7,12 @@ pub record ReadStatistics : Type 0 where
   pub count : ℕ
   pub longest_buffer : ℕ
 
--- The counts before any read.
+-- The statistics before any read.
 abbrev pub no_reads : ReadStatistics
 no_reads = record { count = 0; longest_buffer = 0 }
 
--- Returns the counts `reads`, updated for one more read into a buffer of `len` bytes. `count` stops
--- at 2^64 - 1.
+-- Returns the statistics `reads`, updated for one more read into a buffer of `len` bytes. `count`
+-- isn't increased above 2^64 - 1.
 abbrev pub statistics_after_read : ℕ → ReadStatistics → ReadStatistics
 statistics_after_read len reads =
     record { count = min (reads.count + 1) (2 ^ 64 - 1); longest_buffer = max reads.longest_buffer len }

@@ -2,8 +2,8 @@
 //! a device and their failures.
 //!
 //! std's contracts don't count the calls of a reader, and don't record whether a call failed. The
-//! contract of `serve` states both, for every device that implements these traits. `Noted` makes
-//! such a device of each reader and each writer of std.
+//! contract of `serve` states both, for every device that implements these traits. `Noted` turns
+//! each reader or writer of std into such a device.
 ghost use Rattle.std.specs.Prelude.{◌≡◌, ◌≢◌, ◌||◌, ◌<◌, ℕ, List, [], Option, Bool, true, false, length, is_err, IfOk, OnOk, OnErr};
 ghost use Rattle.std.specs.Io.{ReadsAtMost, WritesAtMost};
 ghost use Rattle.std.specs.Io.KnownBytes.{Keeps, ReadConsumes, WriteAppends};
@@ -11,7 +11,7 @@ ghost use Rattle.ob0_session.specs.Devices.{ReadStatistics, statistics_after_rea
 
 use thiserror::Error;
 
-/// The error of a device: a call failed, or a write of at least one byte wrote nothing.
+/// The error of a device: a call failed, or a write of at least one byte wrote none.
 #[derive(Clone, Copy, Debug, PartialEq, Eq, Error)]
 #[error("the device failed")]
 pub struct DeviceFault;

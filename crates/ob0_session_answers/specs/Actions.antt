@@ -18,7 +18,7 @@ use Rattle.ob0_text.specs.declared.position_types.Range.{Range}
 use Rattle.ob0_text.specs.declared.position_types.Unit.{Unit}
 use Rattle.ob0_analysis.specs.Diagnosed.{IsWellTypedModule}
 use Rattle.ob0_analysis.specs.Texts.{utf8}
-use Rattle.ob0_edits.specs.Inlinings.{OffersInlining}
+use Rattle.ob0_edits.specs.Inlinings.{OffersOrRefusesInlining}
 use Rattle.ob0_session_json.specs.Shapes.{action_value, workspace_edit}
 use Rattle.ob0_session_answers.specs.declared.actions.ActionsRequest.{ActionsRequest}
 use Rattle.ob0_edits.specs.declared.inlinings.Inlining.{Inlining}
@@ -28,7 +28,7 @@ use Rattle.ob0_edits.specs.declared.inlinings.Inlining.TheVariants.{OneUse, Ever
 
 -- A request for code actions: its id, the client's capabilities, the document's uri and version,
 -- the range, and the requested kinds of actions. If `only` is None, all kinds are requested.
-pub record RequestedActions : Type 0 where
+pub record VersionedActionsRequest : Type 0 where
   pub id : Data
   pub client : ClientFeatures
   pub uri : List ℕ
@@ -36,9 +36,9 @@ pub record RequestedActions : Type 0 where
   pub range : Range
   pub only : Option (List (List ℕ))
 
--- Translates the code's `ActionsRequest` into a `RequestedActions`. The request is about a document
--- of this version.
-abbrev pub actions_request_view : ActionsRequest → ℤ → RequestedActions
+-- Converts the code's `ActionsRequest` to a `VersionedActionsRequest`, for a document of this
+-- version.
+abbrev pub actions_request_view : ActionsRequest → ℤ → VersionedActionsRequest
 actions_request_view r version =
     record {
       id = id_data r.id.now;
@@ -49,26 +49,26 @@ actions_request_view r version =
       only = kinds_view r.only.now;
     }
 
--- Returns whether this kind of actions includes inlining: `refactor.inline`, `refactor` and the
+-- Returns whether this kind of actions includes inlining. `refactor.inline`, `refactor` and the
 -- empty text do.
 abbrev pub kind_includes_inlining : List ℕ → Bool
 kind_includes_inlining kind =
     bytes_eq kind [] || bytes_eq kind (codes "refactor") || bytes_eq kind (codes "refactor.inline")
 
--- Returns whether the requested kinds of actions include inlining. For None, all kinds are
--- requested.
+-- Returns whether the requested kinds of actions include inlining. If there is no list of kinds
+-- (None), all kinds are requested.
 abbrev pub kinds_include_inlining : Option (List (List ℕ)) → Bool
 kinds_include_inlining (Some kinds) = list_any kind_includes_inlining kinds
 kinds_include_inlining None = true
 
--- Returns whether the client accepts actions that aren't commands and the requested kinds include
--- inlining. For None, all kinds are requested.
+-- Returns whether the client accepts literal code actions, which aren't commands, and the requested
+-- kinds include inlining. If `only` is None, all kinds are requested.
 abbrev pub accepts_inlining : ClientFeatures → Option (List (List ℕ)) → Bool
 accepts_inlining client only = client.accepts_literal_actions && kinds_include_inlining only
 
--- Returns whether the client of this request accepts actions that aren't commands and the requested
--- kinds include inlining.
-abbrev pub wants_inlining : RequestedActions → Bool
+-- Returns whether the client of this request accepts literal code actions, and the requested kinds
+-- include inlining.
+abbrev pub wants_inlining : VersionedActionsRequest → Bool
 wants_inlining requested = accepts_inlining requested.client requested.only
 
 -- Returns the byte offset in the text at which actions apply: the start of the range, or its end if
@@ -87,19 +87,19 @@ title Everywhere = codes "Inline everywhere"
 
 -- Returns the JSON value of the code action that applies these edits, in the form that the client
 -- accepts. The action's title depends on `how`.
-abbrev pub code_action_of : RequestedActions → Inlining → List Edit → Data
+abbrev pub code_action_of : VersionedActionsRequest → Inlining → List Edit → Data
 code_action_of requested how edits =
     action_value (workspace_edit requested.client requested.uri requested.version edits) (title how)
 
--- Returns a list of at most one JSON value: the code action that applies these edits. If the edits
--- are None, the inlining is refused, and the list is empty.
-abbrev pub action_values : RequestedActions → Inlining → Option (Vec Edit Global) → List Data
+-- Returns a list with the JSON value of the code action that applies these edits. If the inlining
+-- is refused (the edits are None), the list is empty.
+abbrev pub action_values : VersionedActionsRequest → Inlining → Option (Vec Edit Global) → List Data
 action_values requested how (Some edits) = code_action_of requested how edits.items ∷ []
 action_values requested how None = []
 
 -- Returns the JSON array of the offered actions: to inline a constant at one use, then to inline it
 -- everywhere. An action whose edits are None isn't offered.
-abbrev pub actions_array : RequestedActions
+abbrev pub actions_array : VersionedActionsRequest
     → Option (Vec Edit Global)
     → Option (Vec Edit Global)
     → Data
@@ -107,38 +107,38 @@ actions_array requested here everywhere =
     array (items_of
     (action_values requested OneUse here ++ action_values requested Everywhere everywhere))
 
--- States that the request asks for inlining (`wants_inlining`), that the text is a well-typed
--- module, and that the JSON value lists the actions that are offered at the offset `actions_offset`
--- of the request's range. `here` and `everywhere` are the edits of the two actions, or None if an
--- action isn't offered.
-pub record ListsInlinings (unit : Unit) (requested : RequestedActions) (text : List ℕ)
+-- States that the request asks for inlining (`wants_inlining`) and that the text is a well-typed
+-- module. The JSON value lists the actions that are offered at the offset `actions_offset` of the
+-- request's range. `here` and `everywhere` are the edits of the two actions. They are None for an
+-- action that isn't offered.
+pub record ListsInlinings (unit : Unit) (requested : VersionedActionsRequest) (text : List ℕ)
     (value : Data) : Type 0 where
   pub here : Option (Vec Edit Global)
   pub everywhere : Option (Vec Edit Global)
   pub wanted : wants_inlining requested ≡ true
-  pub offers_here : OffersInlining OneUse unit text (actions_offset unit text requested.range) here
-  pub offers_everywhere : OffersInlining Everywhere unit text (actions_offset unit text requested.range)
+  pub offers_here : OffersOrRefusesInlining OneUse unit text (actions_offset unit text requested.range) here
+  pub offers_everywhere : OffersOrRefusesInlining Everywhere unit text (actions_offset unit text requested.range)
       everywhere
   pub listed : value ≡ actions_array requested here everywhere
 
 -- States that the JSON value is the list of the offered actions. The list is empty if the request
 -- doesn't ask for inlining (`wants_inlining` is false), or if the text isn't a well-typed module.
-abbrev pub ListsActions : Unit → RequestedActions → List ℕ → Data → Type 0
+abbrev pub ListsActions : Unit → VersionedActionsRequest → List ℕ → Data → Type 0
 ListsActions unit requested text value =
     ListsInlinings unit requested text value
     ⊎ (((wants_inlining requested ≡ false) ⊎ ¬ IsWellTypedModule (utf8 text))
     × (value ≡ array no_items))
 
 -- States that the message answers the request for code actions in a document with this text.
--- Positions are counted in this unit.
-abbrev pub AnswersActions : Unit → RequestedActions → List ℕ → Data → Type 0
+-- Positions are counted in `unit`.
+abbrev pub AnswersActions : Unit → VersionedActionsRequest → List ℕ → Data → Type 0
 AnswersActions unit requested text message =
     (value : Data)
     × ListsActions unit requested text value
     × (message ≡ result_message requested.id value)
 
--- States that the bytes `content` are the text of a message that answers the request for code
+-- States that `content` is the text, as bytes, of a message that answers the request for code
 -- actions.
-abbrev pub RepliesToActions : Unit → RequestedActions → List ℕ → List ℕ → Type 0
+abbrev pub RepliesToActions : Unit → VersionedActionsRequest → List ℕ → List ℕ → Type 0
 RepliesToActions unit requested text content =
     (message : Data) × AnswersActions unit requested text message × Writes message content

@@ -10,9 +10,9 @@ use Rattle.ob0_analysis.specs.Diagnosed.{ReportedDiagnosis, Reports}
 use Rattle.ob0_analysis.specs.Texts.{utf8}
 use Rattle.ob0_session_json.specs.Shapes.{Diagnostic, publication}
 
--- Returns the diagnostic for a diagnosis of the text: the same code and message, with positions in
--- place of the byte offsets at which the diagnosis starts and ends. Positions are counted in this
--- unit.
+-- Returns the diagnostic for a diagnosis of the text: the same code and message, but with the
+-- positions of the byte offsets at which the diagnosis starts and ends. Positions are counted in
+-- `unit`.
 abbrev pub diagnostic_of : Unit → List ℕ → ReportedDiagnosis → Diagnostic
 diagnostic_of unit text c = record {
   code = c.code;
@@ -21,14 +21,14 @@ diagnostic_of unit text c = record {
   end = position_of (width_of unit) text c.span.end;
 }
 
--- States that these are the diagnostics of the text. Positions are counted in this unit.
+-- States that `ds` are the diagnostics of the text. Positions are counted in `unit`.
 abbrev pub AreDiagnosticsOf : Unit → List ℕ → List Diagnostic → Type 0
 AreDiagnosticsOf unit text ds =
     (reported : List ReportedDiagnosis)
     × Reports (utf8 text) reported
     × (ds ≡ map (diagnostic_of unit text) reported)
 
--- States that the bytes `content` are the text of the message that publishes the diagnostics of a
+-- States that `content` is the text, as bytes, of the message that publishes the diagnostics of a
 -- document with this uri, version and text.
 abbrev pub Publishes : Unit → List ℕ → ℤ → List ℕ → List ℕ → Type 0
 Publishes unit uri version text content =

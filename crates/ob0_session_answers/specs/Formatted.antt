@@ -11,7 +11,7 @@ use Rattle.ob0_text.specs.declared.position_types.Unit.{Unit}
 use Rattle.ob0_text.specs.declared.refusals.EditRefusal.TheVariants.{TooLong}
 use Rattle.ob0_analysis.specs.Diagnosed.{IsWellTypedModule}
 use Rattle.ob0_analysis.specs.Texts.{utf8}
-use Rattle.ob0_edits.specs.Layouts.{FormattedTextIsTooLong, FormatsIn}
+use Rattle.ob0_edits.specs.Layouts.{FormattedTextIsTooLong, FormatsText}
 use Rattle.ob0_session_json.specs.Shapes.{edits_value, edit_refusal}
 
 -- States that the message answers a request with this id to format the text with this indentation.
@@ -20,12 +20,12 @@ use Rattle.ob0_session_json.specs.Shapes.{edits_value, edit_refusal}
 abbrev pub AnswersFormatting : Unit → Data → Indent → List ℕ → Data → Type 0
 AnswersFormatting unit id indent text message =
     ((edits : List Edit)
-    × FormatsIn unit indent text edits
+    × FormatsText unit indent text edits
     × (message ≡ result_message id (edits_value edits)))
     ⊎ ((FormattedTextIsTooLong indent text × (message ≡ edit_refusal id (refusal_text TooLong)))
     ⊎ (¬ IsWellTypedModule (utf8 text) × (message ≡ edit_refusal id (codes "ill-typed"))))
 
--- States that the bytes `content` are the text of a message that answers the request for
+-- States that `content` is the text, as bytes, of a message that answers the request for
 -- formatting.
 abbrev pub RepliesToFormatting : Unit → Data → Indent → List ℕ → List ℕ → Type 0
 RepliesToFormatting unit id indent text content =

@@ -18,37 +18,37 @@ use Rattle.ob0_rpc.specs.Writing.{Writes}
 use Rattle.ob0_analysis.specs.Analysed.{IsResolvedWellTypedModule}
 use Rattle.ob0_analysis.specs.Diagnosed.{IsWellTypedModule}
 use Rattle.ob0_analysis.specs.Texts.{utf8}
-use Rattle.ob0_session_json.specs.Shapes.{hover_value, range_location}
+use Rattle.ob0_session_json.specs.Shapes.{hover_value, range_location_value}
 
 -- A question about the name or field at a position: hover, definition, references or prepareRename.
 pub data NameQuestion : Type 0 where
   hover_question : NameQuestion
   definition_question : NameQuestion
-  -- A question for references. The Bool is true if the declaration is included.
+  -- A question for references. The Bool says whether the declaration is included.
   references_question : Bool → NameQuestion
   prepare_rename_question : NameQuestion
 
 -- ---- JSON values (arguments: the unit of positions, the uri, and the text's characters)
 
 -- Returns the JSON value of the range that a span covers in the text.
-abbrev pub span_range : Unit → List ℕ → Span → Data
-span_range unit text span =
+abbrev pub span_range_value : Unit → List ℕ → Span → Data
+span_range_value unit text span =
     let range = range_of (width_of unit) text span in range_value range.start range.end
 
 -- Returns the JSON value of a span's location in the document with this uri.
-abbrev pub span_location : Unit → List ℕ → List ℕ → Span → Data
-span_location unit uri text span = range_location uri (range_of (width_of unit) text span)
+abbrev pub span_location_value : Unit → List ℕ → List ℕ → Span → Data
+span_location_value unit uri text span = range_location_value uri (range_of (width_of unit) text span)
 
 -- Returns the JSON value of a hover text with its range.
-abbrev pub hover_with_range : Unit → List ℕ → HoverText → Data
-hover_with_range unit text shown = hover_value shown.text (span_range unit text shown.span)
+abbrev pub hover_value_with_range : Unit → List ℕ → HoverText → Data
+hover_value_with_range unit text shown = hover_value shown.text (span_range_value unit text shown.span)
 
--- Returns an optional JSON value, or null for None.
+-- Returns the JSON value if there is one, otherwise null.
 abbrev pub value_or_null : Option Data → Data
 value_or_null (Some value) = value
 value_or_null None = null
 
--- Returns the byte offset in the text of the position `at.position`, which is counted in this unit.
+-- Returns the byte offset in the text of the position `at.position`, which is counted in `unit`.
 abbrev pub offset_in : Unit → List ℕ → DocumentPlace → ℕ
 offset_in unit text at = offset_of (width_of unit) text at.position
 
@@ -58,25 +58,25 @@ abbrev pub AnswersReferences : Unit → List ℕ → DocumentPlace → Bool → 
 AnswersReferences unit text at include names value =
     (spans : List Span)
     × AreReferencesAt names (offset_in unit text at) include spans
-    × (value ≡ array (items_of (map (span_location unit at.uri text) spans)))
+    × (value ≡ array (items_of (map (span_location_value unit at.uri text) spans)))
 
--- States that the JSON value answers the question about a text that is a well-typed module. `names`
--- is the resolution of the module's names.
+-- States that the JSON value answers the question about a well-typed module. `names` is the
+-- resolution of the module's names.
 abbrev pub AnswersInModule : Unit → List ℕ → DocumentPlace → NameQuestion → Resolution → Data → Type 0
 AnswersInModule unit text at hover_question names value =
     value
     ≡ value_or_null
-    (option_map (hover_with_range unit text) (hover_at_offset names (offset_in unit text at)))
+    (option_map (hover_value_with_range unit text) (hover_at_offset names (offset_in unit text at)))
 AnswersInModule unit text at definition_question names value =
     value
     ≡ value_or_null
-    (option_map (span_location unit at.uri text) (definition_at names (offset_in unit text at)))
+    (option_map (span_location_value unit at.uri text) (definition_at names (offset_in unit text at)))
 AnswersInModule unit text at (references_question include) names value =
     AnswersReferences unit text at include names value
 AnswersInModule unit text at prepare_rename_question names value =
     value
     ≡ value_or_null
-    (option_map (span_range unit text) (renamable_span_at names (offset_in unit text at)))
+    (option_map (span_range_value unit text) (renamable_span_at names (offset_in unit text at)))
 
 -- Returns the answer to a question about a text that isn't a well-typed module: an empty list for
 -- references, otherwise null.
@@ -97,7 +97,7 @@ AnswersQuestion unit text at question value =
     × AnswersInModule unit text at question names value)
     ⊎ (¬ IsWellTypedModule (utf8 text) × (value ≡ ill_typed_answer question))
 
--- States that the bytes `content` are the text of a message that answers this question. The message
+-- States that `content` is the text, as bytes, of a message that answers this question. The message
 -- has the id of the request that asks the question.
 abbrev pub RepliesToQuestion : Unit → Data → DocumentPlace → NameQuestion → List ℕ → List ℕ → Type 0
 RepliesToQuestion unit id at question text content =

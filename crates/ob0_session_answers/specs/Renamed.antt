@@ -11,7 +11,7 @@ use Rattle.ob0_text.specs.RefusalTexts.{refusal_text}
 use Rattle.ob0_text.specs.declared.edits.Edit.{Edit}
 use Rattle.ob0_text.specs.declared.position_types.Unit.{Unit}
 use Rattle.ob0_text.specs.declared.refusals.EditRefusal.{EditRefusal}
-use Rattle.ob0_edits.specs.Renamings.{IsRenameRefusedIn, RenamesIn}
+use Rattle.ob0_edits.specs.Renamings.{IsRenameRefusedInText, RenamesInText}
 use Rattle.ob0_analysis.specs.Diagnosed.{IsWellTypedModule}
 use Rattle.ob0_analysis.specs.Texts.{utf8}
 use Rattle.ob0_session_json.specs.Shapes.{edit_refusal, workspace_edit}
@@ -19,15 +19,16 @@ use Rattle.ob0_session_answers.specs.declared.renaming.RenameRequest.{RenameRequ
 
 -- A request for renaming: its id, the client's capabilities, the document and position, the
 -- document's version, and the new name.
-pub record RequestedRename : Type 0 where
+pub record VersionedRenameRequest : Type 0 where
   pub id : Data
   pub client : ClientFeatures
   pub at : DocumentPlace
   pub version : ℤ
   pub new : List ℕ
 
--- Translates the code's `RenameRequest`, in a document of this version, into a `RequestedRename`.
-abbrev pub rename_request_view : RenameRequest → ℤ → RequestedRename
+-- Converts the code's `RenameRequest` to a `VersionedRenameRequest`, for a document of this
+-- version.
+abbrev pub rename_request_view : RenameRequest → ℤ → VersionedRenameRequest
 rename_request_view r version =
     record {
       id = id_data r.id.now;
@@ -38,25 +39,24 @@ rename_request_view r version =
     }
 
 -- Returns the JSON value of the edits, in the form that the client accepts.
-abbrev pub edits_for_client : RequestedRename → List Edit → Data
+abbrev pub edits_for_client : VersionedRenameRequest → List Edit → Data
 edits_for_client requested edits =
     workspace_edit requested.client requested.at.uri requested.version edits
 
--- States that the message answers the request for renaming in a document with this text. The
--- message contains the edits, or it refuses the renaming for a reason (`IsRenameRefusedIn`), or it
--- refuses the request because the text isn't a well-typed module. Positions are counted in this
--- unit.
-abbrev pub AnswersRenaming : Unit → RequestedRename → List ℕ → Data → Type 0
+-- States that the message answers the request for renaming in a document with this text. It
+-- contains the edits, or refuses the renaming for a reason (`IsRenameRefusedInText`), or refuses the
+-- request because the text isn't a well-typed module. Positions are counted in `unit`.
+abbrev pub AnswersRenaming : Unit → VersionedRenameRequest → List ℕ → Data → Type 0
 AnswersRenaming unit requested text message =
     ((edits : List Edit)
-    × RenamesIn unit text requested.at.position requested.new edits
+    × RenamesInText unit text requested.at.position requested.new edits
     × (message ≡ result_message requested.id (edits_for_client requested edits)))
     ⊎ (((refusal : EditRefusal)
-    × IsRenameRefusedIn unit text requested.at.position requested.new refusal
+    × IsRenameRefusedInText unit text requested.at.position requested.new refusal
     × (message ≡ edit_refusal requested.id (refusal_text refusal)))
     ⊎ (¬ IsWellTypedModule (utf8 text) × (message ≡ edit_refusal requested.id (codes "ill-typed"))))
 
--- States that the bytes `content` are the text of a message that answers the request for renaming.
-abbrev pub RepliesToRename : Unit → RequestedRename → List ℕ → List ℕ → Type 0
+-- States that `content` is the text, as bytes, of a message that answers the request for renaming.
+abbrev pub RepliesToRename : Unit → VersionedRenameRequest → List ℕ → List ℕ → Type 0
 RepliesToRename unit requested text content =
     (message : Data) × AnswersRenaming unit requested text message × Writes message content

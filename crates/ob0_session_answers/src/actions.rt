@@ -1,10 +1,10 @@
 //! Answers requests for code actions, which inline a constant at one use or everywhere.
 //!
-//! `inline_edits` of `ob0_edits` computes the edits. A range may end before its start, so the byte
-//! offsets of its start and its end are compared (`actions_position`, `actions_offset`). Because
-//! offsets are compared, no law about the order of positions is needed. An action's title and edits
-//! depend on its `Inlining` (`OneUse` or `Everywhere`). To add an action, add a variant of
-//! `Inlining` and its title (`title_of` and `title`).
+//! `inline_edits` of `ob0_edits` computes the edits. A range may end before its start, so actions
+//! apply at whichever end has the smaller byte offset (`actions_position`, `actions_offset`).
+//! Because offsets are compared, no law about the order of positions is needed. An action's title
+//! and edits depend on its `Inlining` (`OneUse` or `Everywhere`). To add an action, add a variant
+//! of `Inlining` and its title (`title_of` and `title`).
 
 ghost use Rattle.std.specs.Prelude.{◌≡◌, IfOk, map, string_bytes};
 ghost use Rattle.std.specs.List.{list_any};
@@ -72,17 +72,17 @@ impl<'a, T: TextStore> DocumentRequest<T> for ActionsRequest<'a> {
 }
 
 impl<'a> ActionsRequest<'a> {
-    /// Returns whether the client accepts actions that aren't commands and the requested kinds
-    /// include inlining. If `only` is None, all kinds are requested.
+    /// Returns whether the client accepts literal code actions, which aren't commands, and the
+    /// requested kinds include inlining. If `only` is None, all kinds are requested.
     fn wants_inlining(&self) -> bool
         ensures { result ≡ wants self.now.client (kinds_view self.now.only.now) }
     {
         self.client.accepts_literal_actions && kinds_include_inlining(self.only)
     }
 
-    /// Returns the answer that lists the offered actions: to inline a constant at this use, then to
-    /// inline it everywhere. `found` has the edits of both actions. An action whose edits are None
-    /// isn't offered.
+    /// Returns the answer that lists the offered actions: first to inline a constant at this use,
+    /// then to inline it everywhere. `found` has the edits of both actions. They are None for an
+    /// action that isn't offered.
     fn answer_with_actions(
         &self,
         alloc: Global,
@@ -181,7 +181,7 @@ fn any_kind_includes_inlining(kinds: &[String]) -> bool
     false
 }
 
-/// Returns whether this kind of actions includes inlining: `refactor.inline`, `refactor` and the
+/// Returns whether this kind of actions includes inlining. `refactor.inline`, `refactor` and the
 /// empty text do.
 fn kind_includes_inlining(kind: &str) -> bool
     ensures { result ≡ of_kind kind.now }

@@ -58,8 +58,8 @@ pub fn diagnostics<T: TextStore>(
     locate_diagnostics(alloc, store, reported)
 }
 
-/// Turns each diagnosis in `reported`, which has byte offsets, into a diagnostic with positions, in
-/// the same order. One pass over the text finds the positions of all starts and ends.
+/// Converts each diagnosis in `reported`, which has byte offsets, to a diagnostic with positions,
+/// in the same order. One pass over the text finds the positions of all starts and ends.
 fn locate_diagnostics<T: TextStore>(
     alloc: Global,
     store: &T,
@@ -80,7 +80,7 @@ fn locate_diagnostics<T: TextStore>(
     )
 }
 
-/// Returns the byte offsets at which diagnostics start and end, in ascending order.
+/// Returns the byte offsets at which the diagnoses start and end, in ascending order.
 fn sorted_offsets_of(alloc: Global, reported: &[Diagnosis]) -> Result<Vec<usize>, AllocError> {
     let mut offsets = Vec::new(alloc);
     for diagnosis in reported {
@@ -91,8 +91,8 @@ fn sorted_offsets_of(alloc: Global, reported: &[Diagnosis]) -> Result<Vec<usize>
     Ok(offsets)
 }
 
-/// Turns each diagnosis, which has byte offsets, into a diagnostic with positions. The list
-/// `positions` has the position of each byte offset in `offsets`, which is in ascending order.
+/// Converts each diagnosis, which has byte offsets, to a diagnostic with positions. `positions` has
+/// the position of each byte offset in `offsets`, which is in ascending order.
 fn attach_positions<T: TextStore>(
     alloc: Global,
     store: &T,

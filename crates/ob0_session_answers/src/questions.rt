@@ -2,8 +2,7 @@
 //! prepareRename.
 //!
 //! Each request is a type that computes its answer from a document (`DocumentRequest`). To do so,
-//! the request asks a question about the document's module. Each question is also a type
-//! (`Question`).
+//! it asks a question about the document's module. Each question is also a type (`Question`).
 
 ghost use Rattle.std.specs.Prelude.{◌≡◌, IfOk, option_map, map};
 ghost use Rattle.serde_json.specs.Data.{array};
@@ -13,7 +12,7 @@ ghost use Rattle.ob0_rpc.specs.Shapes.{result_message};
 ghost use Rattle.ob0_rpc.specs.Writing.{Writes};
 ghost use Rattle.ob0_refs.specs.Parts.{hover_view};
 ghost use Rattle.ob0_refs.specs.Questions.{AreReferencesAt, hover_at_offset, definition_at, renamable_span_at};
-ghost use Rattle.ob0_session_answers.specs.Questions.{RepliesToQuestion, definition_question, hover_question, hover_with_range, span_location, span_range, references_question, prepare_rename_question, value_or_null};
+ghost use Rattle.ob0_session_answers.specs.Questions.{RepliesToQuestion, definition_question, hover_question, hover_value_with_range, span_location_value, span_range_value, references_question, prepare_rename_question, value_or_null};
 
 use ob0_analysis::{Analysis, Question, WellTyped, ask};
 use ob0_edits_tokens::{range_of, ranges};
@@ -213,8 +212,8 @@ impl<'a, T: TextStore> DocumentRequest<T> for PrepareRenameRequest<'a> {
     }
 }
 
-/// Returns the answer to a hover request: the hover text with its range, or null if `found` is
-/// None.
+/// Returns the answer to a hover request: the hover text with its range, or null if there is no
+/// hover text (`found` is None).
 fn hover_answer<T: TextStore>(
     alloc: Global,
     id: &Id,
@@ -222,7 +221,7 @@ fn hover_answer<T: TextStore>(
     found: Option<ob0_refs::Hover>,
 ) -> Result<Vec<u8>, AllocError>
     ensures { IfOk result (λ bytes. Writes (result_message (id_data id.now)
-        (value_or_null (option_map (hover_with_range (T.unit_of store.now) (T.content store.now))
+        (value_or_null (option_map (hover_value_with_range (T.unit_of store.now) (T.content store.now))
         (option_map hover_view found)))) bytes.items) }
 {
     match found {
@@ -237,8 +236,8 @@ fn hover_answer<T: TextStore>(
     }
 }
 
-/// Returns the answer to a definition request: the location of the span, or null if `found` is
-/// None.
+/// Returns the answer to a definition request: the location of the span, or null if there is no
+/// span (`found` is None).
 fn location_answer<T: TextStore>(
     alloc: Global,
     id: &Id,
@@ -248,7 +247,7 @@ fn location_answer<T: TextStore>(
 ) -> Result<Vec<u8>, AllocError>
     ensures { IfOk result (λ bytes. Writes (result_message (id_data id.now)
         (value_or_null
-        (option_map (span_location (T.unit_of store.now) uri.now (T.content store.now)) found)))
+        (option_map (span_location_value (T.unit_of store.now) uri.now (T.content store.now)) found)))
         bytes.items) }
 {
     match found {
@@ -260,8 +259,8 @@ fn location_answer<T: TextStore>(
     }
 }
 
-/// Returns the answer to a `prepareRename` request: the range of the span, or null if `found` is
-/// None.
+/// Returns the answer to a `prepareRename` request: the range of the span, or null if there is no
+/// span (`found` is None).
 fn range_answer<T: TextStore>(
     alloc: Global,
     id: &Id,
@@ -269,7 +268,7 @@ fn range_answer<T: TextStore>(
     found: Option<Span>,
 ) -> Result<Vec<u8>, AllocError>
     ensures { IfOk result (λ bytes. Writes (result_message (id_data id.now)
-        (value_or_null (option_map (span_range (T.unit_of store.now) (T.content store.now)) found)))
+        (value_or_null (option_map (span_range_value (T.unit_of store.now) (T.content store.now)) found)))
         bytes.items) }
 {
     match found {
@@ -279,8 +278,7 @@ fn range_answer<T: TextStore>(
 }
 
 /// Returns the answer to a references request: the locations of these spans in the document with
-/// this uri. If the spans are in text order, one pass over the text suffices to compute their
-/// positions.
+/// this uri. If the spans are in text order, their positions are found in one pass over the text.
 fn locations_answer<T: TextStore>(
     alloc: Global,
     id: &Id,
@@ -290,7 +288,7 @@ fn locations_answer<T: TextStore>(
 ) -> Result<Vec<u8>, AllocError>
     ensures { IfOk result (λ bytes. Writes (result_message (id_data id.now)
         (array (items_of
-        (map (span_location (T.unit_of store.now) uri.now (T.content store.now)) spans.now))))
+        (map (span_location_value (T.unit_of store.now) uri.now (T.content store.now)) spans.now))))
         bytes.items) }
 {
     let ranges = ranges(alloc, store, spans)?;

@@ -9,7 +9,7 @@ use Rattle.std.proofs.lemmas.Map.Text.{is_eq-slice_cmp}
 use Rattle.std.proofs.lemmas.Slice.Eq.{bytes_eq-Decides}
 use Rattle.ob0_text.specs.OpenDocuments.{Documents, Document, OpenDocuments, TextChange, InStep, OutOfStep, document_at, documents_after_open, documents_after_change, changed_document, documents_after_loss, documents_after_close, with_updated_document}
 use Rattle.ob0_text.proofs.EntryLaws.{updated-some, updated-none}
-use Rattle.ob0_session_documents.specs.KeptAnalyses.{AnalysesMatchTexts, KeepsOnlyOthers}
+use Rattle.ob0_session_documents.specs.KeptAnalyses.{AnalysesMatchTexts, KeepsOnlyOtherAnalyses}
 use Rattle.ob0_session_documents.specs.declared.analyses.Analyses.{Analyses}
 
 unequal : (u uri : List ℕ) → (u ≡ uri → ⊥) → bytes_eq u uri ≡ false
@@ -52,7 +52,7 @@ closed_elsewhere old new uri is u other = ap (λ d. document_at d u) is ∙ remo
 -- If the analysis of a document was removed and only that document changed, each kept analysis is
 -- of the current text of its document.
 pub still_theirs : (old new : OpenDocuments) (before after : Analyses) (uri : List ℕ)
-    → AnalysesMatchTexts old before → KeepsOnlyOthers before uri after → AgreesElsewhere old uri new → AnalysesMatchTexts new after
+    → AnalysesMatchTexts old before → KeepsOnlyOtherAnalyses before uri after → AgreesElsewhere old uri new → AnalysesMatchTexts new after
 still_theirs old new before after uri theirs others agrees u text kept =
     let was = others u text kept in
     let there = theirs u text was.0 in (there.0, agrees u was.1 ∙ there.1)

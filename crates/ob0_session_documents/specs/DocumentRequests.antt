@@ -9,7 +9,8 @@ use Rattle.ob0_session_documents.specs.declared.document_requests.RequestOutcome
 
 -- States that a request about the document with this uri may have this outcome. If the document is
 -- in step, the outcome is a message that answers the request for the document's version and text
--- (`answers`). Otherwise the outcome is `OutOfStep`, or `Unopened` if the document isn't open.
+-- (`answers`). If it is out of step, the outcome is `OutOfStep`. If it isn't open, the outcome is
+-- `Unopened`.
 abbrev pub IsOutcomeOfRequest : (ℤ → Unit → List ℕ → List ℕ → Type 0)
     → OpenDocuments
     → List ℕ

@@ -1,5 +1,4 @@
--- Defines which analyses the server keeps in its cache, and for which texts.
--- Rule: none; used in the contracts of functions that keep or drop analyses.
+-- Defines which analyses the server keeps in its cache, and of which texts.
 use Rattle.std.specs.Prelude.{◌≡◌, ◌⊎◌, ℕ, ℤ, List, Contains, Option, Some, None, String, string_bytes}
 use Rattle.std.specs.Str.{chars}
 use Rattle.std.specs.declared.alloc.Global.{Global}
@@ -7,9 +6,9 @@ use Rattle.lru.specs.LruCache.{LruCache}
 use Rattle.ob0_text.specs.OpenDocuments.{OpenDocuments, InStep, document_at}
 use Rattle.ob0_session_documents.specs.declared.analyses.Analyses.{Analyses}
 
--- States that the cache contains an analysis of the text `text` under this uri. The specs see an
--- analysis as the text that it analyses. Never holds for None, which means that there is no cache
--- yet.
+-- States that the cache contains an analysis of the text `text` under this uri. In the specs, an
+-- analysis is represented by the text that it analyses. If there is no cache yet (None), this never
+-- holds.
 abbrev pub CacheContains : Option (LruCache (String Global) (List ℕ)) → List ℕ → List ℕ → Type 0
 CacheContains None uri text = ⊥
 CacheContains (Some cache) uri text =
@@ -24,22 +23,22 @@ KeepsAnalysis analyses = CacheContains analyses.by_uri
 abbrev pub AddsNoAnalysis : Analyses → Analyses → Type 0
 AddsNoAnalysis old new = (uri text : List ℕ) → KeepsAnalysis new uri text → KeepsAnalysis old uri text
 
--- States that every analysis in `new` was already in `old`, and belongs to another document than
--- this one.
-abbrev pub KeepsOnlyOthers : Analyses → List ℕ → Analyses → Type 0
-KeepsOnlyOthers old document new =
+-- States that every analysis in `new` was already in `old`, and that none of them belongs to this
+-- document.
+abbrev pub KeepsOnlyOtherAnalyses : Analyses → List ℕ → Analyses → Type 0
+KeepsOnlyOtherAnalyses old document new =
     (uri text : List ℕ)
     → KeepsAnalysis new uri text
     → KeepsAnalysis old uri text × (uri ≡ document → ⊥)
 
--- States that every analysis in `new` was already in `old`, or belongs to this document and this
--- text.
+-- States that every analysis in `new` either was already in `old` or is the analysis of this
+-- document with this text.
 abbrev pub AddsOnlyAnalysis : Analyses → List ℕ → List ℕ → Analyses → Type 0
 AddsOnlyAnalysis old document its_text new =
     (uri text : List ℕ) → KeepsAnalysis new uri text
     → KeepsAnalysis old uri text ⊎ ((uri ≡ document) × (text ≡ its_text))
 
--- States that the document with this uri is open and in step, and has this text (in bytes of
+-- States that the document with this uri is open and in step, and has this text (as bytes of
 -- UTF-8).
 abbrev pub HasDocumentText : OpenDocuments → List ℕ → List ℕ → Type 0
 HasDocumentText documents uri text =

@@ -1,8 +1,8 @@
-//! Keeps the open documents, and analyses of the documents that were changed or asked about most
-//! recently.
+//! Keeps the open documents, and analyses of the documents that were opened, changed or asked about
+//! most recently.
 //!
 //! Contracts see only the documents, so `ServerState` and all promises are the same as without
-//! analyses. The invariant says that each kept analysis is the analysis of its document's current
+//! analyses. The invariant states that each kept analysis is the analysis of its document's current
 //! text (`AnalysesMatchTexts` of `specs/KeptAnalyses`). Before a document changes, its analysis is
 //! removed (`still_theirs` of `proofs/OtherDocuments`). After the change, the analysis of the
 //! resulting text is added. No texts are compared. One notification causes one analysis, however
@@ -44,7 +44,7 @@ impl<T: TextStore> Model for AnalysedDocuments<T> {
 }
 
 impl<T: TextStore> AnalysedDocuments<T> {
-    /// Returns these documents, with no analysis of them yet.
+    /// Returns these documents without any analyses yet.
     pub fn new(alloc: Global, documents: Documents<T>) -> AnalysedDocuments<T>
         ensures { result ≡ documents }
     {
@@ -115,9 +115,9 @@ impl<T: TextStore> AnalysedDocuments<T> {
         self.documents.did_close(uri)
     }
 
-    /// Answers a request about the document with this uri. If the cache contains an analysis of the
-    /// document's text, uses that analysis. Otherwise analyses the text and adds the analysis to
-    /// the cache. If the document isn't open or is out of step, returns `Unopened` or `OutOfStep`.
+    /// Answers a request about the document with this uri. Uses the analysis of the document's text
+    /// if the cache contains it. Otherwise analyses the text and adds the analysis to the cache.
+    /// Returns `Unopened` if the document isn't open, and `OutOfStep` if it is out of step.
     pub fn answer_request<Q: DocumentRequest<T>>(
         &mut self,
         uri: &str,
@@ -144,8 +144,8 @@ impl<T: TextStore> AnalysedDocuments<T> {
     }
 
     /// Analyses the text of a document and keeps the analysis. `before` is the analysis of the
-    /// document's previous text, parts of which are reused, or None if there is none. Does nothing
-    /// if the document isn't open or is out of step.
+    /// document's previous text, or None if there is none. Parts of it are reused. Does nothing if
+    /// the document isn't open or is out of step.
     fn analyse_and_keep(&mut self, uri: &str, before: Option<Analysis>) -> Result<(), AllocError>
         ensures { self.new ≡ self.old }
     {
@@ -159,7 +159,7 @@ impl<T: TextStore> AnalysedDocuments<T> {
     }
 }
 
-/// Returns the analysis of a text. `before` is the analysis of an earlier text, parts of which are
+/// Returns the analysis of a text. `before` is the analysis of an earlier text, and parts of it are
 /// reused. If `before` is None, the text is analysed from scratch.
 fn analyse_or_reanalyse(
     alloc: Global,

@@ -1,42 +1,42 @@
-//! Keeps the analyses of the documents that were changed or asked about most recently.
+//! Keeps the analyses of the documents that were opened, changed or asked about most recently.
 //!
 //! The contracts only limit which analyses may be kept after a call:
 //! - `AddsNoAnalysis`: only analyses that were kept before the call;
-//! - `KeepsOnlyOthers`: only analyses of other documents that were kept before the call;
+//! - `KeepsOnlyOtherAnalyses`: only analyses of other documents that were kept before the call;
 //! - `AddsOnlyAnalysis`: only the added analysis, and analyses that were kept before the call.
 //!
 //! So a call may drop any number of analyses. `put` drops the least recently used analyses if the
 //! total size is too large.
 
 ghost use Rattle.std.specs.Prelude.{◌≡◌, ◌∷◌, ◌≤◌, [], IfSome, IfOk};
-ghost use Rattle.ob0_session_documents.specs.KeptAnalyses.{KeepsAnalysis, AddsOnlyAnalysis, AddsNoAnalysis, KeepsOnlyOthers};
+ghost use Rattle.ob0_session_documents.specs.KeptAnalyses.{KeepsAnalysis, AddsOnlyAnalysis, AddsNoAnalysis, KeepsOnlyOtherAnalyses};
 
 use lru::LruCache;
 use ob0_analysis::Analysis;
 use std::alloc::{AllocError, Global};
 
 /// The greatest total size in bytes of the kept analyses, enough for about four analyses of the
-/// longest texts. An analysis that by itself is larger than this is also kept, but then no other
-/// analysis is kept.
-const MAX_BYTES: usize = 4_198_400;
+/// longest texts. An analysis that is larger than this is also kept, but then it is the only one.
+const MAX_TOTAL_ANALYSIS_BYTES: usize = 4_198_400;
 
-/// The number of bytes that each analysis counts for, in addition to the sizes of its uri and its
-/// data. This number also limits how many analyses of empty texts are kept.
+/// The number of bytes that are counted for each analysis in addition to the sizes of its uri and
+/// its data. This number also limits how many analyses of empty texts are kept.
 const OVERHEAD_BYTES_PER_ANALYSIS: usize = 1_024;
 
-/// A cache of analyses, by the uris of their documents. Adding an analysis may drop others.
+/// A cache of analyses, which are found by the uris of their documents. Adding an analysis may drop
+/// others.
 #[derive(Drop)]
 pub struct Analyses {
     alloc: Global,
     /// The cache, or None until the first analysis is kept, because making a cache allocates.
     by_uri: Option<LruCache<String, Analysis>>,
-    /// The sum of `counted_bytes_of` for all analyses in the cache. It may be higher after a failed
-    /// allocation.
+    /// The sum of `counted_bytes_of` over all analyses in the cache. After a failed allocation it
+    /// may be larger than that sum.
     size_in_bytes: usize,
 }
 
 impl Analyses {
-    /// Returns a collection without any analysis.
+    /// Returns an empty cache.
     pub fn new(alloc: Global) -> Analyses
         ensures { (uri : _) (text : _) → KeepsAnalysis result uri text → ⊥ }
     {
@@ -51,10 +51,10 @@ impl Analyses {
     /// document is kept.
     pub fn take(&mut self, uri: &str) -> Option<Analysis>
         ensures found { IfSome result (KeepsAnalysis self.old uri.now) }
-        ensures others { KeepsOnlyOthers self.old uri.now self.new }
+        ensures others { KeepsOnlyOtherAnalyses self.old uri.now self.new }
     {
         let by_uri = self.by_uri.as_mut()?;
-        // This call is here because the proof needs its contract.
+        // The proof needs the contract of this call.
         let _count = by_uri.len();
         let analysis = by_uri.pop(uri)?;
         self.size_in_bytes = self
@@ -82,8 +82,8 @@ impl Analyses {
     }
 
     /// Keeps the analysis of a document. If the total size is too large, the least recently used
-    /// analyses are dropped. If `analysis` by itself is larger than [`MAX_BYTES`], it is kept, and
-    /// all others are dropped.
+    /// analyses are dropped. If `analysis` alone is larger than [`MAX_TOTAL_ANALYSIS_BYTES`], it is
+    /// kept, and all others are dropped.
     pub fn put(&mut self, uri: &str, analysis: Analysis) -> Result<(), AllocError>
         ensures { AddsOnlyAnalysis self.old uri.now analysis self.new }
     {
@@ -106,12 +106,12 @@ impl Analyses {
     }
 
     /// Adds this many bytes to the total size. Then drops the least recently used analyses until
-    /// the total size is at most [`MAX_BYTES`] or no analysis is left.
+    /// the total size is at most [`MAX_TOTAL_ANALYSIS_BYTES`] or no analysis is left.
     fn add_bytes_and_evict(&mut self, size_in_bytes: usize)
         ensures { AddsNoAnalysis self.old self.new }
     {
         let mut counted = self.size_in_bytes.saturating_add(size_in_bytes);
-        while counted > MAX_BYTES {
+        while counted > MAX_TOTAL_ANALYSIS_BYTES {
             let Some((oldest, analysis)) = self.remove_least_recently_used() else {
                 break;
             };
@@ -130,7 +130,7 @@ impl Analyses {
     }
 }
 
-/// Returns the number of bytes that an analysis counts for. The bytes of the uri are included,
+/// Returns the number of bytes that are counted for an analysis. The bytes of the uri are included,
 /// because the cache stores a copy of the uri.
 fn counted_bytes_of(uri: &str, analysis: &Analysis) -> usize
     ensures { OVERHEAD_BYTES_PER_ANALYSIS ≤ result }

@@ -8,11 +8,10 @@ use ob0_analysis::Analysis;
 use ob0_text::TextStore;
 use std::alloc::{AllocError, Global};
 
-/// A request about an open document that is in step, which means that the server knows the
-/// document's text.
+/// A request about an open document that is in step: the server knows the document's text.
 pub trait DocumentRequest<T: TextStore> {
-    /// States that these bytes answer the request for a document with this version, this unit of
-    /// positions and this text (in characters).
+    /// States that these bytes answer the request for a document with this version, unit of
+    /// positions and text (its characters).
     ghost answers: { Self → ℤ → Unit → List ℕ → List ℕ → Type 0 };
 
     /// Answers the request from the document's version, its text and the analysis of this text.

@@ -3,12 +3,12 @@ use Rattle.std.proofs.Common.{◌≡◌, ◌≤◌, ℕ, ℤ, pos, negsuc, List,
 use Rattle.serde_json.specs.Data.{Data, array, depth, items_depth}
 use Rattle.serde_json.specs.View.{items_of}
 use Rattle.ob0_rpc.specs.Writing.{FitsInMessage}
-use Rattle.ob0_rpc.specs.Shapes.{whole_number}
+use Rattle.ob0_rpc.specs.Shapes.{whole_number_value}
 use Rattle.ob0_text.specs.declared.edits.Edit.{Edit}
 use Rattle.ob0_rpc.specs.declared.clients.ClientFeatures.{ClientFeatures}
 use Rattle.ob0_session_json.specs.Shapes.{Diagnostic, action_value, diagnostic_value, edit_value, edits_value, publication_params, workspace_edit}
 
-flat_whole : (z : ℤ) → depth (whole_number z) ≡ 0
+flat_whole : (z : ℤ) → depth (whole_number_value z) ≡ 0
 flat_whole (pos n) = refl
 flat_whole (negsuc n) = refl
 

@@ -1,6 +1,5 @@
--- Translates the code's edits, code actions and diagnostics into JSON values and diagnostics of the
+-- Converts the code's edits, code actions and diagnostics to JSON values and to diagnostics of the
 -- specs.
--- Rule: none; used in the contracts of functions that make or write these values.
 use Rattle.std.specs.Prelude.{◌≡◌, List, map, string_bytes}
 use Rattle.serde_json.specs.Data.{Data}
 use Rattle.ob0_session_json.specs.Shapes as shapes
@@ -16,7 +15,7 @@ workspace_edit_view e = shapes.workspace_edit e.client e.uri.now e.version e.edi
 abbrev pub code_action_view : CodeAction → Data
 code_action_view a = shapes.action_value (workspace_edit_view a.edit) a.title.now
 
--- Translates the code's diagnostic into a `Diagnostic` of the specs.
+-- Converts the code's diagnostic to a `Diagnostic` of the specs.
 abbrev pub diagnostic_view : Diagnostic → shapes.Diagnostic
 diagnostic_view d = record {
   code = d.code.now;
@@ -25,7 +24,7 @@ diagnostic_view d = record {
   end = d.range.end;
 }
 
--- States that the code's diagnostics (`list`) are these diagnostics of the specs, in the same
+-- States that the code's diagnostics (`list`) are the diagnostics `ds` of the specs, in the same
 -- order.
 abbrev pub AreSameDiagnostics : List shapes.Diagnostic → List Diagnostic → Type 0
 AreSameDiagnostics ds list = ds ≡ map diagnostic_view list

@@ -9,10 +9,10 @@ use Rattle.ob0_text.specs.declared.position_types.Range.{Range}
 use Rattle.ob0_text.specs.declared.edits.Edit.{Edit}
 use Rattle.ob0_rpc.specs.Faults.{minus}
 pub use Rattle.ob0_rpc.specs.Shapes.{edit_value}
-use Rattle.ob0_rpc.specs.Shapes.{text, whole_number, range_value, error_message, notification_message}
+use Rattle.ob0_rpc.specs.Shapes.{text, whole_number_value, range_value, error_response_message, notification_message}
 use Rattle.ob0_rpc.specs.declared.clients.ClientFeatures.{ClientFeatures}
 
--- The value of `textDocumentSync`, {"change":2,"openClose":true}. The 2 means that the client sends
+-- The value of `textDocumentSync`, {"change":2,"openClose":true}. The 2 asks the client to send
 -- changes of ranges.
 abbrev pub document_sync_options : Data
 document_sync_options =
@@ -52,8 +52,8 @@ members_after_definition_provider client =
     then member (codes "positionEncoding") (text (codes "utf-8")) (members_from_references_provider client)
     else members_from_references_provider client))
 
--- Returns the server's capabilities: "codeActionProvider":{..} if the client accepts actions that
--- aren't commands, then "definitionProvider":true, then `members_after_definition_provider`.
+-- Returns the server's capabilities: "codeActionProvider":{..} if the client accepts literal code
+-- actions, then "definitionProvider":true, then `members_after_definition_provider`.
 abbrev pub server_capabilities : ClientFeatures → Data
 server_capabilities client =
     let members = member (codes "definitionProvider") (boolean true) (members_after_definition_provider client) in
@@ -76,27 +76,28 @@ pub record Diagnostic : Type 0 where
   pub start : Position
   pub end : Position
 
--- Returns the JSON value of a location, {"range":R,"uri":u}, from the uri and the JSON value of the
+-- Returns the JSON value of a location, {"range":R,"uri":u}. `range` is the JSON value of the
 -- range.
 abbrev pub location_value : List ℕ → Data → Data
 location_value uri range =
     object (member (codes "range") range (member (codes "uri") (text uri) no_members))
 
 -- Returns the JSON value of the location with this uri and this range.
-abbrev pub range_location : List ℕ → Range → Data
-range_location uri range = location_value uri (range_value range.start range.end)
+abbrev pub range_location_value : List ℕ → Range → Data
+range_location_value uri range = location_value uri (range_value range.start range.end)
 
--- Returns the JSON value of a text that is displayed unchanged, {"kind":"plaintext","value":h}.
-abbrev pub plain_text : List ℕ → Data
-plain_text said =
+-- Returns the JSON value of a plain text, {"kind":"plaintext","value":h}. The client displays it
+-- unchanged.
+abbrev pub plain_text_value : List ℕ → Data
+plain_text_value said =
     object (member (codes "kind") (text (codes "plaintext"))
     (member (codes "value") (text said) no_members))
 
--- Returns the result of a hover request, {"contents":{..},"range":R}, from the hover text and the
--- JSON value of the range.
+-- Returns the result of a hover request, {"contents":{..},"range":R}. `said` is the hover text, and
+-- `range` is the JSON value of the range.
 abbrev pub hover_value : List ℕ → Data → Data
 hover_value said range =
-    object (member (codes "contents") (plain_text said) (member (codes "range") range no_members))
+    object (member (codes "contents") (plain_text_value said) (member (codes "range") range no_members))
 
 -- Returns the JSON value of a list of edits, `[E,..]`.
 abbrev pub edits_value : List Edit → Data
@@ -106,12 +107,12 @@ edits_value es = array (items_of (map edit_value es))
 abbrev pub versioned_document : List ℕ → ℤ → Data
 versioned_document uri version =
     object
-    (member (codes "uri") (text uri) (member (codes "version") (whole_number version) no_members))
+    (member (codes "uri") (text uri) (member (codes "version") (whole_number_value version) no_members))
 
 -- Returns the JSON value of the edits of one version of a document,
 -- {"edits":[E,..],"textDocument":{..}}.
-abbrev pub document_edit : List ℕ → ℤ → List Edit → Data
-document_edit uri version es =
+abbrev pub document_edit_value : List ℕ → ℤ → List Edit → Data
+document_edit_value uri version es =
     object (member (codes "edits") (edits_value es)
     (member (codes "textDocument") (versioned_document uri version) no_members))
 
@@ -121,21 +122,20 @@ abbrev pub workspace_edit : ClientFeatures → List ℕ → ℤ → List Edit �
 workspace_edit client uri version es =
     if client.accepts_document_changes
     then object (member (codes "documentChanges")
-    (array (item (document_edit uri version es) no_items)) no_members)
+    (array (item (document_edit_value uri version es) no_items)) no_members)
     else object
     (member (codes "changes") (object (member uri (edits_value es) no_members)) no_members)
 
--- Returns the JSON value of a code action, {"edit":W,"kind":"refactor.inline","title":t}, from the
--- JSON value of the edits and from the title.
+-- Returns the JSON value of a code action, {"edit":W,"kind":"refactor.inline","title":t}. `edit` is
+-- the JSON value of its edits.
 abbrev pub action_value : Data → List ℕ → Data
 action_value edit title =
     object (member (codes "edit") edit (member (codes "kind") (text (codes "refactor.inline"))
     (member (codes "title") (text title) no_members)))
 
--- Returns the message that refuses a request for edits. `said` is the text of the error in that
--- message.
+-- Returns the message that refuses a request for edits. `said` is the error text in that message.
 abbrev pub edit_refusal : Data → List ℕ → Data
-edit_refusal id said = error_message id (minus 32803) said
+edit_refusal id said = error_response_message id (minus 32803) said
 
 -- Returns the JSON value of a diagnostic, {"code":name,"message":m,"range":R,"severity":1}.
 abbrev pub diagnostic_value : Diagnostic → Data
@@ -154,7 +154,7 @@ diagnostics_value ds = array (items_of (map diagnostic_value ds))
 abbrev pub publication_params : List ℕ → Option ℤ → List Diagnostic → Data
 publication_params uri (Some version) ds =
     object (member (codes "diagnostics") (diagnostics_value ds) (member (codes "uri") (text uri)
-    (member (codes "version") (whole_number version) no_members)))
+    (member (codes "version") (whole_number_value version) no_members)))
 publication_params uri None ds =
     object (member (codes "diagnostics") (diagnostics_value ds)
     (member (codes "uri") (text uri) no_members))

@@ -12,7 +12,7 @@ use ob0_rpc::{
 use std::alloc::{AllocError, Global};
 
 /// Returns the JSON text of the answer to `initialize`, with the server's capabilities for a client
-/// with the capabilities `client`.
+/// that has the capabilities `client`.
 pub fn initialize_answer(
     alloc: Global,
     id: &Id,
@@ -53,17 +53,17 @@ impl WriteJson for ServerCapabilities {
         if self.client.accepts_literal_actions {
             write_first_member(out, "codeActionProvider", &CodeActionOptions {})?;
             write_next_member(out, "definitionProvider", &true)?;
-            self.write_remaining_members(out)
+            self.write_members_after_definition_provider(out)
         } else {
             write_first_member(out, "definitionProvider", &true)?;
-            self.write_remaining_members(out)
+            self.write_members_after_definition_provider(out)
         }
     }
 }
 
 impl ServerCapabilities {
-    /// Writes the members of the capabilities after `definitionProvider`, and the closing bracket.
-    fn write_remaining_members(&self, out: &mut Vec<u8>) -> Result<(), AllocError>
+    /// Writes the members of the capabilities after `definitionProvider`, and the closing brace.
+    fn write_members_after_definition_provider(&self, out: &mut Vec<u8>) -> Result<(), AllocError>
         ensures { OnOk result
             (AppendsMembers 44 (members_after_definition_provider self.now.client) out.old.items out.new.items) }
     {
@@ -71,15 +71,15 @@ impl ServerCapabilities {
         write_next_member(out, "hoverProvider", &true)?;
         if self.client.offers_utf8 {
             write_next_member(out, "positionEncoding", &"utf-8")?;
-            self.write_last_members(out)
+            self.write_members_from_references_provider(out)
         } else {
-            self.write_last_members(out)
+            self.write_members_from_references_provider(out)
         }
     }
 
     /// Writes the last members of the capabilities, starting with `referencesProvider`, and the
-    /// closing bracket.
-    fn write_last_members(&self, out: &mut Vec<u8>) -> Result<(), AllocError>
+    /// closing brace.
+    fn write_members_from_references_provider(&self, out: &mut Vec<u8>) -> Result<(), AllocError>
         ensures { OnOk result
             (AppendsMembers 44 (members_from_references_provider self.now.client) out.old.items out.new.items) }
     {
@@ -111,7 +111,8 @@ impl WriteJson for CodeActionOptions {
     }
 }
 
-/// The value of `renameProvider`. It announces `prepareRename` if the client sends such requests.
+/// The value of `renameProvider`. It announces `prepareRename` if the client sends requests of that
+/// method.
 #[derive(Drop)]
 pub struct RenameProvider {
     pub announces_prepare_rename: bool,

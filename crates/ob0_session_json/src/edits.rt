@@ -1,6 +1,6 @@
 //! Writes edits of documents, and the code actions that apply them.
 ghost use Rattle.ob0_session_json.specs.JsonViews.{code_action_view, workspace_edit_view};
-ghost use Rattle.ob0_session_json.specs.Shapes.{document_edit, versioned_document};
+ghost use Rattle.ob0_session_json.specs.Shapes.{document_edit_value, versioned_document};
 
 use ob0_rpc::{
     ClientFeatures, OneMemberObject, WriteJson, end_object, write_first_member, write_next_member,
@@ -8,8 +8,8 @@ use ob0_rpc::{
 use ob0_text::Edit;
 use std::alloc::AllocError;
 
-/// The edits of one document. They are written in the form that the client accepts: with the
-/// document's uri and version (`documentChanges`), or with the uri only (`changes`).
+/// The edits of one document, written in the form that the client accepts: with the document's uri
+/// and version (`documentChanges`), or with the uri only (`changes`).
 #[derive(Drop)]
 pub struct WorkspaceEdit<'a> {
     pub client: ClientFeatures,
@@ -51,7 +51,7 @@ struct TextDocumentEdit<'a> {
 
 impl<'a> WriteJson for TextDocumentEdit<'a> {
     ghost value = { λ e.
-        document_edit e.text_document.uri.now e.text_document.version e.edits.now };
+        document_edit_value e.text_document.uri.now e.text_document.version e.edits.now };
 
     fn write(&self, out: &mut Vec<u8>) -> Result<(), AllocError> {
         write_first_member(out, "edits", &self.edits)?;

@@ -6,11 +6,11 @@ ghost use Rattle.serde_json.specs.Written.{compact_text};
 ghost use Rattle.ob0_rpc.specs.Appending.{AppendsEach, ReadsBack};
 ghost use Rattle.ob0_rpc.specs.Shapes.{range_value};
 ghost use Rattle.ob0_session_json.specs.Places.{EndsWithUriMember};
-ghost use Rattle.ob0_session_json.specs.Shapes.{hover_value, range_location, plain_text};
+ghost use Rattle.ob0_session_json.specs.Shapes.{hover_value, range_location_value, plain_text_value};
 
 use ob0_rpc::{
     WriteJson, begin_list, end_list, end_object, write_first_member, write_next_member,
-    write_piece_before, write_range_before,
+    write_piece_ending_at, write_range_ending_at,
 };
 use ob0_text::Range;
 use std::alloc::{AllocError, Global};
@@ -24,7 +24,7 @@ const PREFIX_CAPACITY: usize = 192;
 /// used to reserve capacity for a list of locations.
 const TYPICAL_PREFIX_LENGTH: usize = 96;
 
-/// A location: a range of the document with this uri.
+/// A location: a range in the document with this uri.
 #[derive(Drop)]
 pub struct Location<'a> {
     pub range: Range,
@@ -32,7 +32,7 @@ pub struct Location<'a> {
 }
 
 impl<'a> WriteJson for Location<'a> {
-    ghost value = { λ l. range_location l.uri.now l.range };
+    ghost value = { λ l. range_location_value l.uri.now l.range };
 
     fn write(&self, out: &mut Vec<u8>) -> Result<(), AllocError> {
         write_first_member(out, "range", &self.range)?;
@@ -41,7 +41,7 @@ impl<'a> WriteJson for Location<'a> {
     }
 }
 
-/// Ranges of one document, which are written as a list of locations.
+/// Ranges in one document, which are written as a list of locations.
 #[derive(Drop)]
 pub struct Locations<'a> {
     pub ranges: &'a [Range],
@@ -49,7 +49,7 @@ pub struct Locations<'a> {
 }
 
 impl<'a> WriteJson for Locations<'a> {
-    ghost value = { λ l. array (items_of (map (range_location l.uri.now) l.ranges.now)) };
+    ghost value = { λ l. array (items_of (map (range_location_value l.uri.now) l.ranges.now)) };
 
     fn write(&self, out: &mut Vec<u8>) -> Result<(), AllocError> {
         begin_list(out)?;
@@ -62,7 +62,7 @@ impl<'a> WriteJson for Locations<'a> {
 /// list.
 fn write_locations(out: &mut Vec<u8>, uri: &str, ranges: &[Range]) -> Result<(), AllocError>
     ensures { OnOk result
-        (AppendsEach false (map (range_location uri.now) ranges.now) out.old.items out.new.items) }
+        (AppendsEach false (map (range_location_value uri.now) ranges.now) out.old.items out.new.items) }
 {
     let alloc = *out.allocator();
     let mut text = location_buffer(alloc, uri)?;
@@ -71,7 +71,7 @@ fn write_locations(out: &mut Vec<u8>, uri: &str, ranges: &[Range]) -> Result<(),
     let buffer = text.as_mut_slice();
     let mut needs_comma = false;
     for range in ranges {
-        let at = write_location_before(buffer, *range);
+        let at = write_location_start(buffer, *range);
         let from = if needs_comma { at } else { at + 1 };
         out.extend_from_slice(&buffer[from..])?;
         needs_comma = true;
@@ -80,8 +80,8 @@ fn write_locations(out: &mut Vec<u8>, uri: &str, ranges: &[Range]) -> Result<(),
 }
 
 /// Returns a buffer in which the texts of locations are built, one after another. The buffer begins
-/// with 192 bytes of free space. After them, the buffer has the end of each location's text: a
-/// comma, the member `uri` and the closing brace.
+/// with 192 bytes of free space. They are followed by the end of each location's text: a comma, the
+/// member `uri` and the closing brace.
 fn location_buffer(alloc: Global, uri: &str) -> Result<Vec<u8>, AllocError>
     ensures { IfOk result (λ buffer. EndsWithUriMember uri.now buffer.items) }
 {
@@ -92,10 +92,9 @@ fn location_buffer(alloc: Global, uri: &str) -> Result<Vec<u8>, AllocError>
 }
 
 /// Writes a comma and the start of a location's text, up to and including the member `range`, into
-/// the free space of the buffer. These bytes end right before the index 192. The end of the
-/// location's text, which the buffer already contains, begins at that index. Returns the index of
-/// the comma.
-fn write_location_before(buffer: &mut [u8], range: Range) -> usize
+/// the free space of the buffer. These bytes end right before the index 192, where the end of the
+/// location's text already begins. Returns the index of the comma.
+fn write_location_start(buffer: &mut [u8], range: Range) -> usize
     requires { 192 ≤ length buffer.old }
     ensures within { result < 192 }
     ensures text { drop result buffer.new ≡ codes ",{\"range\":"
@@ -103,8 +102,8 @@ fn write_location_before(buffer: &mut [u8], range: Range) -> usize
     ensures kept { drop 192 buffer.new ≡ drop 192 buffer.old }
     ensures reads { ReadsBack (range_value range.start range.end) }
 {
-    let at = write_range_before(buffer, PREFIX_CAPACITY, range.start, range.end);
-    write_piece_before(buffer, at, b",{\"range\":")
+    let at = write_range_ending_at(buffer, PREFIX_CAPACITY, range.start, range.end);
+    write_piece_ending_at(buffer, at, b",{\"range\":")
 }
 
 /// The result of a hover request: plain text, and the range of the name or field that the text
@@ -132,7 +131,7 @@ pub struct MarkupContent<'a> {
 }
 
 impl<'a> WriteJson for MarkupContent<'a> {
-    ghost value = { λ m. plain_text m.value.now };
+    ghost value = { λ m. plain_text_value m.value.now };
 
     fn write(&self, out: &mut Vec<u8>) -> Result<(), AllocError> {
         write_first_member(out, "kind", &"plaintext")?;

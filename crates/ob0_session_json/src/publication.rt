@@ -4,7 +4,7 @@ ghost use Rattle.ob0_rpc.specs.Writing.{Writes};
 ghost use Rattle.ob0_session_json.specs.Shapes.{Diagnostic as Reported, diagnostic_value, publication as publication_message, publication_params};
 ghost use Rattle.ob0_session_json.specs.JsonViews.{AreSameDiagnostics, diagnostic_view};
 
-use ob0_rpc::{WriteJson, end_object, notification_of, write_first_member, write_next_member};
+use ob0_rpc::{WriteJson, end_object, notification_text, write_first_member, write_next_member};
 use ob0_text::Range;
 use std::alloc::{AllocError, Global};
 
@@ -58,8 +58,8 @@ impl<'a> WriteJson for PublishDiagnosticsParams<'a> {
     }
 }
 
-/// Returns the JSON text of the notification that publishes the diagnostics `list` for the document
-/// with this uri. The version is None if the document was closed.
+/// Returns the JSON text of the notification that publishes these diagnostics (`list`) of the
+/// document with this uri. The version is None if the document was closed.
 pub fn publication(
     alloc: Global,
     uri: &str,
@@ -74,5 +74,5 @@ pub fn publication(
         uri,
         version,
     };
-    notification_of(alloc, "textDocument/publishDiagnostics", &params)
+    notification_text(alloc, "textDocument/publishDiagnostics", &params)
 }

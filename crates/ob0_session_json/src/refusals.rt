@@ -9,16 +9,15 @@ use ob0_rpc::{Id, error};
 use ob0_text::EditRefusal;
 use std::alloc::{AllocError, Global};
 
-/// Returns the message that refuses a request for edits. `said` is the text of the error in that
-/// message.
+/// Returns the message that refuses a request for edits. `said` is the error text in that message.
 pub fn refusal_message(alloc: Global, id: &Id, said: &str) -> Result<Vec<u8>, AllocError>
     ensures { IfOk result (λ bytes. Writes (edit_refusal (id_data id.now) said.now) bytes.items) }
 {
     error(alloc, Some(id), -32803, said)
 }
 
-/// Returns the message that refuses a request for edits for this reason. The text of the error is
-/// the text of `refusal`.
+/// Returns the message that refuses a request for edits for this reason. The error text is the text
+/// of `refusal`.
 pub fn refusal_with_reason(
     alloc: Global,
     id: &Id,

@@ -12,17 +12,17 @@ use Rattle.ob0_rpc.specs.Requesting.{DocumentPlace, ClientRequest, initialize, s
 use Rattle.ob0_rpc.specs.Faults.{minus, error_code, error_text}
 use Rattle.ob0_rpc.specs.Messages.{ReadsContent, MessageMeaning, not_json, not_a_message, response, request, notice, meaning_of_content}
 use Rattle.ob0_rpc.specs.Notifications.{Notification, exits, opens, changes, closes, unreadable, other, notification_by_method}
-use Rattle.ob0_rpc.specs.Shapes.{result_message, error_message}
+use Rattle.ob0_rpc.specs.Shapes.{result_message, error_response_message}
 use Rattle.ob0_rpc.specs.Writing.{Writes}
 use Rattle.ob0_rpc.specs.declared.clients.ClientFeatures.{ClientFeatures}
 use Rattle.ob0_rpc.specs.declared.incoming.RpcFault.{RpcFault}
 use Rattle.ob0_rpc.specs.declared.incoming.RpcFault.TheVariants.{NotJson, NotAMessage}
-use Rattle.ob0_session_answers.specs.Actions.{RequestedActions, AnswersActions}
+use Rattle.ob0_session_answers.specs.Actions.{VersionedActionsRequest, AnswersActions}
 use Rattle.ob0_session_server.specs.Units.{unit_for}
 use Rattle.ob0_session_answers.specs.Diagnostics.{AreDiagnosticsOf}
 use Rattle.ob0_session_answers.specs.Formatted.{AnswersFormatting}
 use Rattle.ob0_session_answers.specs.Questions.{AnswersQuestion, NameQuestion, hover_question, definition_question, references_question, prepare_rename_question}
-use Rattle.ob0_session_answers.specs.Renamed.{RequestedRename, AnswersRenaming}
+use Rattle.ob0_session_answers.specs.Renamed.{VersionedRenameRequest, AnswersRenaming}
 use Rattle.ob0_session_json.specs.Shapes.{Diagnostic, capabilities, edit_refusal, publication}
 use Rattle.ob0_session_server.specs.declared.session.Phase.{Phase}
 use Rattle.ob0_session_server.specs.declared.session.Phase.TheVariants.{Starting, Running, ShutDown, Ended, Failed}
@@ -62,41 +62,42 @@ pub data Reply : Type 0 where
   nothing : Reply
   -- Exactly this message.
   says : Data → Reply
-  -- A publication of the diagnostics of a document. Arguments: the unit of positions, the uri, the version and the
-  -- characters of the text.
+  -- A publication of the diagnostics of a document. Arguments: the unit of positions, the uri, the
+  -- version, and the characters of the text.
   diagnoses : Unit → List ℕ → ℤ → List ℕ → Reply
-  -- The edits that format a text, or a refusal to format it. Arguments: the unit of positions, the request's id, the
-  -- indentation and the characters of the text.
+  -- The edits that format a text, or a refusal to format it. Arguments: the unit of positions, the
+  -- request's id, the indentation, and the characters of the text.
   formatting_reply : Unit → Data → Indent → List ℕ → Reply
-  -- The answer to hover, definition, references or prepareRename. Arguments: the unit of positions, the request's id,
-  -- the document and position, the question and the characters of the text.
+  -- The answer to hover, definition, references or prepareRename. Arguments: the unit of positions,
+  -- the request's id, the document and position, the question, and the characters of the text.
   question_reply : Unit → Data → DocumentPlace → NameQuestion → List ℕ → Reply
-  -- The edits that rename a declaration, or a refusal to rename it. Arguments: the unit of positions, the request and
-  -- the characters of the text.
-  renames : Unit → RequestedRename → List ℕ → Reply
-  -- The offered code actions. Arguments: the unit of positions, the request and the characters of the text.
-  actions_reply : Unit → RequestedActions → List ℕ → Reply
+  -- The edits that rename a declaration or field, or a refusal to rename it. Arguments: the unit of
+  -- positions, the request, and the characters of the text.
+  renames : Unit → VersionedRenameRequest → List ℕ → Reply
+  -- The offered code actions. Arguments: the unit of positions, the request, and the characters of
+  -- the text.
+  actions_reply : Unit → VersionedActionsRequest → List ℕ → Reply
 
 -- States that the list `sent` has exactly one item: the JSON text of this message.
-abbrev pub Sends : Data → List (List ℕ) → Type 0
-Sends message sent = (bytes : List ℕ) × (sent ≡ bytes ∷ []) × Writes message bytes
+abbrev pub SendsMessage : Data → List (List ℕ) → Type 0
+SendsMessage message sent = (bytes : List ℕ) × (sent ≡ bytes ∷ []) × Writes message bytes
 
--- States that sending the contents `sent` is this reply. A content is the bytes of one message
--- without the header. For `nothing`, `sent` is empty. For any other reply, `sent` is exactly one
--- content: the text of a message that this reply allows.
+-- States that the session gives this reply by sending the contents `sent`. A content is the bytes
+-- of one message without the header. For the reply `nothing`, `sent` is empty. For any other reply,
+-- `sent` is exactly one content: the text of a message that this reply allows.
 abbrev pub AreContentsOfReply : Reply → List (List ℕ) → Type 0
 AreContentsOfReply nothing sent = sent ≡ []
-AreContentsOfReply (says message) sent = Sends message sent
+AreContentsOfReply (says message) sent = SendsMessage message sent
 AreContentsOfReply (diagnoses unit uri version text) sent =
-    (ds : List Diagnostic) × AreDiagnosticsOf unit text ds × Sends (publication uri (Some version) ds) sent
+    (ds : List Diagnostic) × AreDiagnosticsOf unit text ds × SendsMessage (publication uri (Some version) ds) sent
 AreContentsOfReply (formatting_reply unit id indent text) sent =
-    (message : Data) × AnswersFormatting unit id indent text message × Sends message sent
+    (message : Data) × AnswersFormatting unit id indent text message × SendsMessage message sent
 AreContentsOfReply (question_reply unit id at question text) sent =
-    (value : Data) × AnswersQuestion unit text at question value × Sends (result_message id value) sent
+    (value : Data) × AnswersQuestion unit text at question value × SendsMessage (result_message id value) sent
 AreContentsOfReply (renames unit requested text) sent =
-    (message : Data) × AnswersRenaming unit requested text message × Sends message sent
+    (message : Data) × AnswersRenaming unit requested text message × SendsMessage message sent
 AreContentsOfReply (actions_reply unit requested text) sent =
-    (message : Data) × AnswersActions unit requested text message × Sends message sent
+    (message : Data) × AnswersActions unit requested text message × SendsMessage message sent
 
 -- The reaction to a message: the state of the session after the message, and the reply.
 pub record Reaction : Type 0 where
@@ -117,7 +118,7 @@ reaction_with_documents held s say = record { after = record s { held = held }; 
 
 -- Returns the reaction that answers with this error code and text, and leaves the state unchanged.
 abbrev pub react_with_error : ServerState → Data → ℤ → List ℕ → Reaction
-react_with_error s id code said = reaction_without_change s (says (error_message id code said))
+react_with_error s id code said = reaction_without_change s (says (error_response_message id code said))
 
 -- Returns the reaction that answers with the error for this fault, and leaves the state unchanged.
 abbrev pub react_with_fault : ServerState → Data → RpcFault → Reaction
@@ -125,13 +126,14 @@ react_with_fault s id fault = react_with_error s id (error_code fault) (error_te
 
 -- ---- requests: first the lifecycle is checked, then the method, then the params
 
--- Returns the state right after `initialize` from a client with these capabilities. No document is
--- open.
+-- Returns the state right after a client with these capabilities has sent `initialize`. No document
+-- is open.
 abbrev pub state_after_initialize : ClientFeatures → ServerState
 state_after_initialize client = record { phase = Running; client = client; held = no_open_documents (unit_for client) }
 
--- Returns the reaction to a request about a document. If the document is open and in step, `say`
--- makes the reply from the document's version and text. Otherwise the reply is a refusal.
+-- Returns the reaction to a request about a document. If the document is open and in step, the
+-- function `say` makes the reply from the document's version and text. Otherwise the reply is a
+-- refusal.
 abbrev pub react_about_document : ServerState → Data → Option Document → (ℤ → List ℕ → Reply) → Reaction
 react_about_document s id (Some (InStep version text)) say = reaction_without_change s (say version text)
 react_about_document s id (Some OutOfStep) say = reaction_without_change s (says (edit_refusal id (codes "out of step")))
@@ -182,8 +184,8 @@ react_to_known_request s id (Ok (code_action uri range only)) = react_to_actions
 react_to_known_request s id (Ok (formatting uri indent)) = react_to_formatting s id uri indent
 react_to_known_request s id (Err fault) = react_with_fault s id fault
 
--- Returns the reaction to a request that the phase allows, according to the request's method and
--- params.
+-- Returns the reaction to a request with this method and these params, in a phase that allows the
+-- request.
 abbrev pub react_to_method : ServerState → Data → List ℕ → Data → Reaction
 react_to_method s id method params = react_to_known_request s id (request_by_method method params)
 
@@ -225,7 +227,7 @@ abbrev pub react_with_publication : List ℕ → OpenDocuments → ServerState �
 react_with_publication uri held s =
     reaction_with_documents held s (publication_reply held.unit uri (document_at held uri))
 
--- Returns the reaction to a notification that arrives while the session runs.
+-- Returns the reaction to a notification that is received while the session runs.
 abbrev pub apply_notification : ServerState → Notification → Reaction
 apply_notification s exits = react_to_exit s
 apply_notification s (opens uri version text) =
@@ -259,8 +261,8 @@ react s (request id method params) = react_to_request s.phase s id method params
 react s (notice method params) = react_to_notification s.phase s method params
 
 -- States that a server in the state `before` may reply to this content (the bytes of one message)
--- with the messages `sent`, and is in the state `after` once it has replied. This is the case of
--- `AnswersInPhase` in which the session has neither ended nor failed.
+-- with the messages `sent`. It is then in the state `after`. This is the case of `AnswersInPhase`
+-- in which the session has neither ended nor failed.
 abbrev pub AnswersBeforeEnd : ServerState → List ℕ → List (List ℕ) → ServerState → Type 0
 AnswersBeforeEnd before content sent after =
     (json : Option Data) × ReadsContent content json
@@ -280,8 +282,9 @@ AnswersInPhase phase before content sent after = AnswersBeforeEnd before content
 abbrev pub Answers : ServerState → List ℕ → List (List ℕ) → ServerState → Type 0
 Answers before content sent after = AnswersInPhase before.phase before content sent after
 
--- States that the messages `sent` are the messages `first`, which reply to this content, followed by the messages
--- `later`. The fact `Follows` holds for `between`, the state after the reply, and for `later`.
+-- States that the messages `sent` are the messages `first`, which reply to this content, followed
+-- by the messages `later`. The fact `Follows` holds for `later` and for `between`, the state after
+-- the first reply.
 pub record AnswersFirstContent (before : ServerState) (content : List ℕ) (sent : List (List ℕ))
     (Follows : ServerState → List (List ℕ) → Type 0) : Type 0 where
   pub between : ServerState
@@ -294,7 +297,7 @@ pub record AnswersFirstContent (before : ServerState) (content : List ℕ) (sent
 -- States that a server in the state `before` may reply to these message contents, one after
 -- another, with the messages `sent`, in order. The server is in the state `after` once it has
 -- replied to all of them.
-abbrev pub Conversation : ServerState → List (List ℕ) → List (List ℕ) → ServerState → Type 0
-Conversation before [] sent after = (sent ≡ []) × (after ≡ before)
-Conversation before (content ∷ contents) sent after =
-    AnswersFirstContent before content sent (λ between later. Conversation between contents later after)
+abbrev pub IsConversation : ServerState → List (List ℕ) → List (List ℕ) → ServerState → Type 0
+IsConversation before [] sent after = (sent ≡ []) × (after ≡ before)
+IsConversation before (content ∷ contents) sent after =
+    AnswersFirstContent before content sent (λ between later. IsConversation between contents later after)

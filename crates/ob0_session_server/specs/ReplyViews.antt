@@ -1,5 +1,5 @@
--- States which messages and outcomes of the code are the replies and reactions of `Answers`.
--- Rule: none; used in the contracts of functions that answer messages.
+-- States which of the code's messages and outcomes are the replies and reactions that `Answers`
+-- defines.
 use Rattle.std.specs.Prelude.{◌≡◌, ℕ, ℤ, List, Option, Some, None, Vec, option_map, codes}
 use Rattle.std.specs.Option.{option_to_list}
 use Rattle.std.specs.declared.alloc.Global.{Global}
@@ -11,26 +11,24 @@ use Rattle.ob0_session_documents.specs.declared.document_requests.RequestOutcome
 use Rattle.ob0_session_json.specs.Shapes.{edit_refusal}
 use Rattle.ob0_session_server.specs.Answers.{ServerState, Reaction, Reply, AreContentsOfReply, says}
 
--- States that the code's message `sent` is a message that this reply allows. If `sent` is None,
--- states that the reply is `nothing`.
+-- States that the reply allows the code's message `sent`. If `sent` is None, states that the reply
+-- is `nothing`.
 abbrev pub SendsReply : Reply → Option (Vec ℕ Global) → Type 0
 SendsReply reply sent = AreContentsOfReply reply (option_to_list (option_map (λ v. v.items) sent))
 
--- States that `sent`, the code's message, is the reply of the reaction `r`, and that `new` is the
--- session's state after the reaction. If `sent` is None, there is no message.
+-- States that the code's message `sent` is the reply of the reaction `r`, and that `new` is the
+-- session's state after the reaction. If there is no message (None), the reply is `nothing`.
 abbrev pub Reacts : Reaction → Option (Vec ℕ Global) → ServerState → Type 0
 Reacts r sent new = (new ≡ r.after) × SendsReply r.reply sent
 
--- States that the message is the reply to a request about a document, if the request has this
--- outcome. The reply is the outcome's message, or a refusal if the document is out of step or isn't
--- open.
+-- States that the message is the reply to a request that has this outcome. The reply is the
+-- outcome's message, or a refusal if the document is out of step or isn't open.
 abbrev pub RepliesForOutcome : Data → RequestOutcome → Option (Vec ℕ Global) → Type 0
 RepliesForOutcome id (Answered message) sent = sent ≡ Some message
 RepliesForOutcome id OutOfStep sent = SendsReply (says (edit_refusal id (codes "out of step"))) sent
 RepliesForOutcome id Unopened sent = SendsReply (says (edit_refusal id (codes "unopened"))) sent
 
--- Returns the message of an outcome (`Answered`). Returns None if the document is out of step or
--- isn't open.
+-- Returns the message in an outcome, or None if the document is out of step or isn't open.
 abbrev pub message_of_outcome : RequestOutcome → Option (Vec ℕ Global)
 message_of_outcome (Answered message) = Some message
 message_of_outcome OutOfStep = None

@@ -27,9 +27,9 @@ pub record SessionSteps (before : ServerState) (content : List ℕ) (step : Step
   pub answers : Answers before content (map (λ v. v.items) step.send.items) after
   pub next : step.next ≡ next_in_phase after.phase
 
--- States that a step may fail with this fault. With `Memory`, the session hasn't ended or failed
--- before the step, and has failed after it. With `Failed`, the session has failed before the step,
--- and nothing changes.
+-- States that a step may fail with this fault. With `Memory`, the session fails in this step: it
+-- had neither ended nor failed before. With `Failed`, the session had failed before the step, and
+-- nothing changes.
 abbrev pub SessionFails : ServerState → SessionFault → ServerState → Type 0
 SessionFails before Memory after =
     HasNotEnded before.phase × (before.phase ≢ phases.Failed) × (after.phase ≡ phases.Failed)

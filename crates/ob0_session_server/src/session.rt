@@ -164,8 +164,8 @@ impl<T: TextStore> Session<T> {
         }
     }
 
-    /// Processes the content of one message, and returns the messages to send in reply: one or
-    /// none.
+    /// Processes the content of one message, and returns the messages to send in reply: at most
+    /// one.
     fn answer_content(&mut self, content: &[u8]) -> Result<Vec<Vec<u8>>, AllocError>
         ensures { IfOk result
             (λ sent. AnswersBeforeEnd self.old content.now (map (λ v. v.items) sent.items) self.new) }
@@ -196,7 +196,7 @@ impl<T: TextStore> Session<T> {
         }
     }
 
-    /// Returns the error response with this error code and this text (`said`). `id` is the id of
+    /// Returns the error response with this error code and error text (`said`). `id` is the id of
     /// the refused request, or None if the received bytes aren't a message. The result is never
     /// None.
     fn refusal_message(
@@ -226,8 +226,8 @@ impl<T: TextStore> Session<T> {
         Ok(Some(error(self.alloc, id, fault.code(), fault.text())?))
     }
 
-    /// Answers a request. The answer is an error if the phase of the lifecycle doesn't allow the
-    /// request. Returns None if the session has ended or an allocation has failed before.
+    /// Answers a request. If the phase of the lifecycle doesn't allow the request, the answer is an
+    /// error. Returns None if the session has ended or has failed before.
     fn reply_to_request(
         &mut self,
         id: &Id,
@@ -325,7 +325,7 @@ impl<T: TextStore> Session<T> {
         }
     }
 
-    /// Answers a request for the references to the name or field at a position in a document
+    /// Answers a request for the references to the name or field at this position in a document
     /// (`place`).
     fn reply_to_references(
         &mut self,
@@ -345,7 +345,7 @@ impl<T: TextStore> Session<T> {
         self.reply_about_document(id, place.uri.as_str(), &request)
     }
 
-    /// Answers a request to rename the name or field at a position in a document (`place`) to
+    /// Answers a request to rename the name or field at this position in a document (`place`) to
     /// `new`.
     fn reply_to_rename(
         &mut self,
@@ -411,9 +411,9 @@ impl<T: TextStore> Session<T> {
         self.documents = AnalysedDocuments::new(self.alloc, empty_documents(self.alloc, client));
     }
 
-    /// Applies a notification while the session runs. In any other phase, `exit` ends the session,
-    /// and every other notification is ignored. Returns the message to send, or None if there is
-    /// none.
+    /// Applies a notification if the session is running. In any other phase, `exit` ends the
+    /// session, and every other notification is ignored. Returns the message to send, or None if
+    /// there is none.
     fn react_to_notification(
         &mut self,
         method: &str,
@@ -550,8 +550,8 @@ impl<T: TextStore> Session<T> {
     }
 }
 
-/// Returns the reply to a request about a document that has this outcome: the outcome's message, or
-/// a refusal if the document is out of step or isn't open. The result is never None.
+/// Returns the reply to a request that has this outcome: the outcome's message, or a refusal if the
+/// document is out of step or isn't open. The result is never None.
 fn reply_for_outcome(
     alloc: Global,
     id: &Id,
@@ -566,8 +566,7 @@ fn reply_for_outcome(
     }
 }
 
-/// Returns the message of an outcome (`Answered`). Returns None if the document is out of step or
-/// isn't open.
+/// Returns the message in an outcome, or None if the document is out of step or isn't open.
 fn message_of_outcome(outcome: RequestOutcome) -> Option<Vec<u8>>
     ensures { result ≡ spec_message_of outcome }
 {

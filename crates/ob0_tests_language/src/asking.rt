@@ -1,12 +1,12 @@
 //! Defines the questions in the tests' tables, such as the type of a declaration or the text after
-//! a renaming, and finds their answers for texts.
+//! a renaming. Finds the first row of a table whose answer isn't the expected one.
 
 ghost use Rattle.std.specs.Prelude.{⊤};
 
-use crate::code::push_code;
-use crate::declarations::{push_bound, push_capture, push_type};
-use crate::edits::{push_edited, rename_or_faults};
-use crate::names::{push_all_hovers, push_name};
+use crate::code::push_names_of_nodes;
+use crate::declarations::{push_bound_ordinals, push_first_conflict, push_type};
+use crate::edits::{push_edited_text, renamed_text_or_faults};
+use crate::names::{push_all_hovers, push_name_description};
 use crate::runs::push_run;
 use ob0_analysis::{Analysis, Diagnosis, Question, ask};
 use ob0_scan::Span;
@@ -21,34 +21,35 @@ pub enum TestQuestion {
     Faults,
     /// The type of the declaration with this ordinal.
     TypeOf(usize),
-    /// The byte range of the first conflict that this new name has as the name of the declaration
-    /// with this ordinal. The answer is `free` if the new name has no conflict.
-    Free(usize, &'static str),
-    /// The ordinal to which each occurrence of a name is bound once the declaration with this
-    /// ordinal is renamed to this new name.
-    Bound(usize, &'static str),
+    /// The byte range of the first name conflict if the declaration with this ordinal is renamed to
+    /// this new name. The answer is `free` if there is no conflict.
+    ConflictOf(usize, &'static str),
+    /// The ordinal of the declaration to which each occurrence would be bound if the declaration
+    /// with this ordinal were renamed to this new name.
+    BoundOrdinals(usize, &'static str),
     /// The declaration or field that the name at this byte offset refers to, its uses, and its
     /// hover text.
     NameAt(usize),
     /// The hover text of each name, in text order, each followed by a bar.
-    Shown,
-    /// The output and the end of a run on an input. The run has a bound on open calls, and a bound
-    /// on the iterations of a loop.
+    AllHovers,
+    /// The output and the end of a run on this input. The two numbers bound the open calls and the
+    /// iterations of each loop.
     Run(&'static [i32], u32, u32),
-    /// The names of the nodes to which the statements are lowered.
+    /// The names of nodes in the lowered body, as `push_names_of_nodes` appends them.
     Code,
     /// The text after a renaming at a line and a character (from 0) to this name, or the refusal.
     Rename(u64, u64, &'static str),
     InlineHere(u64, u64),
     InlineAll(u64, u64),
-    LayOut(Indent),
+    FormatWith(Indent),
 }
 
 /// A text, a question about it, and the expected answer. If the text isn't a well-typed module, its
 /// faults are expected instead.
 pub type QuestionCase = (&'static str, TestQuestion, &'static str);
 
-/// Builds a table of rows, each written `TEXT, ASKED => ANSWER;`, or `TEXT => FAULTS;`.
+/// Builds a table of rows, each written `TEXT, QUESTION => ANSWER;`, or of rows that are each
+/// written `TEXT => FAULTS;`.
 macro_rules! rows {
     ($($text:expr, $asked:expr => $wanted:expr;)*) => { &[$(($text, $asked, $wanted)),*] };
     ($($text:expr => $wanted:expr;)*) => { &[$(($text, Faults, $wanted)),*] };
@@ -56,32 +57,32 @@ macro_rules! rows {
 
 pub(crate) use rows;
 
-/// The way in which the rows of a table are checked.
+/// How the rows of a table are checked.
 #[derive(Clone, Copy, PartialEq, Eq)]
-pub enum Walk {
+pub enum CheckMode {
     Asking,
     /// Each question is asked, and an allocation may fail. A row whose answer isn't found because
     /// of such a failure is accepted.
-    Refused,
-    /// Each row is a renaming, which is made by a function that takes the analysis
-    /// (`rename_edits`).
+    AllowingFailedAllocation,
+    /// Each question is a renaming. The edits are those of `rename_edits`, which takes the analysis
+    /// instead of the well-typed module.
     RenamingInAnalysis,
 }
 
 // Texts that several tables use.
 
-pub const BLOCKS: &str =
+pub const NESTED_PROCEDURES: &str =
     "MODULE M;\nVAR Q: INTEGER;\nPROCEDURE A;\nPROCEDURE P; BEGIN Q := 7 END P;\n\
     PROCEDURE R; BEGIN Write(2) END R;\nBEGIN P; R END A;\nBEGIN A; Write(Q) END M.";
 
-pub const RECURSIVE: &str =
+pub const RECURSIVE_PROCEDURE: &str =
     "MODULE M;\nPROCEDURE F(n: INTEGER);\nBEGIN IF n > 0 THEN Write(n); F(n - 1) END END F;\nBEGIN F(2) END M.";
 
-pub const FIELDS: &str =
+pub const FIELDS_OF_TWO_RECORDS: &str =
     "MODULE M;\nTYPE R = RECORD a, b: INTEGER END;\nVAR r: R; s: RECORD a: INTEGER END; a: INTEGER;\n\
     BEGIN r.a := 1; s.a := 2; a := r.a + s.a; Write(a) END M.";
 
-pub const COUNTING: &str =
+pub const REPEAT_COUNTDOWN: &str =
     "MODULE M;\nVAR n: INTEGER;\nBEGIN Read(n); REPEAT Write(n); n := n - 1 UNTIL n <= 0 END M.";
 
 impl Question for TestQuestion {
@@ -106,22 +107,38 @@ fn push_answer(
     match asked {
         TestQuestion::Faults => Ok(()),
         TestQuestion::TypeOf(declaration) => push_type(out, module, declaration),
-        TestQuestion::Free(declaration, new) => push_capture(alloc, out, module, declaration, new),
-        TestQuestion::Bound(declaration, new) => push_bound(alloc, out, module, declaration, new),
-        TestQuestion::NameAt(offset) => push_name(alloc, out, module, offset),
-        TestQuestion::Shown => push_all_hovers(alloc, out, module),
-        TestQuestion::Code => push_code(alloc, out, module),
+        TestQuestion::ConflictOf(declaration, new) => push_first_conflict(
+            alloc,
+            out,
+            module,
+            declaration,
+            new,
+        ),
+        TestQuestion::BoundOrdinals(declaration, new) => push_bound_ordinals(
+            alloc,
+            out,
+            module,
+            declaration,
+            new,
+        ),
+        TestQuestion::NameAt(offset) => push_name_description(alloc, out, module, offset),
+        TestQuestion::AllHovers => push_all_hovers(alloc, out, module),
+        TestQuestion::Code => push_names_of_nodes(alloc, out, module),
         TestQuestion::Run(input, calls, turns) => push_run(alloc, out, module, input, calls, turns),
-        edit => push_edited(alloc, out, module, edit),
+        edit => push_edited_text(alloc, out, module, edit),
     }
 }
 
-/// Returns the answer to a row's question, or the faults of the row's text. (The proof of a
-/// function that owns an analysis takes long for each statement. So this function only passes the
-/// analysis on.)
-fn answer_for_row(alloc: Global, row: &QuestionCase, walk: Walk) -> Result<String, AllocError> {
+/// Returns the answer to a row's question, or the faults if the row's text isn't a well-typed
+/// module. (In a function that owns an analysis, each statement takes long to prove. So this
+/// function only makes the analysis and passes it on.)
+fn answer_for_row(
+    alloc: Global,
+    row: &QuestionCase,
+    check_mode: CheckMode,
+) -> Result<String, AllocError> {
     let analysis = Analysis::analyse_text(alloc, row.0)?;
-    answer_or_faults(alloc, &analysis, &row.1, walk)
+    answer_or_faults(alloc, &analysis, &row.1, check_mode)
 }
 
 /// Returns the answer to a question, or the faults of a text that isn't a well-typed module.
@@ -129,10 +146,10 @@ fn answer_or_faults(
     alloc: Global,
     analysis: &Analysis,
     asked: &TestQuestion,
-    walk: Walk,
+    check_mode: CheckMode,
 ) -> Result<String, AllocError> {
-    if walk == Walk::RenamingInAnalysis {
-        return rename_or_faults(alloc, analysis, *asked);
+    if check_mode == CheckMode::RenamingInAnalysis {
+        return renamed_text_or_faults(alloc, analysis, *asked);
     }
     match ask(alloc, analysis, asked)? {
         Some(answer) => Ok(answer),
@@ -141,23 +158,23 @@ fn answer_or_faults(
 }
 
 /// Returns whether a row has its expected answer. If an allocation fails, returns whether
-/// allocations may fail (`Walk::Refused`).
-fn has_expected_answer(alloc: Global, row: &QuestionCase, walk: Walk) -> bool {
-    match answer_for_row(alloc, row, walk) {
+/// allocations may fail (`CheckMode::AllowingFailedAllocation`).
+fn has_expected_answer(alloc: Global, row: &QuestionCase, check_mode: CheckMode) -> bool {
+    match answer_for_row(alloc, row, check_mode) {
         Ok(found) => found.as_str() == row.2,
-        Err(_refused) => walk == Walk::Refused,
+        Err(_refused) => check_mode == CheckMode::AllowingFailedAllocation,
     }
 }
 
 /// Returns the text and the expected answer of the first row whose answer isn't the expected one.
 /// Returns two empty texts if there is no such row.
-pub fn first_wrong(
+pub fn first_failing_row(
     alloc: Global,
     rows: &'static [QuestionCase],
-    walk: Walk,
+    check_mode: CheckMode,
 ) -> (&'static str, &'static str) {
     for row in rows {
-        if !has_expected_answer(alloc, row, walk) {
+        if !has_expected_answer(alloc, row, check_mode) {
             return (row.0, row.2);
         }
     }
@@ -173,11 +190,11 @@ pub fn at(line: u64, character: u64) -> Position {
 /// string is empty if the text has no faults.
 pub fn faults_of(alloc: Global, analysis: &Analysis) -> Result<String, AllocError> {
     let faults = analysis.diagnoses(alloc)?;
-    reported_faults(alloc, faults.as_slice())
+    faults_as_text(alloc, faults.as_slice())
 }
 
 /// Returns each fault's code and byte range, and for a syntax fault the expected token.
-fn reported_faults(alloc: Global, faults: &[Diagnosis]) -> Result<String, AllocError> {
+fn faults_as_text(alloc: Global, faults: &[Diagnosis]) -> Result<String, AllocError> {
     let mut out = String::new(alloc);
     for fault in faults {
         push_fault(&mut out, fault)?;

@@ -3,60 +3,60 @@
 //! slower.
 
 use crate::asking::TestQuestion::Code;
-use crate::asking::{QuestionCase, Walk, first_wrong, rows};
+use crate::asking::{CheckMode, QuestionCase, first_failing_row, rows};
 use ob0_run::lower;
 use ob0_run_machine::code::{Instruction, Number, Truth};
 use ob0_types::WellTyped;
 use std::alloc::{AllocError, Global};
 use std::process::Abort;
 
-/// Appends the names of nodes in the lowered body of a module, each after a blank. These are the
-/// node of each statement, and the outermost node of a value that is stored by a `StoreNumber`,
+/// Appends the names of nodes in the lowered body of a module, each preceded by a blank. These are
+/// the node of each statement, and the outermost node of a value that is stored by a `StoreNumber`,
 /// `StoreVariable` or `StoreTruth`. An `If` or a `While` is followed by the outermost node of its
 /// condition, and the nodes of the statements directly in it.
-pub fn push_code(
+pub fn push_names_of_nodes(
     alloc: Global,
     out: &mut String,
     module: &WellTyped<'_>,
 ) -> Result<(), AllocError> {
     let program = lower(alloc, module)?;
     for s in &program.code.body {
-        push_statement(out, s)?;
+        push_names_in_statement(out, s)?;
     }
     Ok(())
 }
 
-fn push_name(out: &mut String, name: &str) -> Result<(), AllocError> {
+fn push_blank_and_name(out: &mut String, name: &str) -> Result<(), AllocError> {
     out.push(' ')?;
     out.push_str(name)
 }
 
-fn push_statement(out: &mut String, s: &Instruction) -> Result<(), AllocError> {
-    push_name(out, name_of(s))?;
+fn push_names_in_statement(out: &mut String, s: &Instruction) -> Result<(), AllocError> {
+    push_blank_and_name(out, name_of_statement(s))?;
     match s {
-        Instruction::StoreNumber(_, n) => push_name(out, name_of_number(n)),
-        Instruction::StoreVariable(_, n) => push_name(out, name_of_number(n)),
-        Instruction::StoreTruth(_, t) => push_name(out, name_of_truth(t)),
+        Instruction::StoreNumber(_, n) => push_blank_and_name(out, name_of_number_node(n)),
+        Instruction::StoreVariable(_, n) => push_blank_and_name(out, name_of_number_node(n)),
+        Instruction::StoreTruth(_, t) => push_blank_and_name(out, name_of_truth_node(t)),
         Instruction::If(i) => {
-            push_name(out, name_of_truth(&i.condition))?;
-            push_names(out, i.body.as_slice())
+            push_blank_and_name(out, name_of_truth_node(&i.condition))?;
+            push_statement_names(out, i.body.as_slice())
         }
         Instruction::While(w) => {
-            push_name(out, name_of_truth(&w.condition))?;
-            push_names(out, w.body.as_slice())
+            push_blank_and_name(out, name_of_truth_node(&w.condition))?;
+            push_statement_names(out, w.body.as_slice())
         }
         _ => Ok(()),
     }
 }
 
-fn push_names(out: &mut String, statements: &[Instruction]) -> Result<(), AllocError> {
+fn push_statement_names(out: &mut String, statements: &[Instruction]) -> Result<(), AllocError> {
     for s in statements {
-        push_name(out, name_of(s))?;
+        push_blank_and_name(out, name_of_statement(s))?;
     }
     Ok(())
 }
 
-fn name_of(s: &Instruction) -> &'static str {
+fn name_of_statement(s: &Instruction) -> &'static str {
     match s {
         Instruction::StoreNumber(_, _) => "StoreNumber",
         Instruction::StoreVariable(_, _) => "StoreVariable",
@@ -71,7 +71,7 @@ fn name_of(s: &Instruction) -> &'static str {
     }
 }
 
-fn name_of_number(n: &Number) -> &'static str {
+fn name_of_number_node(n: &Number) -> &'static str {
     match n {
         Number::Literal(_) => "Literal",
         Number::Variable(_) => "Variable",
@@ -82,7 +82,7 @@ fn name_of_number(n: &Number) -> &'static str {
     }
 }
 
-fn name_of_truth(t: &Truth) -> &'static str {
+fn name_of_truth_node(t: &Truth) -> &'static str {
     match t {
         Truth::Unset(_) => "Unset",
         Truth::All(_) => "All",
@@ -90,38 +90,38 @@ fn name_of_truth(t: &Truth) -> &'static str {
         Truth::LessThanLiteral(_, _) => "LessThanLiteral",
         Truth::ComparedToLiteral(_, _, _) => "ComparedToLiteral",
         Truth::ComparedToVariable(_, _, _) => "ComparedToVariable",
-        Truth::ElementToVariable(_, _, _) => "RowToVariable",
+        Truth::ElementToVariable(_, _, _) => "ElementToVariable",
         _ => "other",
     }
 }
 
-const LOOPS: &str = "MODULE M;\nVAR i, j, m: INTEGER;\n\
+const WHILE_LOOPS: &str = "MODULE M;\nVAR i, j, m: INTEGER;\n\
     BEGIN WHILE j < 9 DO j := j + 1 END; WHILE i <= m DO j := 0; i := i + 2 END; WHILE j # 9 DO i := i + 1 END END M.";
 
-const ELEMENTS: &str =
+const ARRAY_ELEMENTS: &str =
     "MODULE M;\nVAR a: ARRAY 9 OF INTEGER; on: ARRAY 9 OF BOOLEAN; i, m: INTEGER;\n\
     BEGIN on[i] := TRUE; IF a[i] < m THEN m := a[i] END; IF ~on[i] THEN a[i] := m END END M.";
 
-const FIELDS: &str = "MODULE M;\nVAR r: RECORD f, g: INTEGER END;\n\
+const FIELD_ASSIGNMENTS: &str = "MODULE M;\nVAR r: RECORD f, g: INTEGER END;\n\
     BEGIN r.f := r.f * 2; r.g := r.f; r.g := r.f + r.g * 3; r.f := r.g + 1 END M.";
 
-const CHAINS: &str = "MODULE M;\nVAR a, b, c: BOOLEAN;\n\
+const AND_OR_CHAINS: &str = "MODULE M;\nVAR a, b, c: BOOLEAN;\n\
     BEGIN IF a & b & c THEN a := b END; IF a OR b OR c THEN WriteLn END; a := a & ~b & c END M.";
 
-static ROWS: &[QuestionCase] = rows![
-    LOOPS, Code => " While LessThanLiteral Increase While ComparedToVariable StoreVariable Increase \
+static NODE_NAME_CASES: &[QuestionCase] = rows![
+    WHILE_LOOPS, Code => " While LessThanLiteral Increase While ComparedToVariable StoreVariable Increase \
         While ComparedToLiteral Increase";
-    ELEMENTS, Code => " StoreConstant If RowToVariable StoreVariable If Unset StoreNumber";
-    FIELDS, Code => " Update StoreVariable Variable StoreChain StoreVariable Operation";
-    CHAINS, Code => " If All StoreTruth If Any other StoreTruth All";
+    ARRAY_ELEMENTS, Code => " StoreConstant If ElementToVariable StoreVariable If Unset StoreNumber";
+    FIELD_ASSIGNMENTS, Code => " Update StoreVariable Variable StoreChain StoreVariable Operation";
+    AND_OR_CHAINS, Code => " If All StoreTruth If Any other StoreTruth All";
 ];
 
-fn code_rows() -> &'static [QuestionCase] {
-    ROWS
+fn node_name_cases() -> &'static [QuestionCase] {
+    NODE_NAME_CASES
 }
 
 #[test]
 fn statements_are_lowered_to_fused_nodes(rt: HostRuntime) {
-    let (text, wanted) = first_wrong(rt.alloc(), code_rows(), Walk::Asking);
+    let (text, wanted) = first_failing_row(rt.alloc(), node_name_cases(), CheckMode::Asking);
     assert!(rt; text.is_empty(), "{wanted} of {text}");
 }

@@ -1,8 +1,9 @@
-//! Tests the types of declarations, and the conflicts of new names. A declaration is given by its
-//! ordinal: predeclared names have the ordinals 0 to 6, and the text's declarations follow.
+//! Tests the types of declarations, and the conflicts and bindings if a declaration is renamed. A
+//! declaration is given by its ordinal: predeclared names have the ordinals 0 to 6, and the text's
+//! declarations follow.
 
-use crate::asking::TestQuestion::{Bound, Free, TypeOf};
-use crate::asking::{QuestionCase, Walk, first_wrong, push_number, push_span, rows};
+use crate::asking::TestQuestion::{BoundOrdinals, ConflictOf, TypeOf};
+use crate::asking::{CheckMode, QuestionCase, first_failing_row, push_number, push_span, rows};
 use ob0_refs::{NameConflict, captures};
 use ob0_scope::resolve_renamed;
 use ob0_types::{ArrayShape, Parts, RecordShape, Shape, WellTyped};
@@ -21,7 +22,8 @@ pub fn push_type(
     }
 }
 
-/// Appends a type: the array levels from the outside, at most two, and then the element type.
+/// Appends a type: its array levels from the outside in, and then the element type. A type with
+/// more than two array levels is cut off after the third.
 fn push_shape(out: &mut String, shape: Shape<'_>) -> Result<(), AllocError> {
     let mut level = shape;
     for _ in 0..3 {
@@ -33,7 +35,7 @@ fn push_shape(out: &mut String, shape: Shape<'_>) -> Result<(), AllocError> {
                 return push_record(out, record);
             }
             Parts::Array(array) => {
-                push_array(out, &array)?;
+                push_array_prefix(out, &array)?;
                 level = Shape {
                     known: level.known,
                     of: array.element,
@@ -44,21 +46,21 @@ fn push_shape(out: &mut String, shape: Shape<'_>) -> Result<(), AllocError> {
     Ok(())
 }
 
-/// Appends an array type's ordinal and length, in front of its element type.
-fn push_array(out: &mut String, array: &ArrayShape) -> Result<(), AllocError> {
+/// Appends `ARRAY`, an array type's ordinal and length, and `OF`. The element type comes next.
+fn push_array_prefix(out: &mut String, array: &ArrayShape) -> Result<(), AllocError> {
     let (ordinal, length) = (array.ordinal, array.length);
     write!(out, "ARRAY {ordinal} {length} OF ")
 }
 
-/// Appends a record type's ordinal and its number of fields.
+/// Appends `RECORD`, a record type's ordinal, and its number of fields.
 fn push_record(out: &mut String, record: &RecordShape) -> Result<(), AllocError> {
     let (ordinal, fields) = (record.ordinal, record.fields.as_slice().len());
     write!(out, "RECORD {ordinal} with {fields}")
 }
 
-/// Appends the byte range of the first conflict that the name `new` has as the name of the
-/// declaration with this ordinal. Appends `free` if there is no conflict.
-pub fn push_capture(
+/// Appends the byte range of the first name conflict if the declaration with this ordinal is
+/// renamed to `new`. Appends `free` if there is no conflict.
+pub fn push_first_conflict(
     alloc: Global,
     out: &mut String,
     module: &WellTyped<'_>,
@@ -71,9 +73,9 @@ pub fn push_capture(
     }
 }
 
-/// Appends the ordinal to which each occurrence of a name is bound once the declaration with this
-/// ordinal is renamed to `new`.
-pub fn push_bound(
+/// Appends the ordinal of the declaration to which each occurrence would be bound if the
+/// declaration with this ordinal were renamed to `new`.
+pub fn push_bound_ordinals(
     alloc: Global,
     out: &mut String,
     module: &WellTyped<'_>,
@@ -95,35 +97,35 @@ fn push_ordinals(out: &mut String, ordinals: &[Option<usize>]) -> Result<(), All
     Ok(())
 }
 
-const TYPES: &str =
+const DECLARED_TYPES: &str =
     "MODULE M; CONST c = 3; TYPE R = RECORD a, b: INTEGER END; VAR v: ARRAY c OF ARRAY 2 OF R; t: BOOLEAN; \
     PROCEDURE P; END P; END M.";
 
-const NAMES: &str =
+const GLOBAL_AND_LOCAL_VARIABLES: &str =
     "MODULE M;\nVAR x: INTEGER; y: INTEGER;\nPROCEDURE P; VAR z: INTEGER; BEGIN z := x END P;\nBEGIN P END M.";
 
-static ROWS: &[QuestionCase] = rows![
-    TYPES, TypeOf(0) => "INTEGER";
-    TYPES, TypeOf(4) => "none";
-    TYPES, TypeOf(7) => "INTEGER";
-    TYPES, TypeOf(8) => "RECORD 0 with 2";
-    TYPES, TypeOf(9) => "ARRAY 1 3 OF ARRAY 2 2 OF RECORD 0 with 2";
-    TYPES, TypeOf(10) => "BOOLEAN";
-    TYPES, TypeOf(11) => "none";
-    TYPES, TypeOf(12) => "none";
-    NAMES, Free(7, "y") => "14-15";
-    NAMES, Free(7, "z") => "78-79";
-    NAMES, Free(7, "w") => "free";
-    NAMES, Free(10, "x") => "78-79";
-    NAMES, Free(10, "y") => "free";
-    NAMES, Bound(7, "w") => " 0 0 0 10 7 9";
-    NAMES, Bound(7, "z") => " 0 0 0 10 10 9";
-    NAMES, Bound(10, "x") => " 0 0 0 10 10 9";
-    NAMES, Bound(9, "INTEGER") => " 0 0 9 10 7 9";
+static DECLARATION_CASES: &[QuestionCase] = rows![
+    DECLARED_TYPES, TypeOf(0) => "INTEGER";
+    DECLARED_TYPES, TypeOf(4) => "none";
+    DECLARED_TYPES, TypeOf(7) => "INTEGER";
+    DECLARED_TYPES, TypeOf(8) => "RECORD 0 with 2";
+    DECLARED_TYPES, TypeOf(9) => "ARRAY 1 3 OF ARRAY 2 2 OF RECORD 0 with 2";
+    DECLARED_TYPES, TypeOf(10) => "BOOLEAN";
+    DECLARED_TYPES, TypeOf(11) => "none";
+    DECLARED_TYPES, TypeOf(12) => "none";
+    GLOBAL_AND_LOCAL_VARIABLES, ConflictOf(7, "y") => "14-15";
+    GLOBAL_AND_LOCAL_VARIABLES, ConflictOf(7, "z") => "78-79";
+    GLOBAL_AND_LOCAL_VARIABLES, ConflictOf(7, "w") => "free";
+    GLOBAL_AND_LOCAL_VARIABLES, ConflictOf(10, "x") => "78-79";
+    GLOBAL_AND_LOCAL_VARIABLES, ConflictOf(10, "y") => "free";
+    GLOBAL_AND_LOCAL_VARIABLES, BoundOrdinals(7, "w") => " 0 0 0 10 7 9";
+    GLOBAL_AND_LOCAL_VARIABLES, BoundOrdinals(7, "z") => " 0 0 0 10 10 9";
+    GLOBAL_AND_LOCAL_VARIABLES, BoundOrdinals(10, "x") => " 0 0 0 10 10 9";
+    GLOBAL_AND_LOCAL_VARIABLES, BoundOrdinals(9, "INTEGER") => " 0 0 9 10 7 9";
 ];
 
 #[test]
 fn types_and_conflicts_are_as_expected(rt: HostRuntime) {
-    let (text, wanted) = first_wrong(rt.alloc(), ROWS, Walk::Asking);
+    let (text, wanted) = first_failing_row(rt.alloc(), DECLARATION_CASES, CheckMode::Asking);
     assert!(rt; text.is_empty(), "{wanted} in {text}");
 }

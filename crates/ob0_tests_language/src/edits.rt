@@ -1,11 +1,12 @@
-//! Tests renamed, inlined and formatted texts, and refusals of edits.
+//! Tests renaming, inlining and formatting: the resulting texts, and the refusals.
 
 ghost use Rattle.std.specs.Prelude.{◌≡◌};
 ghost use Rattle.std.specs.Str.{chars};
 
-use crate::asking::TestQuestion::{self, InlineAll, InlineHere, LayOut, Rename};
+use crate::asking::TestQuestion::{self, FormatWith, InlineAll, InlineHere, Rename};
 use crate::asking::{
-    BLOCKS, COUNTING, FIELDS, QuestionCase, RECURSIVE, Walk, at, faults_of, first_wrong, rows,
+    CheckMode, FIELDS_OF_TWO_RECORDS, NESTED_PROCEDURES, QuestionCase, RECURSIVE_PROCEDURE,
+    REPEAT_COUNTDOWN, at, faults_of, first_failing_row, rows,
 };
 use ob0_analysis::Analysis;
 use ob0_edits::rename_edits;
@@ -18,7 +19,7 @@ use std::alloc::{AllocError, Global};
 use std::process::Abort;
 
 /// Appends the text that the module has after the edit in the question `asked`, or the refusal.
-pub fn push_edited(
+pub fn push_edited_text(
     alloc: Global,
     out: &mut String,
     module: &WellTyped<'_>,
@@ -26,7 +27,7 @@ pub fn push_edited(
 ) -> Result<(), AllocError> {
     let store = Whole::from_str(alloc, module.resolved().tokens().text())?;
     let edits = edits_of(alloc, &store, module, asked);
-    out.push_str(apply_or_refuse(alloc, &store, edits)?.as_str())
+    out.push_str(edited_text_or_refusal(alloc, &store, edits)?.as_str())
 }
 
 /// Returns the edits for the question `asked`, or the refusal. If the question isn't about edits,
@@ -43,13 +44,13 @@ fn edits_of<T: TextStore>(
         Rename(line, character, new) => rename(alloc, store, module, at(line, character), new),
         InlineHere(line, character) => inline_here(alloc, store, module, at(line, character)),
         InlineAll(line, character) => inline_all(alloc, store, module, at(line, character)),
-        LayOut(indent) => format(alloc, store, module.resolved().module(), indent),
+        FormatWith(indent) => format(alloc, store, module.resolved().module(), indent),
         _ => Ok(Vec::new(alloc)),
     }
 }
 
 /// Returns the text with the edits applied, or the refusal.
-fn apply_or_refuse(
+fn edited_text_or_refusal(
     alloc: Global,
     store: &Whole,
     edits: Result<Vec<Edit>, EditRefusal>,
@@ -64,9 +65,9 @@ fn apply_or_refuse(
     }
 }
 
-/// Returns the text of an analysis after the renaming in the question `asked`, or the refusal. If
-/// the text has faults, returns the faults. If the question isn't a renaming, the string is empty.
-pub fn rename_or_faults(
+/// Returns the analysed text after the renaming in the question `asked`, or the refusal. If the
+/// text has faults, returns the faults. If the question isn't a renaming, the string is empty.
+pub fn renamed_text_or_faults(
     alloc: Global,
     analysis: &Analysis,
     asked: TestQuestion,
@@ -76,130 +77,134 @@ pub fn rename_or_faults(
     };
     let store = Whole::from_str(alloc, analysis.text())?;
     match rename_edits(alloc, &store, analysis, at(line, character), new)? {
-        Some(edits) => apply_or_refuse(alloc, &store, edits),
+        Some(edits) => edited_text_or_refusal(alloc, &store, edits),
         None => faults_of(alloc, analysis),
     }
 }
 
-const NESTED: &str =
+const LOCAL_AND_GLOBAL_VARIABLE: &str =
     "MODULE M;\nVAR x: INTEGER;\nPROCEDURE P;\nVAR y: INTEGER;\nBEGIN y := 1; x := y END P;\n\
     BEGIN P; Write(x) END M.";
 
-const PARTS: &str = "MODULE M;\nTYPE P = RECORD x, y: INTEGER END;\n\
+const ARRAY_OF_NESTED_RECORDS: &str = "MODULE M;\nTYPE P = RECORD x, y: INTEGER END;\n\
     VAR q: ARRAY 2 OF RECORD x: P; n: RECORD x: INTEGER END END;\n\
     BEGIN q[0].x.x := 1; q[q[0].x.x].n.x := 2; q[1].x.y := 3 END M.";
 
-const LOCAL: &str =
+const REDECLARED_RECORD_TYPE: &str =
     "MODULE M;\nTYPE R = RECORD a: INTEGER END;\nVAR r: R;\nPROCEDURE P(VAR r: R; s: RECORD a: INTEGER END);\n\
     TYPE R = RECORD b, a: INTEGER END;\nVAR t: R;\nBEGIN r.a := s.a; t.a := t.b END P;\nBEGIN r.a := 1 END M.";
 
-static RENAMED: &[QuestionCase] = rows![
-    RECURSIVE, Rename(2, 47, "G12") =>
+static RENAME_CASES: &[QuestionCase] = rows![
+    RECURSIVE_PROCEDURE, Rename(2, 47, "G12") =>
         "MODULE M;\nPROCEDURE G12(n: INTEGER);\nBEGIN IF n > 0 THEN Write(n); G12(n - 1) END END G12;\n\
         BEGIN G12(2) END M.";
-    RECURSIVE, Rename(1, 11, "Repeat") =>
+    RECURSIVE_PROCEDURE, Rename(1, 11, "Repeat") =>
         "MODULE M;\nPROCEDURE Repeat(n: INTEGER);\n\
         BEGIN IF n > 0 THEN Write(n); Repeat(n - 1) END END Repeat;\nBEGIN Repeat(2) END M.";
-    RECURSIVE, Rename(2, 47, "F") => RECURSIVE;
-    BLOCKS, Rename(4, 10, "Q") =>
+    RECURSIVE_PROCEDURE, Rename(2, 47, "F") => RECURSIVE_PROCEDURE;
+    NESTED_PROCEDURES, Rename(4, 10, "Q") =>
         "MODULE M;\nVAR Q: INTEGER;\nPROCEDURE A;\nPROCEDURE P; BEGIN Q := 7 END P;\n\
         PROCEDURE Q; BEGIN Write(2) END Q;\nBEGIN P; Q END A;\nBEGIN A; Write(Q) END M.";
-    BLOCKS, Rename(4, 10, "P") => "Duplicate 3:10-3:11";
-    BLOCKS, Rename(3, 10, "R") => "Duplicate 4:10-4:11";
-    BLOCKS, Rename(1, 4, "P") => "Captures 3:19-3:20";
-    NESTED, Rename(1, 4, "y") => "Captures 4:14-4:15";
-    NESTED, Rename(1, 4, "Write") => "Captures 5:9-5:14";
-    RECURSIVE, Rename(2, 47, "n") => "Captures 2:30-2:31";
-    RECURSIVE, Rename(2, 47, "END") => "BadName";
-    RECURSIVE, Rename(2, 47, "a b") => "BadName";
-    RECURSIVE, Rename(0, 7, "END") => "NoName";
-    RECURSIVE, Rename(2, 15, "END") => "NoName";
-    RECURSIVE, Rename(2, 22, "END") => "Predeclared";
-    FIELDS, Rename(2, 36, "b") =>
+    NESTED_PROCEDURES, Rename(4, 10, "P") => "Duplicate 3:10-3:11";
+    NESTED_PROCEDURES, Rename(3, 10, "R") => "Duplicate 4:10-4:11";
+    NESTED_PROCEDURES, Rename(1, 4, "P") => "Captures 3:19-3:20";
+    LOCAL_AND_GLOBAL_VARIABLE, Rename(1, 4, "y") => "Captures 4:14-4:15";
+    LOCAL_AND_GLOBAL_VARIABLE, Rename(1, 4, "Write") => "Captures 5:9-5:14";
+    RECURSIVE_PROCEDURE, Rename(2, 47, "n") => "Captures 2:30-2:31";
+    RECURSIVE_PROCEDURE, Rename(2, 47, "END") => "BadName";
+    RECURSIVE_PROCEDURE, Rename(2, 47, "a b") => "BadName";
+    RECURSIVE_PROCEDURE, Rename(0, 7, "END") => "NoName";
+    RECURSIVE_PROCEDURE, Rename(2, 15, "END") => "NoName";
+    RECURSIVE_PROCEDURE, Rename(2, 22, "END") => "Predeclared";
+    FIELDS_OF_TWO_RECORDS, Rename(2, 36, "b") =>
         "MODULE M;\nTYPE R = RECORD a, b: INTEGER END;\nVAR r: R; s: RECORD a: INTEGER END; b: INTEGER;\n\
         BEGIN r.a := 1; s.a := 2; b := r.a + s.a; Write(b) END M.";
-    FIELDS, Rename(3, 8, "INTEGER") =>
+    FIELDS_OF_TWO_RECORDS, Rename(3, 8, "INTEGER") =>
         "MODULE M;\nTYPE R = RECORD INTEGER, b: INTEGER END;\nVAR r: R; s: RECORD a: INTEGER END; a: INTEGER;\n\
         BEGIN r.INTEGER := 1; s.a := 2; a := r.INTEGER + s.a; Write(a) END M.";
-    FIELDS, Rename(3, 18, "b") =>
+    FIELDS_OF_TWO_RECORDS, Rename(3, 18, "b") =>
         "MODULE M;\nTYPE R = RECORD a, b: INTEGER END;\nVAR r: R; s: RECORD b: INTEGER END; a: INTEGER;\n\
         BEGIN r.a := 1; s.b := 2; a := r.a + s.b; Write(a) END M.";
-    FIELDS, Rename(3, 8, "b") => "Duplicate 1:19-1:20";
-    FIELDS, Rename(3, 8, "1a") => "BadName";
-    FIELDS, Rename(3, 18, "a") => FIELDS;
-    PARTS, Rename(3, 11, "n") => "Duplicate 2:31-2:32";
-    PARTS, Rename(2, 25, "y") =>
+    FIELDS_OF_TWO_RECORDS, Rename(3, 8, "b") => "Duplicate 1:19-1:20";
+    FIELDS_OF_TWO_RECORDS, Rename(3, 8, "1a") => "BadName";
+    FIELDS_OF_TWO_RECORDS, Rename(3, 18, "a") => FIELDS_OF_TWO_RECORDS;
+    ARRAY_OF_NESTED_RECORDS, Rename(3, 11, "n") => "Duplicate 2:31-2:32";
+    ARRAY_OF_NESTED_RECORDS, Rename(2, 25, "y") =>
         "MODULE M;\nTYPE P = RECORD x, y: INTEGER END;\n\
         VAR q: ARRAY 2 OF RECORD y: P; n: RECORD x: INTEGER END END;\n\
         BEGIN q[0].y.x := 1; q[q[0].y.x].n.x := 2; q[1].y.y := 3 END M.";
-    LOCAL, Rename(6, 20, "b") => "Duplicate 4:16-4:17";
-    LOCAL, Rename(7, 8, "b") =>
+    REDECLARED_RECORD_TYPE, Rename(6, 20, "b") => "Duplicate 4:16-4:17";
+    REDECLARED_RECORD_TYPE, Rename(7, 8, "b") =>
         "MODULE M;\nTYPE R = RECORD b: INTEGER END;\nVAR r: R;\nPROCEDURE P(VAR r: R; s: RECORD a: INTEGER END);\n\
         TYPE R = RECORD b, a: INTEGER END;\nVAR t: R;\nBEGIN r.b := s.a; t.a := t.b END P;\nBEGIN r.b := 1 END M.";
-    LOCAL, Rename(6, 15, "b") =>
+    REDECLARED_RECORD_TYPE, Rename(6, 15, "b") =>
         "MODULE M;\nTYPE R = RECORD a: INTEGER END;\nVAR r: R;\nPROCEDURE P(VAR r: R; s: RECORD b: INTEGER END);\n\
         TYPE R = RECORD b, a: INTEGER END;\nVAR t: R;\nBEGIN r.a := s.b; t.a := t.b END P;\nBEGIN r.a := 1 END M.";
 ];
 
-fn rename_rows() -> &'static [QuestionCase] {
-    RENAMED
+fn rename_cases() -> &'static [QuestionCase] {
+    RENAME_CASES
 }
 
 #[test]
 fn names_are_renamed_in_well_typed_modules(rt: HostRuntime) {
-    let (text, wanted) = first_wrong(rt.alloc(), rename_rows(), Walk::Asking);
+    let (text, wanted) = first_failing_row(rt.alloc(), rename_cases(), CheckMode::Asking);
     assert!(rt; text.is_empty(), "{wanted} in {text}");
 }
 
 #[test]
 fn names_are_renamed_in_analyses(rt: HostRuntime) {
-    let (text, wanted) = first_wrong(rt.alloc(), rename_rows(), Walk::RenamingInAnalysis);
+    let (text, wanted) = first_failing_row(
+        rt.alloc(),
+        rename_cases(),
+        CheckMode::RenamingInAnalysis,
+    );
     assert!(rt; text.is_empty(), "{wanted} in {text}");
 }
 
-const LEAST: &str =
+const CONSTANT_OF_LEAST_NUMBER: &str =
     "MODULE M;\nCONST c = -2147483647 - 1;\nVAR x: INTEGER;\nBEGIN x := 0 + c; Write(x) END M.";
 
-const SHADOWED: &str =
+const SHADOWED_TRUE: &str =
     "MODULE M;\nCONST on = TRUE;\nPROCEDURE P; VAR TRUE, b: BOOLEAN; BEGIN b := on END P;\nBEGIN P END M.";
 
-const COMMENTED: &str = "MODULE M; CONST c (* five *) = 5; (* on *) BEGIN Write(c) END M.";
+const COMMENTED_CONSTANT: &str = "MODULE M; CONST c (* five *) = 5; (* on *) BEGIN Write(c) END M.";
 
-const SEVERAL: &str =
+const SEVERAL_CONSTANTS: &str =
     "MODULE M; CONST a = 9; c = -5; d = c; BEGIN Write(a - c); Write(c DIV 3) END M.";
 
-/// A module that is nested as deep as allowed. Inlining its constant writes the value in
-/// parentheses, which would nest one level too deep.
-const DEEP: &str = "MODULE M; CONST c = -1; VAR x: INTEGER; BEGIN x := \
+/// A module that is nested as deeply as allowed. Inlining its constant would write the value in
+/// parentheses, which would nest one level too deeply.
+const DEEPEST_NESTING: &str = "MODULE M; CONST c = -1; VAR x: INTEGER; BEGIN x := \
     ((((((((((((((((((((((((((((((((((((((((((((((((((\
     ((((((((((((((((((((((((((((((((((((((((((((((((((c\
     ))))))))))))))))))))))))))))))))))))))))))))))))))\
     )))))))))))))))))))))))))))))))))))))))))))))))))) END M.";
 
-static INLINED: &[QuestionCase] = rows![
-    LEAST, InlineHere(3, 15) =>
+static INLINING_CASES: &[QuestionCase] = rows![
+    CONSTANT_OF_LEAST_NUMBER, InlineHere(3, 15) =>
         "MODULE M;\nCONST c = -2147483647 - 1;\nVAR x: INTEGER;\nBEGIN x := 0 + (-2147483647 - 1); Write(x) END M.";
-    LEAST, InlineHere(1, 6) => "NoName";
-    LEAST, InlineHere(3, 6) => "NoName";
-    LEAST, InlineAll(1, 6) =>
+    CONSTANT_OF_LEAST_NUMBER, InlineHere(1, 6) => "NoName";
+    CONSTANT_OF_LEAST_NUMBER, InlineHere(3, 6) => "NoName";
+    CONSTANT_OF_LEAST_NUMBER, InlineAll(1, 6) =>
         "MODULE M;\nCONST \nVAR x: INTEGER;\nBEGIN x := 0 + (-2147483647 - 1); Write(x) END M.";
-    LEAST, InlineAll(3, 15) =>
+    CONSTANT_OF_LEAST_NUMBER, InlineAll(3, 15) =>
         "MODULE M;\nCONST \nVAR x: INTEGER;\nBEGIN x := 0 + (-2147483647 - 1); Write(x) END M.";
-    LEAST, InlineAll(2, 4) => "NoName";
+    CONSTANT_OF_LEAST_NUMBER, InlineAll(2, 4) => "NoName";
     "MODULE M; CONST t = 1 = 2; VAR b: BOOLEAN; BEGIN b := t END M.", InlineHere(0, 54) =>
         "MODULE M; CONST t = 1 = 2; VAR b: BOOLEAN; BEGIN b := FALSE END M.";
     "MODULE M; CONST c = 1; PROCEDURE P; CONST c = 2; BEGIN Write(c) END P; BEGIN Write(c) END M.",
         InlineHere(0, 61) =>
         "MODULE M; CONST c = 1; PROCEDURE P; CONST c = 2; BEGIN Write(2) END P; BEGIN Write(c) END M.";
-    SHADOWED, InlineHere(2, 46) => "Shadowed";
-    SHADOWED, InlineAll(1, 8) => "Shadowed";
+    SHADOWED_TRUE, InlineHere(2, 46) => "Shadowed";
+    SHADOWED_TRUE, InlineAll(1, 8) => "Shadowed";
     "MODULE M; CONST TRUE = 1 = 1; VAR b: BOOLEAN; BEGIN b := TRUE END M.", InlineAll(0, 58) => "Shadowed";
     "MODULE M; CONST TRUE = 1 = 1; VAR b: BOOLEAN; BEGIN b := TRUE END M.", InlineHere(0, 58) => "Shadowed";
-    DEEP, InlineHere(0, 151) => "TooDeep";
-    DEEP, InlineAll(0, 151) => "TooDeep";
-    COMMENTED, InlineAll(0, 16) => "CommentInside";
-    COMMENTED, InlineHere(0, 55) => "MODULE M; CONST c (* five *) = 5; (* on *) BEGIN Write(5) END M.";
-    SEVERAL, InlineAll(0, 23) =>
+    DEEPEST_NESTING, InlineHere(0, 151) => "TooDeep";
+    DEEPEST_NESTING, InlineAll(0, 151) => "TooDeep";
+    COMMENTED_CONSTANT, InlineAll(0, 16) => "CommentInside";
+    COMMENTED_CONSTANT, InlineHere(0, 55) => "MODULE M; CONST c (* five *) = 5; (* on *) BEGIN Write(5) END M.";
+    SEVERAL_CONSTANTS, InlineAll(0, 23) =>
         "MODULE M; CONST a = 9;  d = (-5); BEGIN Write(a - (-5)); Write((-5) DIV 3) END M.";
     "MODULE M; CONST c = 1; PROCEDURE P; CONST c = 2; PROCEDURE Q; BEGIN Write(c) END Q; BEGIN Q END P; \
         BEGIN Write(c) END M.", InlineAll(0, 42) =>
@@ -211,21 +216,21 @@ static INLINED: &[QuestionCase] = rows![
 
 #[test]
 fn constants_are_inlined(rt: HostRuntime) {
-    let (text, wanted) = first_wrong(rt.alloc(), INLINED, Walk::Asking);
+    let (text, wanted) = first_failing_row(rt.alloc(), INLINING_CASES, CheckMode::Asking);
     assert!(rt; text.is_empty(), "{wanted} in {text}");
 }
 
 const TWO_SPACES: Indent = Indent::Spaces(2);
 
-/// Builds two rows for each text, written `TEXT, INDENT => FORMATTED;`. The second row states that
+/// Builds two rows from each line `TEXT, INDENT => FORMATTED;`. The second row states that
 /// formatting the formatted text changes nothing.
 macro_rules! layouts {
     ($($text:expr, $indent:expr => $wanted:expr;)*) => {
-        &[$(($text, LayOut($indent), $wanted), ($wanted, LayOut($indent), $wanted)),*]
+        &[$(($text, FormatWith($indent), $wanted), ($wanted, FormatWith($indent), $wanted)),*]
     };
 }
 
-static LAID_OUT: &[QuestionCase] = layouts![
+static FORMATTING_CASES: &[QuestionCase] = layouts![
     "MODULE M;VAR x:INTEGER;BEGIN x:=-1;IF x<0 THEN Write(x)(* a (* b *) c *)END;WriteLn END M.(* end *)", TWO_SPACES =>
         "MODULE M;\nVAR\n  x: INTEGER;\nBEGIN\n  x := -1;\n  IF x < 0 THEN\n    Write(x) (* a (* b *) c *)\n  END;\
         \n  WriteLn\nEND M. (* end *)\n";
@@ -240,7 +245,7 @@ static LAID_OUT: &[QuestionCase] = layouts![
         \n\t\t\tP(t, n - 1)\n\t\tEND\n\tEND P;\nEND M.\n";
     "MODULE M; BEGIN ; WriteLn; END M.", TWO_SPACES =>
         "MODULE M;\nBEGIN;\n  WriteLn;\nEND M.\n";
-    COUNTING, TWO_SPACES =>
+    REPEAT_COUNTDOWN, TWO_SPACES =>
         "MODULE M;\nVAR\n  n: INTEGER;\nBEGIN\n  Read(n);\n  REPEAT\n    Write(n);\n    n := n - 1\n  UNTIL n <= 0\
         \nEND M.\n";
     "MODULE M;VAR a:ARRAY 2 OF INTEGER;PROCEDURE A;PROCEDURE B();END B;BEGIN IF a[0]=1 THEN B() ELSIF a [1]=2 THEN \
@@ -252,6 +257,6 @@ static LAID_OUT: &[QuestionCase] = layouts![
 
 #[test]
 fn texts_are_formatted_idempotently(rt: HostRuntime) {
-    let (text, wanted) = first_wrong(rt.alloc(), LAID_OUT, Walk::Asking);
+    let (text, wanted) = first_failing_row(rt.alloc(), FORMATTING_CASES, CheckMode::Asking);
     assert!(rt; text.is_empty(), "{wanted} of {text}");
 }

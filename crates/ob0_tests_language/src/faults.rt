@@ -1,14 +1,14 @@
 //! Tests the faults of example texts: the code, start and end of each, in text order. Also tests
-//! that a changed text has the faults of an analysis from scratch.
+//! that reanalysis of a changed text finds the same faults as an analysis from scratch.
 
 use crate::asking::TestQuestion::Faults;
-use crate::asking::{QuestionCase, Walk, at, faults_of, first_wrong, rows};
+use crate::asking::{CheckMode, QuestionCase, at, faults_of, first_failing_row, rows};
 use ob0_analysis::Analysis;
 use ob0_text::{Range, TextStore, Whole};
 use std::alloc::{AllocError, Global};
 use std::process::Abort;
 
-static ROWS: &[QuestionCase] = rows![
+static FAULT_CASES: &[QuestionCase] = rows![
     "MODULE M; END M." => "";
     "MODULE M; VAR n: INTEGER; BEGIN Read(n); REPEAT Write(n); n := n - 1 UNTIL n <= 0 END M." => "";
     // Lexemes.
@@ -80,7 +80,7 @@ static ROWS: &[QuestionCase] = rows![
 
 #[test]
 fn faults_of_example_texts_are_reported(rt: HostRuntime) {
-    let (text, wanted) = first_wrong(rt.alloc(), ROWS, Walk::Asking);
+    let (text, wanted) = first_failing_row(rt.alloc(), FAULT_CASES, CheckMode::Asking);
     assert!(rt; text.is_empty(), "{wanted} of {text}");
 }
 
@@ -94,13 +94,13 @@ const TWO_VARIABLES: &str = "MODULE M; VAR x, y: INTEGER; BEGIN x := y END M.";
 const ONE_PROCEDURE: &str =
     "MODULE M; VAR x, y: INTEGER; PROCEDURE P; BEGIN x := y END P; BEGIN P; z := x END M.";
 
-const RECORDS: &str =
+const RECORD_PARAMETERS: &str =
     "MODULE M; TYPE T = RECORD f, g: INTEGER END; VAR t: T; PROCEDURE P(a, b: T); BEGIN a := b; a.f := t.g END P; \
     BEGIN P(t, t); z := t END M.";
 
-/// Texts of one line, each with a change: the index of its first character, the index after its
-/// last one, and the new text.
-static CHANGES: &[(&str, u64, u64, &str)] = changes![
+/// Texts of one line, each with a change: the index of the first replaced character, the index
+/// after the last one, and the new text.
+static TEXTS_WITH_CHANGES: &[(&str, u64, u64, &str)] = changes![
     // A number on which types depend.
     "MODULE M; CONST n = 2; VAR a: ARRAY n OF INTEGER; BEGIN a[n - 1] := 1; a[2] := n END M.", 20, 21, "20";
     // A number before an undeclared name, and before a name that is declared twice.
@@ -139,9 +139,9 @@ static CHANGES: &[(&str, u64, u64, &str)] = changes![
     ONE_PROCEDURE, 59, 60, "Q";
     ONE_PROCEDURE, 53, 60, "q END Q";
     // A parameter, a field at its declaration and at a selection, and a type.
-    RECORDS, 70, 71, "a";
-    RECORDS, 29, 30, "f";
-    RECORDS, 100, 101, "h";
+    RECORD_PARAMETERS, 70, 71, "a";
+    RECORD_PARAMETERS, 29, 30, "f";
+    RECORD_PARAMETERS, 100, 101, "h";
 ];
 
 /// Returns the faults of the text `new`, from an analysis that reuses the analysis of the text
@@ -159,7 +159,7 @@ fn faults_from_scratch(alloc: Global, text: &str) -> Result<String, AllocError> 
 
 /// Returns whether an analysis of the text `new` that reuses the analysis of the text `old` finds
 /// the same faults as an analysis from scratch.
-fn has_faults_from_scratch(alloc: Global, old: &str, new: &str) -> Result<bool, AllocError> {
+fn reanalysis_agrees_with_scratch(alloc: Global, old: &str, new: &str) -> Result<bool, AllocError> {
     let found = faults_after_change(alloc, old, new)?;
     let wanted = faults_from_scratch(alloc, new)?;
     Ok(found.as_str() == wanted.as_str())
@@ -167,7 +167,7 @@ fn has_faults_from_scratch(alloc: Global, old: &str, new: &str) -> Result<bool, 
 
 /// Makes the row's change in the row's text, and then undoes the change. Returns whether reanalysis
 /// finds the same faults as an analysis from scratch each time.
-fn changes_have_faults_from_scratch(
+fn change_and_undo_agree_with_scratch(
     alloc: Global,
     row: &(&str, u64, u64, &str),
 ) -> Result<bool, AllocError> {
@@ -176,17 +176,17 @@ fn changes_have_faults_from_scratch(
     let (start, end) = (at(0, start), at(0, end));
     store.replace(Range { start, end }, new)?;
     Ok(
-        has_faults_from_scratch(alloc, text, store.as_str())?
-            && has_faults_from_scratch(alloc, store.as_str(), text)?,
+        reanalysis_agrees_with_scratch(alloc, text, store.as_str())?
+            && reanalysis_agrees_with_scratch(alloc, store.as_str(), text)?,
     )
 }
 
 /// Returns the index, from 0, of the first change after which reanalysis finds other faults than an
 /// analysis from scratch, or after which an allocation fails. Returns None if there is no such
 /// change.
-fn first_wrong_change(alloc: Global, changes: &[(&str, u64, u64, &str)]) -> Option<usize> {
+fn first_failing_change(alloc: Global, changes: &[(&str, u64, u64, &str)]) -> Option<usize> {
     for i in 0..changes.len() {
-        if changes_have_faults_from_scratch(alloc, &changes[i]) != Ok(true) {
+        if change_and_undo_agree_with_scratch(alloc, &changes[i]) != Ok(true) {
             return Some(i);
         }
     }
@@ -195,6 +195,6 @@ fn first_wrong_change(alloc: Global, changes: &[(&str, u64, u64, &str)]) -> Opti
 
 #[test]
 fn reanalysis_finds_faults_as_from_scratch(rt: HostRuntime) {
-    let number = first_wrong_change(rt.alloc(), CHANGES);
+    let number = first_failing_change(rt.alloc(), TEXTS_WITH_CHANGES);
     assert!(rt; number.is_none(), "change {number:?}");
 }

@@ -1,12 +1,11 @@
-//! Tests the forms in which the parser represents expressions: an expression that is a single
-//! factor is an `Expression::Factor`, any other is a `CompoundExpression`. No contract
-//! distinguishes these forms. Also tests the sizes of nodes and of the entries for the bindings of
-//! tokens.
+//! Tests how the parser represents expressions: one that is a single factor is an
+//! `Expression::Factor`, any other is a `CompoundExpression`. No contract distinguishes the two.
+//! Also tests the sizes of nodes, and of an entry in a table of ordinals.
 
 use ob0_parse::parse;
 use ob0_scan::{Tokens, scan};
 use ob0_scope_table::OrdinalEntry;
-use ob0_tree::{Expression, Fields, Module, Statement};
+use ob0_tree::{Expression, Module, OptionalFieldGroup, Statement};
 use std::alloc::Global;
 use std::mem::size_of;
 use std::process::Abort;
@@ -15,14 +14,14 @@ const _: () = prove!(size_of::<Expression>() == 48);
 
 const _: () = prove!(size_of::<Statement>() == 48);
 
-const _: () = prove!(size_of::<Fields>() == 16);
+const _: () = prove!(size_of::<OptionalFieldGroup>() == 16);
 
 const _: () = prove!(size_of::<OrdinalEntry>() == 4);
 
-const ONE_FACTOR: &str =
+const SINGLE_FACTOR_ASSIGNMENTS: &str =
     "MODULE M; VAR x: INTEGER; BEGIN x := x; x := 1; x := (x); x := a[i].b; x := ~b; x := (x + 1); x := f.g[1] END M.";
 
-const OPERATIONS: &str =
+const OPERATION_ASSIGNMENTS: &str =
     "MODULE M; VAR x: INTEGER; BEGIN x := -x; x := +1; x := (x) * 2; x := a[i].b + 1; x := ~b & c; x := x = 1; x := (x) # y; x := a.b < 3; x := -(x) END M.";
 
 /// Returns whether a statement assigns an `Expression::Factor`. Returns None if the statement isn't
@@ -77,6 +76,6 @@ fn text_has_assignments(alloc: Global, text: &str, count: usize, factor: bool) -
 
 #[test]
 fn single_factors_are_not_compound(rt: HostRuntime) {
-    assert!(rt; text_has_assignments(rt.alloc(), ONE_FACTOR, 7, true));
-    assert!(rt; text_has_assignments(rt.alloc(), OPERATIONS, 9, false));
+    assert!(rt; text_has_assignments(rt.alloc(), SINGLE_FACTOR_ASSIGNMENTS, 7, true));
+    assert!(rt; text_has_assignments(rt.alloc(), OPERATION_ASSIGNMENTS, 9, false));
 }

@@ -1,5 +1,5 @@
-//! Tests everything that needs a module: syntax and faults, names, runs, edits that keep the runs,
-//! and formatting. The tests are examples with known answers.
+//! Tests everything that needs a module: syntax and faults, names and types, runs and lowered code,
+//! renaming, inlining and formatting. The tests are examples with known answers.
 #![tactic(auto)]
 
 #[cfg(test)]

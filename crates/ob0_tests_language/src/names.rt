@@ -1,8 +1,9 @@
-//! Tests the answers about the names of example modules, and their hover texts.
+//! Tests what is found for names in example modules: referents, uses and hover texts.
 
-use crate::asking::TestQuestion::{NameAt, Shown};
+use crate::asking::TestQuestion::{AllHovers, NameAt};
 use crate::asking::{
-    FIELDS, QuestionCase, RECURSIVE, Walk, first_wrong, push_number, push_span, rows,
+    CheckMode, FIELDS_OF_TWO_RECORDS, QuestionCase, RECURSIVE_PROCEDURE, first_failing_row,
+    push_number, push_span, rows,
 };
 use ob0_refs::{At, Hover, Of, at, definition, hover, references};
 use ob0_scan::Span;
@@ -13,7 +14,7 @@ use std::process::Abort;
 /// Appends a description of the name at a byte offset: the declaration or field that the name
 /// refers to, the byte ranges of the declaration and of the uses, and the hover text. Appends
 /// nothing if there is no name at the offset.
-pub fn push_name(
+pub fn push_name_description(
     alloc: Global,
     out: &mut String,
     module: &WellTyped<'_>,
@@ -30,8 +31,8 @@ pub fn push_name(
     push_hover_at(alloc, out, module, offset, span)
 }
 
-/// Appends the thing that a name refers to: a declaration's ordinal, `predeclared`, or a field's
-/// record and index.
+/// Appends what a name refers to: a declaration's ordinal, `predeclared`, or a field's record
+/// (the record type's ordinal) and index.
 fn push_referent(out: &mut String, of: Of) -> Result<(), AllocError> {
     match of {
         Of::Declared(ordinal) => push_number(out, "", ordinal),
@@ -60,9 +61,8 @@ fn push_spans(out: &mut String, spans: &[Span]) -> Result<(), AllocError> {
     Ok(())
 }
 
-/// Appends the hover text at a byte offset, and the byte range for which it is shown. Appends a
-/// remark if this range isn't `name`, the range of the name. Appends nothing if there is no hover
-/// text.
+/// Appends the hover at a byte offset as `push_hover` does. `name` is the range of the name there.
+/// Appends nothing if there is no hover.
 fn push_hover_at(
     alloc: Global,
     out: &mut String,
@@ -76,8 +76,8 @@ fn push_hover_at(
     }
 }
 
-/// Appends a hover text, and the byte range for which it is shown. Appends a remark if this range
-/// isn't `name`, the range of the name.
+/// Appends the byte range for which a hover is shown, and then its text. If this range isn't
+/// `name`, the range of the name, a remark comes first.
 fn push_hover(out: &mut String, shown: &Hover, name: Span) -> Result<(), AllocError> {
     if shown.span != name {
         out.push_str(", not at the name")?;
@@ -87,30 +87,30 @@ fn push_hover(out: &mut String, shown: &Hover, name: Span) -> Result<(), AllocEr
     out.push_str(shown.text.as_str())
 }
 
-static ROWS: &[QuestionCase] = rows![
-    RECURSIVE, NameAt(20) => "7 from 20-21, at 65-66 82-83 91-92, shown at 20-21: PROCEDURE F(n: INTEGER)";
-    RECURSIVE, NameAt(21) => "7 from 20-21, at 65-66 82-83 91-92, shown at 20-21: PROCEDURE F(n: INTEGER)";
-    RECURSIVE, NameAt(82) => "7 from 20-21, at 65-66 82-83 91-92, shown at 82-83: PROCEDURE F(n: INTEGER)";
-    RECURSIVE, NameAt(83) => "7 from 20-21, at 65-66 82-83 91-92, shown at 82-83: PROCEDURE F(n: INTEGER)";
-    RECURSIVE, NameAt(60) => "predeclared, at 55-60, shown at 55-60: predeclared Write";
-    RECURSIVE, NameAt(0) => "";
-    RECURSIVE, NameAt(7) => "";
-    RECURSIVE, NameAt(34) => "";
-    RECURSIVE, NameAt(104) => "";
-    FIELDS, NameAt(26) => "0.0 from 26-27, at 101-102 126-127, shown at 26-27: FIELD a: INTEGER";
-    FIELDS, NameAt(101) => "0.0 from 26-27, at 101-102 126-127, shown at 101-102: FIELD a: INTEGER";
-    FIELDS, NameAt(29) => "0.1 from 29-30, at, shown at 29-30: FIELD b: INTEGER";
-    FIELDS, NameAt(81) => "10 from 81-82, at 119-120 141-142, shown at 81-82: VAR a: INTEGER";
-    FIELDS, NameAt(99) => "8 from 49-50, at 99-100 124-125, shown at 99-100: VAR r: RECORD with 2 fields";
+static NAME_CASES: &[QuestionCase] = rows![
+    RECURSIVE_PROCEDURE, NameAt(20) => "7 from 20-21, at 65-66 82-83 91-92, shown at 20-21: PROCEDURE F(n: INTEGER)";
+    RECURSIVE_PROCEDURE, NameAt(21) => "7 from 20-21, at 65-66 82-83 91-92, shown at 20-21: PROCEDURE F(n: INTEGER)";
+    RECURSIVE_PROCEDURE, NameAt(82) => "7 from 20-21, at 65-66 82-83 91-92, shown at 82-83: PROCEDURE F(n: INTEGER)";
+    RECURSIVE_PROCEDURE, NameAt(83) => "7 from 20-21, at 65-66 82-83 91-92, shown at 82-83: PROCEDURE F(n: INTEGER)";
+    RECURSIVE_PROCEDURE, NameAt(60) => "predeclared, at 55-60, shown at 55-60: predeclared Write";
+    RECURSIVE_PROCEDURE, NameAt(0) => "";
+    RECURSIVE_PROCEDURE, NameAt(7) => "";
+    RECURSIVE_PROCEDURE, NameAt(34) => "";
+    RECURSIVE_PROCEDURE, NameAt(104) => "";
+    FIELDS_OF_TWO_RECORDS, NameAt(26) => "0.0 from 26-27, at 101-102 126-127, shown at 26-27: FIELD a: INTEGER";
+    FIELDS_OF_TWO_RECORDS, NameAt(101) => "0.0 from 26-27, at 101-102 126-127, shown at 101-102: FIELD a: INTEGER";
+    FIELDS_OF_TWO_RECORDS, NameAt(29) => "0.1 from 29-30, at, shown at 29-30: FIELD b: INTEGER";
+    FIELDS_OF_TWO_RECORDS, NameAt(81) => "10 from 81-82, at 119-120 141-142, shown at 81-82: VAR a: INTEGER";
+    FIELDS_OF_TWO_RECORDS, NameAt(99) => "8 from 49-50, at 99-100 124-125, shown at 99-100: VAR r: RECORD with 2 fields";
 ];
 
 #[test]
 fn names_and_fields_are_found(rt: HostRuntime) {
-    let (text, wanted) = first_wrong(rt.alloc(), ROWS, Walk::Asking);
+    let (text, wanted) = first_failing_row(rt.alloc(), NAME_CASES, CheckMode::Asking);
     assert!(rt; text.is_empty(), "{wanted} in {text}");
 }
 
-/// Appends the hover text of each identifier that has a hover text, followed by a bar.
+/// Appends the hover text of each name that has one, in text order, each followed by a bar.
 pub fn push_all_hovers(
     alloc: Global,
     out: &mut String,
@@ -119,15 +119,16 @@ pub fn push_all_hovers(
     let mut end = 0;
     for token in module.resolved().tokens().tokens() {
         let span = token.span;
-        if span.start != end && push_if_shown(alloc, out, module, span)? {
+        if span.start != end && push_hover_if_any(alloc, out, module, span)? {
             end = span.end;
         }
     }
     Ok(())
 }
 
-/// Appends the hover text of the name at `span`, and returns whether there is such a text.
-fn push_if_shown(
+/// Appends the hover text at the start of `span` and a bar. Returns whether there is such a text;
+/// if not, appends nothing.
+fn push_hover_if_any(
     alloc: Global,
     out: &mut String,
     module: &WellTyped<'_>,
@@ -143,12 +144,12 @@ fn push_if_shown(
     }
 }
 
-const KINDS: &str =
+const NAMES_OF_EACH_KIND: &str =
     "MODULE M; CONST c = -3; on = TRUE; TYPE R = RECORD x, y: BOOLEAN END; A = ARRAY 2 OF R; \
     VAR a: ARRAY 3 OF A; r: R; PROCEDURE P(a, b: A; VAR c: BOOLEAN); VAR r: INTEGER; BEGIN r := 1; \
     c := a[0].x END P; PROCEDURE Q; BEGIN r.x := on; P(a[0], a[c + 3], r.x) END Q; BEGIN Q END M.";
 
-const KINDS_SHOWN: &str =
+const HOVERS_OF_EACH_KIND: &str =
     "CONST c = -3 | CONST on = TRUE | predeclared TRUE | TYPE R = RECORD with 2 fields | FIELD x: BOOLEAN | \
     FIELD y: BOOLEAN | predeclared BOOLEAN | TYPE A = ARRAY 2 OF RECORD with 2 fields | \
     TYPE R = RECORD with 2 fields | VAR a: ARRAY 3 OF ARRAY 2 OF RECORD with 2 fields | \
@@ -166,12 +167,12 @@ const KINDS_SHOWN: &str =
 
 // A module with records within arrays, within records and in parameters, and with a type whose name
 // is declared again in a procedure.
-const PARTS: &str =
+const NESTED_RECORDS: &str =
     "MODULE M; TYPE A = ARRAY 2 OF RECORD x: BOOLEAN END; PROCEDURE P(VAR p, q: RECORD x: A; \
     y, z: RECORD x: INTEGER END END); TYPE A = INTEGER; VAR v: RECORD x: A END; BEGIN p.y.x := v.x END P; \
     END M.";
 
-const PARTS_SHOWN: &str =
+const HOVERS_OF_NESTED_RECORDS: &str =
     "TYPE A = ARRAY 2 OF RECORD with 1 fields | FIELD x: BOOLEAN | predeclared BOOLEAN | \
     PROCEDURE P(VAR p: RECORD with 3 fields; VAR q: RECORD with 3 fields) | VAR p: RECORD with 3 fields | \
     VAR q: RECORD with 3 fields | FIELD x: ARRAY 2 OF RECORD with 1 fields | \
@@ -181,24 +182,28 @@ const PARTS_SHOWN: &str =
     FIELD x: INTEGER | VAR v: RECORD with 1 fields | FIELD x: INTEGER | \
     PROCEDURE P(VAR p: RECORD with 3 fields; VAR q: RECORD with 3 fields) | ";
 
-static SHOWN: &[QuestionCase] = rows![
-    KINDS, Shown => KINDS_SHOWN;
-    PARTS, Shown => PARTS_SHOWN;
+static HOVER_CASES: &[QuestionCase] = rows![
+    NAMES_OF_EACH_KIND, AllHovers => HOVERS_OF_EACH_KIND;
+    NESTED_RECORDS, AllHovers => HOVERS_OF_NESTED_RECORDS;
 ];
 
-fn shown_rows() -> &'static [QuestionCase] {
-    SHOWN
+fn hover_cases() -> &'static [QuestionCase] {
+    HOVER_CASES
 }
 
 #[test]
-fn each_kind_of_name_is_shown(rt: HostRuntime) {
-    let (text, _) = first_wrong(rt.alloc(), shown_rows(), Walk::Asking);
+fn each_kind_of_name_has_its_hover_text(rt: HostRuntime) {
+    let (text, _) = first_failing_row(rt.alloc(), hover_cases(), CheckMode::Asking);
     assert!(rt; text.is_empty(), "{text}");
 }
 
 // `make faults` runs this test once for each allocation, and lets that allocation fail.
 #[test]
 fn a_refused_allocation_changes_no_answer(rt: HostRuntime) {
-    let (text, _) = first_wrong(rt.alloc(), shown_rows(), Walk::Refused);
+    let (text, _) = first_failing_row(
+        rt.alloc(),
+        hover_cases(),
+        CheckMode::AllowingFailedAllocation,
+    );
     assert!(rt; text.is_empty(), "{text}");
 }

@@ -1,7 +1,10 @@
 //! Tests the output of example modules, and how their runs end.
 
 use crate::asking::TestQuestion::Run;
-use crate::asking::{BLOCKS, COUNTING, QuestionCase, RECURSIVE, Walk, first_wrong, rows};
+use crate::asking::{
+    CheckMode, NESTED_PROCEDURES, QuestionCase, RECURSIVE_PROCEDURE, REPEAT_COUNTDOWN,
+    first_failing_row, rows,
+};
 use ob0_run::{End, Item, run};
 use ob0_types::WellTyped;
 use std::alloc::{AllocError, Global};
@@ -22,20 +25,20 @@ pub fn push_run(
 
 fn push_outcome(out: &mut String, output: &[Item], end: End) -> Result<(), AllocError> {
     for item in output {
-        push_item(out, *item)?;
+        push_output_item(out, *item)?;
     }
     out.push_str("; ")?;
-    out.push_str(name_of(end))
+    out.push_str(name_of_end(end))
 }
 
-fn push_item(out: &mut String, item: Item) -> Result<(), AllocError> {
+fn push_output_item(out: &mut String, item: Item) -> Result<(), AllocError> {
     match item {
         Item::Number(number) => write!(out, " {number}"),
         Item::Line => out.push('/'),
     }
 }
 
-fn name_of(end: End) -> &'static str {
+fn name_of_end(end: End) -> &'static str {
     match end {
         End::Done => "Done",
         End::Overflow => "Overflow",
@@ -47,36 +50,36 @@ fn name_of(end: End) -> &'static str {
     }
 }
 
-const WHILE: &str = "MODULE M;\nVAR n: INTEGER;\nPROCEDURE P; BEGIN Write(n) END P;\n\
+const WHILE_COUNTDOWN: &str = "MODULE M;\nVAR n: INTEGER;\nPROCEDURE P; BEGIN Write(n) END P;\n\
     BEGIN Read(n); WHILE n > 0 DO n := n - 1; WriteLn END; P END M.";
 
-const ALIASES: &str = "MODULE M;\nVAR a: ARRAY 2 OF INTEGER; i: INTEGER;\n\
+const ALIASED_PARAMETERS: &str = "MODULE M;\nVAR a: ARRAY 2 OF INTEGER; i: INTEGER;\n\
     PROCEDURE S(VAR p: INTEGER; q: INTEGER; VAR r: INTEGER);\n\
     BEGIN i := 1; p := q + 1; r := p * 10; Write(q) END S;\n\
     BEGIN i := 0; S(a[i], a[i], a[i]); Write(a[0]); Write(a[1]); S(i, i, i); Write(i); a[i] := 0 END M.";
 
-const ACTIVATIONS: &str =
+const RECURSIVE_ACTIVATIONS: &str =
     "MODULE M;\nPROCEDURE P(n: INTEGER);\nVAR k: INTEGER;\nPROCEDURE Q; BEGIN k := k + n END Q;\n\
     BEGIN IF n > 0 THEN P(n - 1) END; Q; Q; Write(k) END P;\nBEGIN P(2) END M.";
 
-const RECORDS: &str =
+const RECORD_COPIES: &str =
     "MODULE M;\nTYPE P = RECORD x, y: INTEGER; on: BOOLEAN END;\nVAR p, q: P; ps: ARRAY 2 OF P;\n\
     PROCEDURE Set(VAR r: P; s: P); BEGIN r.x := 5; Write(s.x); s.x := 9 END Set;\n\
     BEGIN p.x := 1; q := p; q.x := 2; Set(p, p); Write(p.x); Write(q.x); ps[1] := p; Write(ps[1].x + ps[0].y); \
     IF ~ps[0].on THEN WriteLn END END M.";
 
-const ELEMENTS: &str = "MODULE M;\nVAR a: ARRAY 2 OF INTEGER; i: INTEGER;\n\
+const ELEMENT_ARITHMETIC: &str = "MODULE M;\nVAR a: ARRAY 2 OF INTEGER; i: INTEGER;\n\
     BEGIN a[0] := 3; a[1] := -a[0] * a[0]; i := 1; Write(a[i] - 1); i := a[0]; a[i - 1] := 1 DIV 0 END M.";
 
-const TRUTHS: &str = "MODULE M;\nVAR b: ARRAY 2 OF BOOLEAN; p: BOOLEAN;\n\
+const BOOLEAN_OPERATORS: &str = "MODULE M;\nVAR b: ARRAY 2 OF BOOLEAN; p: BOOLEAN;\n\
     BEGIN b[1] := TRUE; p := b[1] = ~b[0]; IF p & (b[0] # TRUE) THEN Write(1) END;\n\
     IF p OR (1 DIV 0 = 1) THEN Write(2) END; IF b[0] & (1 DIV 0 = 1) OR (1 DIV 0 = 1) THEN Write(3) END END M.";
 
-const ROWS_OF_ARRAYS: &str = "MODULE M;\nVAR m: ARRAY 2 OF ARRAY 3 OF INTEGER; i: INTEGER;\n\
+const ARRAY_OF_ARRAYS: &str = "MODULE M;\nVAR m: ARRAY 2 OF ARRAY 3 OF INTEGER; i: INTEGER;\n\
     BEGIN i := 2; m[1][i] := 4; m[0] := m[1]; m[1][i] := 5; Write(m[0][i]); Write(m[1][2]); \
     Write(m[1][i + 1]) END M.";
 
-const LARGE_ARGUMENT: &str = "MODULE M;\nTYPE A = ARRAY 65536 OF INTEGER;\nVAR a: A;\n\
+const LARGE_ARRAY_ARGUMENT: &str = "MODULE M;\nTYPE A = ARRAY 65536 OF INTEGER;\nVAR a: A;\n\
     PROCEDURE P(b: A); BEGIN b[65535] := 5; Write(b[65535]); Write(b[0]) END P;\n\
     BEGIN a[0] := 3; a[65535] := 4; P(a); Write(a[65535]) END M.";
 
@@ -85,21 +88,21 @@ const THIRTY_FIELDS: &str = "MODULE M;\n\
     dd: INTEGER END;\n\
     BEGIN r.a := 1; r.cc := 29; r.dd := 30; Write(r.a + r.dd); Write(r.cc); Write(r.bb) END M.";
 
-const TWELVE_REFERENCES: &str =
+const TWELVE_VAR_PARAMETERS: &str =
     "MODULE M;\nVAR x: ARRAY 12 OF INTEGER;\nPROCEDURE P(VAR a, b, c, d, e, f, g, h, i, j, k, l: INTEGER);\n\
     BEGIN a := 1; l := a + 11; f := l END P;\n\
     BEGIN P(x[0], x[1], x[2], x[3], x[4], x[5], x[6], x[7], x[8], x[9], x[10], x[11]);\n\
     Write(x[0]); Write(x[11]); Write(x[5]); Write(x[4]) END M.";
 
-const HUNDRED_DEEP: &str =
+const HUNDRED_OPEN_CALLS: &str =
     "MODULE M;\nVAR k: INTEGER;\nPROCEDURE D(n: INTEGER); BEGIN k := k + 1; IF n > 1 THEN D(n - 1) END END D;\n\
     BEGIN D(100); Write(k) END M.";
 
-const THOUSAND_DEEP: &str =
+const THOUSAND_OPEN_CALLS: &str =
     "MODULE M;\nVAR k: INTEGER;\nPROCEDURE D(n: INTEGER); BEGIN k := k + 1; IF n > 1 THEN D(n - 1) END END D;\n\
     BEGIN D(1000); Write(k) END M.";
 
-const FIELDS: &str =
+const FIELDS_OF_NESTED_RECORDS: &str =
     "MODULE M;\nTYPE P = RECORD x, y: INTEGER END; R = RECORD n: INTEGER; p: P; ps: ARRAY 3 OF P END;\n\
     VAR r: R; rs: ARRAY 2 OF R; i, j: INTEGER;\nPROCEDURE Set(n: INTEGER; VAR r: R);\n\
     PROCEDURE Inner; BEGIN r.p.y := r.n + 1; r.ps[2].y := r.p.y * 2 END Inner;\n\
@@ -108,7 +111,7 @@ const FIELDS: &str =
     Set(7, rs[1]); Write(rs[i].ps[j].y); Write(rs[1].p.y); Write(rs[i].ps[1].x); rs[0].ps[i] := r.ps[2]; \
     Write(rs[0].ps[1].y + rs[0].ps[1].x); Write(r.ps[3].x) END M.";
 
-static ROWS: &[QuestionCase] = rows![
+static RUN_CASES: &[QuestionCase] = rows![
     "MODULE M; BEGIN Write(-7 DIV 3); Write((-7) DIV 3); Write((-7) MOD 3); Write(1 MOD 0) END M.",
         Run(&[], 64, 100_000) =>
         " -2 -3 2; Divisor";
@@ -118,57 +121,61 @@ static ROWS: &[QuestionCase] = rows![
     "MODULE M; BEGIN Write(-(-2147483647 - 1)) END M.", Run(&[], 0, 0) => "; Overflow";
     "MODULE M;\nVAR x: INTEGER;\nPROCEDURE P;\nVAR y: INTEGER;\nBEGIN y := 1; x := y END P;\n\
         BEGIN P; Write(x) END M.", Run(&[], 1, 0) => " 1; Done";
-    BLOCKS, Run(&[], 64, 0) => " 2 7; Done";
-    BLOCKS, Run(&[], 1, 0) => "; CallBound";
-    RECURSIVE, Run(&[], 3, 0) => " 2 1; Done";
-    RECURSIVE, Run(&[], 2, 0) => " 2 1; CallBound";
+    NESTED_PROCEDURES, Run(&[], 64, 0) => " 2 7; Done";
+    NESTED_PROCEDURES, Run(&[], 1, 0) => "; CallBound";
+    RECURSIVE_PROCEDURE, Run(&[], 3, 0) => " 2 1; Done";
+    RECURSIVE_PROCEDURE, Run(&[], 2, 0) => " 2 1; CallBound";
     "MODULE M; PROCEDURE P; BEGIN Write(1) END P; BEGIN P; P; P END M.", Run(&[], 1, 0) => " 1 1 1; Done";
     "MODULE M;\nCONST c = -2147483647 - 1;\nVAR x: INTEGER;\nBEGIN x := 0 + c; Write(x) END M.",
         Run(&[], 0, 0) =>
         " -2147483648; Done";
     "MODULE M; CONST n = 3; m = n * 2; TYPE T = ARRAY m OF INTEGER; VAR a: T; BEGIN a[m - 1] := n; \
         Write(a[5]); IF TRUE & (m = 6) THEN Write(m) END END M.", Run(&[], 0, 0) => " 3 6; Done";
-    WHILE, Run(&[], 64, 100_000) => "; InputEnd";
-    WHILE, Run(&[7], 0, 3) => "///; TurnBound";
-    WHILE, Run(&[2], 0, 3) => "//; CallBound";
-    WHILE, Run(&[2], 1, 3) => "// 0; Done";
-    COUNTING, Run(&[0], 0, 0) => " 0; Done";
-    COUNTING, Run(&[2], 0, 0) => " 2; TurnBound";
-    COUNTING, Run(&[2], 0, 1) => " 2; TurnBound";
-    COUNTING, Run(&[2], 0, 2) => " 2 1; Done";
-    ALIASES, Run(&[], 1, 0) => " 0 10 0 1 20; Index";
-    ALIASES, Run(&[], 0, 0) => "; CallBound";
-    ACTIVATIONS, Run(&[], 4, 0) => " 0 2 4; Done";
-    ACTIVATIONS, Run(&[], 3, 0) => "; CallBound";
-    RECORDS, Run(&[], 1, 0) => " 1 5 2 5/; Done";
-    ELEMENTS, Run(&[], 0, 0) => " -10; Index";
-    TRUTHS, Run(&[], 0, 0) => " 1 2; Divisor";
-    ROWS_OF_ARRAYS, Run(&[], 0, 0) => " 4 5; Index";
-    FIELDS, Run(&[], 64, 0) => " 10 6 9 12 16 8 11 12; Index";
-    LARGE_ARGUMENT, Run(&[], 64, 0) => " 5 3 4; Done";
+    WHILE_COUNTDOWN, Run(&[], 64, 100_000) => "; InputEnd";
+    WHILE_COUNTDOWN, Run(&[7], 0, 3) => "///; TurnBound";
+    WHILE_COUNTDOWN, Run(&[2], 0, 3) => "//; CallBound";
+    WHILE_COUNTDOWN, Run(&[2], 1, 3) => "// 0; Done";
+    REPEAT_COUNTDOWN, Run(&[0], 0, 0) => " 0; Done";
+    REPEAT_COUNTDOWN, Run(&[2], 0, 0) => " 2; TurnBound";
+    REPEAT_COUNTDOWN, Run(&[2], 0, 1) => " 2; TurnBound";
+    REPEAT_COUNTDOWN, Run(&[2], 0, 2) => " 2 1; Done";
+    ALIASED_PARAMETERS, Run(&[], 1, 0) => " 0 10 0 1 20; Index";
+    ALIASED_PARAMETERS, Run(&[], 0, 0) => "; CallBound";
+    RECURSIVE_ACTIVATIONS, Run(&[], 4, 0) => " 0 2 4; Done";
+    RECURSIVE_ACTIVATIONS, Run(&[], 3, 0) => "; CallBound";
+    RECORD_COPIES, Run(&[], 1, 0) => " 1 5 2 5/; Done";
+    ELEMENT_ARITHMETIC, Run(&[], 0, 0) => " -10; Index";
+    BOOLEAN_OPERATORS, Run(&[], 0, 0) => " 1 2; Divisor";
+    ARRAY_OF_ARRAYS, Run(&[], 0, 0) => " 4 5; Index";
+    FIELDS_OF_NESTED_RECORDS, Run(&[], 64, 0) => " 10 6 9 12 16 8 11 12; Index";
+    LARGE_ARRAY_ARGUMENT, Run(&[], 64, 0) => " 5 3 4; Done";
     THIRTY_FIELDS, Run(&[], 0, 0) => " 31 29 0; Done";
-    TWELVE_REFERENCES, Run(&[], 1, 0) => " 1 12 12 0; Done";
-    HUNDRED_DEEP, Run(&[], 100, 0) => " 100; Done";
-    HUNDRED_DEEP, Run(&[], 99, 0) => "; CallBound";
-    THOUSAND_DEEP, Run(&[], 1000, 0) => " 1000; Done";
-    THOUSAND_DEEP, Run(&[], u32::MAX, 0) => " 1000; Done";
+    TWELVE_VAR_PARAMETERS, Run(&[], 1, 0) => " 1 12 12 0; Done";
+    HUNDRED_OPEN_CALLS, Run(&[], 100, 0) => " 100; Done";
+    HUNDRED_OPEN_CALLS, Run(&[], 99, 0) => "; CallBound";
+    THOUSAND_OPEN_CALLS, Run(&[], 1000, 0) => " 1000; Done";
+    THOUSAND_OPEN_CALLS, Run(&[], u32::MAX, 0) => " 1000; Done";
     "MODULE M; VAR a: ARRAY 1 OF INTEGER; BEGIN a[0] := 1 DIV 0 END M.", Run(&[], 0, 0) => "; Divisor";
     "MODULE M; VAR a: ARRAY 1 OF INTEGER; BEGIN a[0 - 1] := 1 END M.", Run(&[], 0, 0) => "; Index";
 ];
 
-fn run_rows() -> &'static [QuestionCase] {
-    ROWS
+fn run_cases() -> &'static [QuestionCase] {
+    RUN_CASES
 }
 
 #[test]
 fn modules_run_as_expected(rt: HostRuntime) {
-    let (text, wanted) = first_wrong(rt.alloc(), run_rows(), Walk::Asking);
+    let (text, wanted) = first_failing_row(rt.alloc(), run_cases(), CheckMode::Asking);
     assert!(rt; text.is_empty(), "{wanted} of {text}");
 }
 
 // `make faults` runs this test once for each allocation, and lets that allocation fail.
 #[test]
 fn a_refused_allocation_changes_no_run(rt: HostRuntime) {
-    let (text, wanted) = first_wrong(rt.alloc(), run_rows(), Walk::Refused);
+    let (text, wanted) = first_failing_row(
+        rt.alloc(),
+        run_cases(),
+        CheckMode::AllowingFailedAllocation,
+    );
     assert!(rt; text.is_empty(), "{wanted} of {text}");
 }

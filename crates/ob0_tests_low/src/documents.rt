@@ -1,10 +1,10 @@
-//! Tests the state of documents while they are opened, changed, lost (their text becomes unknown)
-//! and closed, in both text stores. Also tests documents and a text after an allocation failed.
+//! Tests the state of documents that are opened, changed, lost (their text becomes unknown) and
+//! closed, with both text stores. Also tests documents and a text after an allocation has failed.
 
-use crate::cases::{Case, first_wrong};
-use crate::documents::Act::{Close, Lose, Note, Open};
+use crate::cases::{Case, first_failing_row};
+use crate::documents::DocumentAction::{Close, Lose, Note, Open};
 use crate::documents::ExpectedState::{Closed, InStep, OutOfStep};
-use crate::text::{ASSIGNED, range_of};
+use crate::text::{ASSIGNMENT_AFTER_EMOJI, range_of};
 use ob0_text::{Change, Documents, Held, Lines, ReplacedBytes, TextStore, Unit, Whole};
 use std::alloc::{AllocError, Global};
 use std::process::Abort;
@@ -13,14 +13,14 @@ use std::process::Abort;
 type ChangeRow = ((u64, u64), (u64, u64), &'static str);
 
 /// An action on a document.
-enum Act {
+enum DocumentAction {
     Open(i64, &'static str),
-    /// A notification with a version and changes, and the bytes that it is expected to replace:
-    /// their offset, the number of removed bytes and the number of added bytes. None if the text
-    /// isn't known.
+    /// A change notification: its version, its changes, and the bytes that it is expected to
+    /// replace. These are given by their offset, the number of removed bytes and the number of
+    /// added bytes, or None if the text isn't known.
     Note(i64, &'static [ChangeRow], Option<(usize, usize, usize)>),
     Lose,
-    /// The Bool says whether the document was open before it is closed.
+    /// The document is closed. The Bool says whether it was open before.
     Close(bool),
 }
 
@@ -32,27 +32,27 @@ enum ExpectedState {
     Closed,
 }
 
-const OPENED: &str = "a\rb";
+const OPENED_TEXT: &str = "a\rb";
 
-/// Three changes of `OPENED` in one notification; `TEXT_AFTER_THREE_CHANGES` is the result.
+/// Three changes of `OPENED_TEXT` in one notification; `TEXT_AFTER_THREE_CHANGES` is the result.
 const THREE_CHANGES: &[ChangeRow] =
     rows![((1, 0), (1, 0), "\n"); ((1, 1), (1, 1), "\nc"); ((2, 0), (2, 1), "d");];
 
 const TEXT_AFTER_THREE_CHANGES: &str = "a\r\nb\nd";
 
-const TWO_CHANGES: &[ChangeRow] = &[((0, 9), (0, 10), "yz"), ((0, 4), (0, 4), "!")];
+const TWO_CHANGES_NEAR_EMOJI: &[ChangeRow] = &[((0, 9), (0, 10), "yz"), ((0, 4), (0, 4), "!")];
 
 /// The unit of positions, and actions on a document, each with the expected state of the document
 /// after the action.
-struct DocumentCase(Unit, &'static [(Act, ExpectedState)]);
+struct DocumentCase(Unit, &'static [(DocumentAction, ExpectedState)]);
 
-static ROWS: &[DocumentCase] = rows![
+static DOCUMENT_CASES: &[DocumentCase] = rows![
     DocumentCase(Unit::Utf16, rows![
-        Open(1, ASSIGNED) => InStep(1, ASSIGNED);
-        Note(2, TWO_CHANGES, Some((3, 9, 11))) => InStep(2, "(* !😀 *) yz := 1;");
+        Open(1, ASSIGNMENT_AFTER_EMOJI) => InStep(1, ASSIGNMENT_AFTER_EMOJI);
+        Note(2, TWO_CHANGES_NEAR_EMOJI, Some((3, 9, 11))) => InStep(2, "(* !😀 *) yz := 1;");
     ]);
     DocumentCase(Unit::Utf16, rows![
-        Open(1, OPENED) => InStep(1, OPENED);
+        Open(1, OPENED_TEXT) => InStep(1, OPENED_TEXT);
         Note(2, THREE_CHANGES, Some((2, 1, 4))) => InStep(2, TEXT_AFTER_THREE_CHANGES);
     ]);
     DocumentCase(Unit::Utf8, rows![
@@ -96,7 +96,10 @@ fn has_state<T: TextStore>(documents: &Documents<T>, uri: &str, wanted: Expected
 }
 
 /// Returns whether the replaced bytes (`found`) are the expected ones (`wanted`).
-fn are_expected_bytes(found: Option<ReplacedBytes>, wanted: Option<(usize, usize, usize)>) -> bool {
+fn is_expected_replacement(
+    found: Option<ReplacedBytes>,
+    wanted: Option<(usize, usize, usize)>,
+) -> bool {
     match (found, wanted) {
         (Some(bytes), Some(wanted)) => (bytes.from, bytes.removed, bytes.added) == wanted,
         (None, None) => true,
@@ -105,10 +108,10 @@ fn are_expected_bytes(found: Option<ReplacedBytes>, wanted: Option<(usize, usize
 }
 
 /// Performs an action, and returns whether its result is the expected one.
-fn perform_act<T: TextStore>(
+fn perform_action<T: TextStore>(
     alloc: Global,
     documents: &mut Documents<T>,
-    act: &Act,
+    act: &DocumentAction,
 ) -> Result<bool, AllocError> {
     match act {
         Open(version, text) => {
@@ -117,7 +120,7 @@ fn perform_act<T: TextStore>(
         Note(version, rows, bytes) => {
             let changes = changes_of(alloc, rows)?;
             let found = documents.did_change("u", *version, changes.as_slice())?;
-            return Ok(are_expected_bytes(found, *bytes));
+            return Ok(is_expected_replacement(found, *bytes));
         }
         Lose => documents.lose("u"),
         Close(was_open) => return Ok(documents.did_close("u") == *was_open),
@@ -127,20 +130,21 @@ fn perform_act<T: TextStore>(
 
 /// Performs the actions one after another. Returns whether each action has its expected result and
 /// leaves the document in the expected state.
-fn perform_acts<T: TextStore>(
+fn perform_actions<T: TextStore>(
     alloc: Global,
     documents: &mut Documents<T>,
-    acts: &[(Act, ExpectedState)],
+    acts: &[(DocumentAction, ExpectedState)],
 ) -> Result<bool, AllocError> {
     for act in acts {
-        if !perform_act(alloc, documents, &act.0)? || !has_state(documents, "u", act.1) {
+        if !perform_action(alloc, documents, &act.0)? || !has_state(documents, "u", act.1) {
             return Ok(false);
         }
     }
     Ok(true)
 }
 
-/// Returns whether all actions of a row have their expected results, in the row's unit.
+/// Performs the actions of a row, with positions counted in the row's unit. Returns whether each
+/// has its expected result and leaves the document in the expected state.
 fn performs_as_expected<T: TextStore>(
     alloc: Global,
     row: &DocumentCase,
@@ -149,11 +153,11 @@ fn performs_as_expected<T: TextStore>(
     if row.0 == Unit::Utf8 {
         documents.set_unit(Unit::Utf8);
     }
-    Ok(perform_acts(alloc, &mut documents, row.1)? && documents.unit() == row.0)
+    Ok(perform_actions(alloc, &mut documents, row.1)? && documents.unit() == row.0)
 }
 
 impl Case for DocumentCase {
-    fn holds(&self, alloc: Global) -> Result<bool, AllocError> {
+    fn has_expected_outcome(&self, alloc: Global) -> Result<bool, AllocError> {
         Ok(
             performs_as_expected::<Whole>(alloc, self)?
                 && performs_as_expected::<Lines>(alloc, self)?,
@@ -163,24 +167,24 @@ impl Case for DocumentCase {
 
 #[test]
 fn documents_change_state_as_expected(rt: HostRuntime) {
-    let wrong = first_wrong(rt.alloc(), ROWS);
+    let wrong = first_failing_row(rt.alloc(), DOCUMENT_CASES);
     assert!(rt; wrong.is_none(), "row {wrong:?}");
 }
 
 /// Opens a document, and tries once more if an allocation fails. Returns whether the document is
 /// open in the end, and was still closed after a failure.
 fn open_with_retry(documents: &mut Documents<Lines>, uri: &str) -> bool {
-    if documents.did_open(uri, 1, OPENED).is_err() {
-        if documents.get(uri).is_some() || documents.did_open(uri, 1, OPENED).is_err() {
+    if documents.did_open(uri, 1, OPENED_TEXT).is_err() {
+        if documents.get(uri).is_some() || documents.did_open(uri, 1, OPENED_TEXT).is_err() {
             return false;
         }
     }
-    has_state(documents, uri, InStep(1, OPENED))
+    has_state(documents, uri, InStep(1, OPENED_TEXT))
 }
 
-/// Changes a document. Returns whether the document is in step after a success, and out of step
-/// after a failure.
-fn changes(documents: &mut Documents<Lines>, uri: &str, note: &[Change]) -> bool {
+/// Changes a document. Returns whether the document then has its new text, or is out of step if an
+/// allocation failed.
+fn changes_or_is_out_of_step(documents: &mut Documents<Lines>, uri: &str, note: &[Change]) -> bool {
     match documents.did_change(uri, 2, note) {
         Ok(_bytes) => has_state(documents, uri, InStep(2, TEXT_AFTER_THREE_CHANGES)),
         Err(AllocError) => has_state(documents, uri, OutOfStep),
@@ -188,40 +192,43 @@ fn changes(documents: &mut Documents<Lines>, uri: &str, note: &[Change]) -> bool
 }
 
 /// Opens two documents and changes one of them. Returns whether both have their expected states.
-fn change_one_of_two(alloc: Global) -> Result<bool, AllocError> {
+fn change_one_of_two_documents(alloc: Global) -> Result<bool, AllocError> {
     let note = changes_of(alloc, THREE_CHANGES)?;
     let mut documents: Documents<Lines> = Documents::new(alloc);
     Ok(
         open_with_retry(&mut documents, "u")
             && open_with_retry(&mut documents, "v")
-            && changes(&mut documents, "u", note.as_slice())
-            && has_state(&documents, "v", InStep(1, OPENED)),
+            && changes_or_is_out_of_step(&mut documents, "u", note.as_slice())
+            && has_state(&documents, "v", InStep(1, OPENED_TEXT)),
     )
 }
 
 /// Replaces a range of a text. Returns whether the text is the expected one, or is unchanged if an
 /// allocation failed.
-fn replaces_or_leaves_text(alloc: Global) -> Result<bool, AllocError> {
-    let mut store = Lines::from_str(alloc, OPENED)?;
+fn replaces_text_or_leaves_it_unchanged(alloc: Global) -> Result<bool, AllocError> {
+    let mut store = Lines::from_str(alloc, OPENED_TEXT)?;
     match store.replace(range_of((1, 0), (1, 0)), "\nmore than there was room for") {
         Ok(()) => Ok(store.as_str() == "a\r\nmore than there was room forb"),
-        Err(AllocError) => Ok(store.as_str() == OPENED),
+        Err(AllocError) => Ok(store.as_str() == OPENED_TEXT),
     }
 }
 
 // `make test` runs this test once for each allocation, and lets that allocation fail. (If the
 // failing allocation is made by the test itself and not by `Documents`, the test runs once more.)
 #[test]
-fn a_refused_note_leaves_its_document_alone_out_of_step(rt: HostRuntime) {
-    let held = change_one_of_two(rt.alloc());
-    assert!(rt; held == Ok(true) || held.is_err() && change_one_of_two(rt.alloc()) == Ok(true));
+fn a_refused_change_puts_only_its_document_out_of_step(rt: HostRuntime) {
+    let held = change_one_of_two_documents(rt.alloc());
+    assert!(rt;
+        held == Ok(true) || held.is_err() && change_one_of_two_documents(rt.alloc()) == Ok(true)
+    );
 }
 
 // `make test` runs this test once for each allocation, and lets that allocation fail.
 #[test]
-fn a_refused_replacement_leaves_the_text(rt: HostRuntime) {
-    let left = replaces_or_leaves_text(rt.alloc());
+fn a_refused_replacement_leaves_the_text_unchanged(rt: HostRuntime) {
+    let left = replaces_text_or_leaves_it_unchanged(rt.alloc());
     assert!(rt;
-        left == Ok(true) || left.is_err() && replaces_or_leaves_text(rt.alloc()) == Ok(true)
+        left == Ok(true)
+            || left.is_err() && replaces_text_or_leaves_it_unchanged(rt.alloc()) == Ok(true)
     );
 }

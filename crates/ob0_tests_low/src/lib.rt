@@ -1,8 +1,8 @@
-//! Tests the low layers: streams, texts, lexemes, numbers and messages. The tests are examples with
-//! known answers, calls with ample memory, and failing allocations.
+//! Tests the low layers: framing, texts, scanning, operators and messages. The tests are examples
+//! with known answers. Some of them also run with failing allocations.
 #![tactic(auto)]
 
-/// Builds a table of rows, each written `ROW;`, or of pairs, each written `ASKED => EXPECTED;`.
+/// Builds a table of rows, each written `ROW;`, or of pairs, each written `INPUT => EXPECTED;`.
 #[cfg(test)]
 macro_rules! rows {
     ($($asked:expr => $wanted:expr;)*) => { &[$(($asked, $wanted)),*] };

@@ -1,24 +1,24 @@
 //! Tests the store of lines (`Lines`) by comparing it with the store of a whole text (`Whole`):
-//! after many changes of short texts, and in long lines.
+//! after many changes of short texts, and in long lines. Also tests which lines it has.
 
-use crate::cases::{Case, first_wrong};
-use crate::lines::LinesCase::{Changed, Cut, Long};
+use crate::cases::{Case, first_failing_row};
+use crate::lines::LinesCase::{Changed, CutIntoLines, Long};
 use crate::text::{at, range_of};
 use ob0_text::{Lines, Range, TextStore, Unit, Whole};
 use std::alloc::{AllocError, Global};
 use std::process::Abort;
 
+/// A text on which the store of lines is tested.
 enum LinesCase {
     /// A short text. Many changes are tried on it.
     Changed(&'static str),
-    /// A text of long lines: with only ASCII, with other characters far to the right, or with a
-    /// tab.
+    /// A text with long lines, in which both stores are compared.
     Long(&'static str),
     /// A text, and its lines with their endings.
-    Cut(&'static str, &'static [&'static str]),
+    CutIntoLines(&'static str, &'static [&'static str]),
 }
 
-static CHANGED: &[LinesCase] = rows![
+static TEXTS_TO_CHANGE: &[LinesCase] = rows![
     Changed("");
     Changed("\r");
     Changed("\r\n");
@@ -29,36 +29,37 @@ static CHANGED: &[LinesCase] = rows![
     Changed("\r\n\r\n");
 ];
 
-static KEPT: &[LinesCase] = rows![
+static LONG_AND_CUT_TEXTS: &[LinesCase] = rows![
     Long("x := 0123456789 + 0123456789 + 0123456789 + 0123456789 + 0123456789 + 0123456789 + 0123456789 \
         + 0123456789 + 0123456789;\r\ny");
     Long("(* 0123456789 0123456789 0123456789 0123456789 0123456789 0123456789 0123456789 😀 0123456789 \
         0123456789 é 0123456789 *)\ry\n");
     Long("\n\t0123456789 0123456789 0123456789 0123456789 0123456789 012345678\n\
         0123456789 0123456789 0123456789 0123456789 0123456789");
-    Cut("a\r\nb\nd", &["a\r\n", "b\n", "d"]);
-    Cut("a\r\n😀b\rc\n", &["a\r\n", "😀b\r", "c\n", ""]);
-    Cut("", &[""]);
+    CutIntoLines("a\r\nb\nd", &["a\r\n", "b\n", "d"]);
+    CutIntoLines("a\r\n😀b\rc\n", &["a\r\n", "😀b\r", "c\n", ""]);
+    CutIntoLines("", &[""]);
 ];
 
 /// One text in both stores: as lines and as a whole.
 #[derive(Drop)]
-struct Stores {
+struct BothStores {
     lines: Lines,
     whole: Whole,
 }
 
-/// Returns both stores of a text, with positions in this unit.
-fn stores_of(alloc: Global, text: &str, unit: Unit) -> Result<Stores, AllocError> {
+/// Returns both stores of a text. They count positions in this unit.
+fn both_stores_of(alloc: Global, text: &str, unit: Unit) -> Result<BothStores, AllocError> {
     let lines = Lines::from_str_in(alloc, text, unit)?;
     let whole = Whole::from_str_in(alloc, text, unit)?;
-    Ok(Stores { lines, whole })
+    Ok(BothStores { lines, whole })
 }
 
-impl Stores {
-    /// Returns whether both stores have the same text, the same offset for each position whose line
-    /// and character are below these numbers, and the same position for each offset below 20.
-    fn have_same_places(&self, lines: u64, characters: u64) -> bool {
+impl BothStores {
+    /// Returns whether both stores have the same text and convert positions and offsets alike. Only
+    /// lines less than `lines`, characters less than `characters` and offsets less than 20 are
+    /// tried.
+    fn have_same_text_and_positions(&self, lines: u64, characters: u64) -> bool {
         for line in 0..lines {
             for character in 0..characters {
                 let place = at(line, character);
@@ -75,15 +76,15 @@ impl Stores {
         self.lines.as_str() == self.whole.as_str()
     }
 
-    /// Replaces a range in both stores.
+    /// Replaces a range by `new` in both stores.
     fn replace(&mut self, range: Range, new: &str) -> Result<(), AllocError> {
         self.lines.replace(range, new)?;
         self.whole.replace(range, new)
     }
 
-    /// Replaces the two units that begin at this line and column by a short text, in both stores.
-    /// Returns whether both stores have the same text and replaced the same bytes.
-    fn change(&mut self, line: u64, column: u64) -> Result<bool, AllocError> {
+    /// In both stores, replaces the two units that begin at this line and column by a short text.
+    /// Returns whether both stores then have the same text and report the same replaced bytes.
+    fn change_two_units(&mut self, line: u64, column: u64) -> Result<bool, AllocError> {
         let range = range_of((line, column), (line, column.saturating_add(2)));
         let bytes = self.lines.replace_at(range, "é-")?;
         let others = self.whole.replace_at(range, "é-")?;
@@ -91,11 +92,11 @@ impl Stores {
     }
 
     /// Changes each of the first three lines at these columns, one after another. Returns whether
-    /// both stores agree after each change.
-    fn change_lines(&mut self, columns: &[u64]) -> Result<bool, AllocError> {
+    /// both stores have the same text and report the same replaced bytes after each change.
+    fn change_first_lines_at(&mut self, columns: &[u64]) -> Result<bool, AllocError> {
         for line in 0..3 {
             for column in columns {
-                if !self.change(line, *column)? {
+                if !self.change_two_units(line, *column)? {
                     return Ok(false);
                 }
             }
@@ -106,7 +107,7 @@ impl Stores {
 
 /// Returns whether a store has the same text and the same lines as a new store of its text. Only
 /// the first 16 lines are compared.
-fn is_as_new(alloc: Global, lines: &Lines, unit: Unit) -> Result<bool, AllocError> {
+fn has_lines_of_new_store(alloc: Global, lines: &Lines, unit: Unit) -> Result<bool, AllocError> {
     let again = Lines::from_str_in(alloc, lines.as_str(), unit)?;
     for k in 0..16 {
         if lines.line(k) != again.line(k) {
@@ -118,22 +119,26 @@ fn is_as_new(alloc: Global, lines: &Lines, unit: Unit) -> Result<bool, AllocErro
 
 /// Makes one change in both stores of a text. Returns whether both stores have the same text and
 /// convert positions and offsets alike. The store of lines must also have the lines of a new store.
-fn agree_after_change(
+fn stores_agree_after_change(
     alloc: Global,
     text: &str,
     unit: Unit,
     range: Range,
     new: &str,
 ) -> Result<bool, AllocError> {
-    let mut stores = stores_of(alloc, text, unit)?;
+    let mut stores = both_stores_of(alloc, text, unit)?;
     stores.replace(range, new)?;
-    Ok(is_as_new(alloc, &stores.lines, unit)? && stores.have_same_places(10, 8))
+    Ok(
+        has_lines_of_new_store(alloc, &stores.lines, unit)?
+            && stores.have_same_text_and_positions(10, 8),
+    )
 }
 
-/// Returns whether the stores agree after each of two separate changes, which begin in `line`. The
-/// change `wide` ends `further` lines later and counts in UTF-16 units. The change `narrow` ends in
-/// the same line and counts in bytes.
-fn agree_after_two_changes(
+/// Makes two changes of the text, each in new stores. Returns whether the stores agree after each
+/// change. Both changes begin in `line`. The change `wide` ends `further` lines later, and its
+/// positions are counted in UTF-16 units. The change `narrow` ends in the same line, and its
+/// positions are counted in bytes.
+fn stores_agree_after_each_of_two_changes(
     alloc: Global,
     text: &str,
     new: &str,
@@ -143,17 +148,22 @@ fn agree_after_two_changes(
     let wide = range_of((line, 1), (line.saturating_add(further), further));
     let narrow = range_of((line, 0), (line, further));
     Ok(
-        agree_after_change(alloc, text, Unit::Utf16, wide, new)?
-            && agree_after_change(alloc, text, Unit::Utf8, narrow, new)?,
+        stores_agree_after_change(alloc, text, Unit::Utf16, wide, new)?
+            && stores_agree_after_change(alloc, text, Unit::Utf8, narrow, new)?,
     )
 }
 
-/// Returns whether the stores agree after each of several separate changes. Each change begins in
-/// one of the first four lines, and ends there or in one of the next two.
-fn agree_after_changes(alloc: Global, text: &str, new: &str) -> Result<bool, AllocError> {
+/// Makes several changes of the text, each in new stores. Returns whether the stores agree after
+/// each change. Each begins in one of the first four lines, and ends there or in one of the next
+/// two.
+fn stores_agree_after_each_change(
+    alloc: Global,
+    text: &str,
+    new: &str,
+) -> Result<bool, AllocError> {
     for line in 0..4 {
         for further in 0..3 {
-            if !agree_after_two_changes(alloc, text, new, line, further)? {
+            if !stores_agree_after_each_of_two_changes(alloc, text, new, line, further)? {
                 return Ok(false);
             }
         }
@@ -161,33 +171,35 @@ fn agree_after_changes(alloc: Global, text: &str, new: &str) -> Result<bool, All
     Ok(true)
 }
 
-static NEW_TEXTS: &[&str] = &["", "\n", "\r", "\r\n", "é", "\n\r", "a\rb"];
+static REPLACEMENT_TEXTS: &[&str] = &["", "\n", "\r", "\r\n", "é", "\n\r", "a\rb"];
 
-/// Returns whether the stores agree after changes with each of the new texts (`NEW_TEXTS`).
-fn agree_after_each_new_text(alloc: Global, text: &str) -> Result<bool, AllocError> {
-    for new in NEW_TEXTS {
-        if !agree_after_changes(alloc, text, new)? {
+/// Returns whether the stores agree after changes that insert each of the texts
+/// `REPLACEMENT_TEXTS`.
+fn stores_agree_after_each_replacement(alloc: Global, text: &str) -> Result<bool, AllocError> {
+    for new in REPLACEMENT_TEXTS {
+        if !stores_agree_after_each_change(alloc, text, new)? {
             return Ok(false);
         }
     }
     Ok(true)
 }
 
-/// Columns at which lines are changed one after another: forwards, backwards, and alternating.
-static COLUMNS: &[&[u64]] = &[
+/// Lists of columns. Lines are changed at the columns of a list one after another: forwards,
+/// backwards, or in mixed order.
+static COLUMN_SEQUENCES: &[&[u64]] = &[
     &[0, 3, 70, 71, 130, 140],
     &[150, 140, 100, 99, 66, 30, 2, 0],
     &[10, 120, 60, 64, 128, 1, 90, 89],
 ];
 
 /// Returns whether both stores of a text agree on positions far to the right in its lines, and
-/// after the lines are changed at each list of columns (`COLUMNS`).
-fn agree_in_long_lines(alloc: Global, text: &str, unit: Unit) -> Result<bool, AllocError> {
-    if !stores_of(alloc, text, unit)?.have_same_places(4, 160) {
+/// after the lines are changed at the columns of each list (`COLUMN_SEQUENCES`).
+fn stores_agree_in_long_lines(alloc: Global, text: &str, unit: Unit) -> Result<bool, AllocError> {
+    if !both_stores_of(alloc, text, unit)?.have_same_text_and_positions(4, 160) {
         return Ok(false);
     }
-    for columns in COLUMNS {
-        if !stores_of(alloc, text, unit)?.change_lines(columns)? {
+    for columns in COLUMN_SEQUENCES {
+        if !both_stores_of(alloc, text, unit)?.change_first_lines_at(columns)? {
             return Ok(false);
         }
     }
@@ -205,26 +217,26 @@ fn has_lines(lines: &Lines, wanted: &[&str]) -> bool {
 }
 
 impl Case for LinesCase {
-    fn holds(&self, alloc: Global) -> Result<bool, AllocError> {
+    fn has_expected_outcome(&self, alloc: Global) -> Result<bool, AllocError> {
         match self {
-            Changed(text) => agree_after_each_new_text(alloc, text),
+            Changed(text) => stores_agree_after_each_replacement(alloc, text),
             Long(text) => Ok(
-                agree_in_long_lines(alloc, text, Unit::Utf16)?
-                    && agree_in_long_lines(alloc, text, Unit::Utf8)?,
+                stores_agree_in_long_lines(alloc, text, Unit::Utf16)?
+                    && stores_agree_in_long_lines(alloc, text, Unit::Utf8)?,
             ),
-            Cut(text, wanted) => Ok(has_lines(&Lines::from_str(alloc, text)?, wanted)),
+            CutIntoLines(text, wanted) => Ok(has_lines(&Lines::from_str(alloc, text)?, wanted)),
         }
     }
 }
 
 #[test]
 fn lines_are_updated_after_changes(rt: HostRuntime) {
-    let wrong = first_wrong(rt.alloc(), CHANGED);
+    let wrong = first_failing_row(rt.alloc(), TEXTS_TO_CHANGE);
     assert!(rt; wrong.is_none(), "row {wrong:?}");
 }
 
 #[test]
 fn lines_agree_with_whole_text(rt: HostRuntime) {
-    let wrong = first_wrong(rt.alloc(), KEPT);
+    let wrong = first_failing_row(rt.alloc(), LONG_AND_CUT_TEXTS);
     assert!(rt; wrong.is_none(), "row {wrong:?}");
 }

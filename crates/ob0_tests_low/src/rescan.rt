@@ -1,40 +1,41 @@
-//! Tests texts that are changed at one place and scanned again. The second scan must give the
-//! tokens, comments and faults of a scan from scratch.
+//! Tests scanning a text again after one change. This must give the tokens, comments and faults of
+//! a scan from scratch.
 
 ghost use Rattle.std.specs.Prelude.{◌≡◌, ◌++◌, IfOk, string_bytes};
 ghost use Rattle.ob0_scan.specs.Reused.{ReplacesRange};
 
-use crate::cases::{Case, first_wrong};
-use crate::rescan::Outcome::{Different, Read, Refused, Unscanned};
+use crate::cases::{Case, first_failing_row};
 use crate::rescan::RescanCase::{Long, Short};
+use crate::rescan::RescanOutcome::{Different, Refused, SameTokens, Unscanned};
 use ob0_scan::laws::new_middle_replaces_range;
 use ob0_scan::{
-    Rescan, RescanInPlace, RescanRefusal, ScanRefusal, Tokens, rescan, rescan_in_place, scan,
+    Rescan, RescanRefusal, RescanWithComparison, ScanRefusal, Tokens, rescan, rescan_in_place, scan,
 };
 use std::alloc::{AllocError, Global};
 use std::process::Abort;
 
 /// The outcome of scanning a changed text again, compared with a scan from scratch.
 #[derive(Clone, Copy, PartialEq, Eq)]
-enum Outcome {
-    /// Both scans give the same tokens. The number counts the tokens and comments that were read
-    /// again. The Bool says whether the second scan reports that all tokens keep their kinds.
-    Read(usize, bool),
-    /// Both scans refuse the text for the same faults.
+enum RescanOutcome {
+    /// Both scans give the same tokens and comments. The number counts the tokens and comments that
+    /// were read again. The Bool says whether all tokens keep their kinds, as `rescan_in_place`
+    /// reports.
+    SameTokens(usize, bool),
+    /// Both scans refuse the text with the same faults.
     Refused,
     /// The old text can't be scanned.
     Unscanned,
     Different,
 }
 
-/// A change of a text, in four parts: the text in front of the change, the text that is replaced,
-/// the new text, and the text behind the change.
-type Parts = (&'static str, &'static str, &'static str, &'static str);
+/// A change of a text: the text before the change, the replaced text, the new text, and the text
+/// after the change.
+type ChangeInContext = (&'static str, &'static str, &'static str, &'static str);
 
 enum RescanCase {
-    Short(Parts, Outcome),
-    /// The parts with 5,000 statements in front of them, and as many behind them.
-    Long(Parts, Outcome),
+    Short(ChangeInContext, RescanOutcome),
+    /// A change with 5,000 more statements before it and 5,000 more after it.
+    Long(ChangeInContext, RescanOutcome),
 }
 
 /// Returns the three texts joined.
@@ -53,21 +54,21 @@ fn join_texts(
 }
 
 /// Returns whether both scans have the same text, tokens and comments.
-fn are_same(a: &Tokens, b: &Tokens) -> bool {
+fn are_same_scans(a: &Tokens, b: &Tokens) -> bool {
     a.text() == b.text() && a.tokens() == b.tokens() && a.comments() == b.comments()
 }
 
-/// Returns the outcome of a scan in place (`placed`), compared with a scan from scratch
-/// (`scanned`). If the new text has faults, the scan in place must return the old tokens, whose
-/// text is `old_text`.
-fn outcome_in_place(
-    placed: &Result<RescanInPlace, RescanRefusal>,
+/// Returns the outcome of a scan in place, given its result (`placed`) and the result of a scan
+/// from scratch (`scanned`). If the new text has faults, the scan in place must return tokens of
+/// the old text (`old_text`).
+fn outcome_of_scan_in_place(
+    placed: &Result<RescanWithComparison, RescanRefusal>,
     scanned: &Result<Tokens, ScanRefusal>,
     old_text: &str,
-) -> Outcome {
+) -> RescanOutcome {
     match (placed, scanned) {
-        (Ok(found), Ok(tokens)) if are_same(&found.rescan.tokens, tokens) => {
-            Read(found.rescan.read, found.same_kinds)
+        (Ok(found), Ok(tokens)) if are_same_scans(&found.rescan.tokens, tokens) => {
+            SameTokens(found.rescan.read, found.same_kinds)
         }
         (Err(RescanRefusal::Faults(faults, old)), Err(ScanRefusal::Faults(others)))
             if old.text() == old_text && faults.as_slice() == others.as_slice() => { Refused }
@@ -75,16 +76,16 @@ fn outcome_in_place(
     }
 }
 
-/// Returns whether `found`, the result of a scan that keeps the old tokens, has the outcome
-/// `outcome`. The function compares `found` with `scanned`, the result of a scan from scratch.
-fn has_outcome(
+/// Returns whether `found`, the result of a rescan that keeps the old tokens, has this outcome,
+/// given the result of a scan from scratch (`scanned`). The Bool of `SameTokens` is ignored.
+fn rescan_has_outcome(
     found: &Result<Rescan, ScanRefusal>,
     scanned: &Result<Tokens, ScanRefusal>,
-    outcome: Outcome,
+    outcome: RescanOutcome,
 ) -> bool {
     match (found, scanned, outcome) {
-        (Ok(found), Ok(tokens), Read(count, _)) => {
-            count == found.read && are_same(&found.tokens, tokens)
+        (Ok(found), Ok(tokens), SameTokens(count, _)) => {
+            count == found.read && are_same_scans(&found.tokens, tokens)
         }
         (Err(ScanRefusal::Faults(faults)), Err(ScanRefusal::Faults(others)), Refused) => {
             faults.as_slice() == others.as_slice()
@@ -103,33 +104,34 @@ struct ChangedRange {
 }
 
 /// Scans a changed text again in two ways: with the old tokens kept (`rescan`), and with the old
-/// tokens replaced in place (`rescan_in_place`). Returns the outcome of both scans, or `Different`.
-fn rescan_both(
+/// tokens replaced in place (`rescan_in_place`). Returns the outcome that both have, or `Different`
+/// if they differ.
+fn rescan_both_ways(
     alloc: Global,
     old: Tokens,
     old_text: &str,
     text: &str,
     range: ChangedRange,
-) -> Outcome
+) -> RescanOutcome
     requires { ReplacesRange old.text text.now range.from range.removed range.added }
 {
     let (from, removed, added) = (range.from, range.removed, range.added);
     let beside = rescan(alloc, &old, text, from, removed, added);
     let placed = rescan_in_place(alloc, old, text, from, removed, added);
-    compare(&beside, &placed, &scan(alloc, text), old_text)
+    common_outcome_of_rescans(&beside, &placed, &scan(alloc, text), old_text)
 }
 
-/// Returns the outcome that `beside` and `placed`, the two scans of a changed text, both have.
-/// They are compared with a scan from scratch (`scanned`). Returns `Different` if their outcomes
-/// differ.
-fn compare(
+/// Returns the outcome that both rescans of a changed text have, or `Different` if they differ.
+/// `beside` is the result of `rescan`, `placed` of `rescan_in_place`, and `scanned` of a scan from
+/// scratch.
+fn common_outcome_of_rescans(
     beside: &Result<Rescan, ScanRefusal>,
-    placed: &Result<RescanInPlace, RescanRefusal>,
+    placed: &Result<RescanWithComparison, RescanRefusal>,
     scanned: &Result<Tokens, ScanRefusal>,
     old_text: &str,
-) -> Outcome {
-    let outcome = outcome_in_place(placed, scanned, old_text);
-    if has_outcome(beside, scanned, outcome) {
+) -> RescanOutcome {
+    let outcome = outcome_of_scan_in_place(placed, scanned, old_text);
+    if rescan_has_outcome(beside, scanned, outcome) {
         outcome
     } else {
         Different
@@ -137,14 +139,14 @@ fn compare(
 }
 
 /// Replaces `middle` by `other` in the text that consists of `front`, `middle` and `following`.
-/// Scans the new text again in both ways (`rescan_both`), and returns the outcome.
-fn change(
+/// Scans the new text again in both ways (`rescan_both_ways`), and returns the outcome.
+fn outcome_of_change(
     alloc: Global,
     front: &str,
     middle: &str,
     other: &str,
     following: &str,
-) -> Result<Outcome, AllocError> {
+) -> Result<RescanOutcome, AllocError> {
     new_middle_replaces_range();
     let old_text = join_texts(alloc, front, middle, following)?;
     let text = join_texts(alloc, front, other, following)?;
@@ -154,62 +156,70 @@ fn change(
         added: other.len(),
     };
     match scan(alloc, old_text.as_str()) {
-        Ok(old) => Ok(rescan_both(alloc, old, old_text.as_str(), text.as_str(), range)),
+        Ok(old) => Ok(rescan_both_ways(alloc, old, old_text.as_str(), text.as_str(), range)),
         Err(_refusal) => Ok(Unscanned),
     }
 }
 
 /// Appends 5,000 statements.
-fn push_statements(text: &mut String) -> Result<(), AllocError> {
+fn push_5000_statements(text: &mut String) -> Result<(), AllocError> {
     for _i in 0..5000 {
         text.push_str("x := 1;\n  ")?;
     }
     Ok(())
 }
 
-/// Returns the outcome of a change with these statements in front of it, and the same statements
-/// again behind it.
-fn change_between(alloc: Global, statements: &str, parts: &Parts) -> Result<Outcome, AllocError> {
+/// Returns the outcome of a change in a module that has these statements before the change and
+/// again after it.
+fn outcome_between_statements(
+    alloc: Global,
+    statements: &str,
+    parts: &ChangeInContext,
+) -> Result<RescanOutcome, AllocError> {
     let (front, middle, other, following) = *parts;
     let front = join_texts(alloc, "MODULE M; VAR x: INTEGER; BEGIN ", statements, front)?;
     let following = join_texts(alloc, following, statements, "END M.")?;
-    change(alloc, front.as_str(), middle, other, following.as_str())
+    outcome_of_change(alloc, front.as_str(), middle, other, following.as_str())
 }
 
-/// Returns the outcome of a change with 5,000 statements in front of it and as many behind it.
-fn change_long(alloc: Global, parts: &Parts) -> Result<Outcome, AllocError> {
+/// Returns the outcome of a change in a module that has 5,000 statements before the change and
+/// 5,000 after it.
+fn outcome_in_long_text(
+    alloc: Global,
+    parts: &ChangeInContext,
+) -> Result<RescanOutcome, AllocError> {
     let mut statements = String::new(alloc);
-    push_statements(&mut statements)?;
-    change_between(alloc, statements.as_str(), parts)
+    push_5000_statements(&mut statements)?;
+    outcome_between_statements(alloc, statements.as_str(), parts)
 }
 
-/// Changes of a long text, in which few tokens are read again.
-static LONG: &[RescanCase] = rows![
-    Long(("x := ", "1", "2", "; "), Read(1, true));
-    Long(("x := ", "1", "(* one *) 1", "; "), Read(2, true));
-    Long(("x := ", "1", "1 + 1", "; "), Read(3, false));
-    Long(("x := ", "1", "", "; "), Read(0, false));
+/// Changes of long texts. After each, few tokens are read again.
+static CHANGES_OF_LONG_TEXTS: &[RescanCase] = rows![
+    Long(("x := ", "1", "2", "; "), SameTokens(1, true));
+    Long(("x := ", "1", "(* one *) 1", "; "), SameTokens(2, true));
+    Long(("x := ", "1", "1 + 1", "; "), SameTokens(3, false));
+    Long(("x := ", "1", "", "; "), SameTokens(0, false));
 ];
 
-static SHORT: &[RescanCase] = rows![
+static CHANGES_OF_SHORT_TEXTS: &[RescanCase] = rows![
     // A comment is opened at the beginning of the text.
     Short(("", "", "(*", "MODULE M; END M."), Refused);
-    Short(("", "", "(*", "x *)"), Read(1, false));
+    Short(("", "", "(*", "x *)"), SameTokens(1, false));
     Short(("", "", "(*", "$"), Unscanned);
     // In some of these changes, all tokens keep their kinds.
-    Short(("x := ", "1", "21", " + y"), Read(1, true));
-    Short(("x := ", "1", "(* one *) 1", " + y"), Read(2, true));
-    Short(("x := ", "1", "z", " + y"), Read(1, false));
-    Short(("x := ", "1", "1 + 1", " + y"), Read(3, false));
-    Short(("x := ", "1", "", " + y"), Read(0, false));
+    Short(("x := ", "1", "21", " + y"), SameTokens(1, true));
+    Short(("x := ", "1", "(* one *) 1", " + y"), SameTokens(2, true));
+    Short(("x := ", "1", "z", " + y"), SameTokens(1, false));
+    Short(("x := ", "1", "1 + 1", " + y"), SameTokens(3, false));
+    Short(("x := ", "1", "", " + y"), SameTokens(0, false));
 ];
 
 impl Case for RescanCase {
-    fn holds(&self, alloc: Global) -> Result<bool, AllocError> {
+    fn has_expected_outcome(&self, alloc: Global) -> Result<bool, AllocError> {
         match self {
-            Long(parts, outcome) => Ok(change_long(alloc, parts)? == *outcome),
+            Long(parts, outcome) => Ok(outcome_in_long_text(alloc, parts)? == *outcome),
             Short((front, middle, other, following), outcome) => {
-                Ok(change(alloc, front, middle, other, following)? == *outcome)
+                Ok(outcome_of_change(alloc, front, middle, other, following)? == *outcome)
             }
         }
     }
@@ -217,25 +227,25 @@ impl Case for RescanCase {
 
 #[test]
 fn few_tokens_are_scanned_again_in_long_texts(rt: HostRuntime) {
-    let wrong = first_wrong(rt.alloc(), LONG);
+    let wrong = first_failing_row(rt.alloc(), CHANGES_OF_LONG_TEXTS);
     assert!(rt; wrong.is_none(), "row {wrong:?}");
 }
 
 #[test]
 fn changed_texts_are_scanned_as_from_scratch(rt: HostRuntime) {
-    let wrong = first_wrong(rt.alloc(), SHORT);
+    let wrong = first_failing_row(rt.alloc(), CHANGES_OF_SHORT_TEXTS);
     assert!(rt; wrong.is_none(), "row {wrong:?}");
 }
 
 /// A generator of pseudorandom numbers.
 #[derive(Drop)]
-struct Numbers {
+struct RandomNumbers {
     seed: u64,
 }
 
-impl Numbers {
+impl RandomNumbers {
     /// Returns the next pseudorandom number. It is less than `most`, or 0 if `most` is 0.
-    fn below(&mut self, most: usize) -> usize {
+    fn next_number_below(&mut self, most: usize) -> usize {
         self.seed = self
             .seed
             .wrapping_mul(6364136223846793005)
@@ -244,32 +254,41 @@ impl Numbers {
     }
 }
 
-static PIECES: &[&str] = &[
+static PIECES_OF_RANDOM_TEXTS: &[&str] = &[
     "", "x", "END", "12", " ", "\n", "(*", "*)", "(", "*", ")", ":", "=", "<", ":=", "<=",
     "(* a *)", "(**)", "1a", "$", "  ", "7", "é", "a1", ".",
 ];
 
-/// Appends a random number of random pieces (`PIECES`) to a text: fewer than `most`.
-fn push_pieces(text: &mut String, numbers: &mut Numbers, most: usize) -> Result<(), AllocError> {
-    for _i in 0..numbers.below(most) {
-        if let Some(piece) = PIECES.get(numbers.below(25)) {
+/// Appends random pieces (`PIECES_OF_RANDOM_TEXTS`) to a text. Their number is random too: less
+/// than `most`, or 0 if `most` is 0.
+fn push_random_pieces(
+    text: &mut String,
+    numbers: &mut RandomNumbers,
+    most: usize,
+) -> Result<(), AllocError> {
+    for _i in 0..numbers.next_number_below(most) {
+        if let Some(piece) = PIECES_OF_RANDOM_TEXTS.get(numbers.next_number_below(25)) {
             text.push_str(piece)?;
         }
     }
     Ok(())
 }
 
-/// Returns a random text of fewer than `most` pieces.
-fn random_text(alloc: Global, numbers: &mut Numbers, most: usize) -> Result<String, AllocError> {
+/// Returns a random text of fewer than `most` pieces, or an empty text if `most` is 0.
+fn random_text(
+    alloc: Global,
+    numbers: &mut RandomNumbers,
+    most: usize,
+) -> Result<String, AllocError> {
     let mut text = String::new(alloc);
-    push_pieces(&mut text, numbers, most)?;
+    push_random_pieces(&mut text, numbers, most)?;
     Ok(text)
 }
 
-/// Returns one random text for each number in `most`. The text has fewer pieces than this number.
+/// Returns one random text for each number in `most`, as `random_text` does.
 fn random_texts(
     alloc: Global,
-    numbers: &mut Numbers,
+    numbers: &mut RandomNumbers,
     most: &[usize],
 ) -> Result<Vec<String>, AllocError> {
     let mut texts = Vec::new(alloc);
@@ -280,10 +299,13 @@ fn random_texts(
 }
 
 /// Returns the outcome of a random change of a random text.
-fn random_change(alloc: Global, numbers: &mut Numbers) -> Result<Outcome, AllocError> {
+fn outcome_of_random_change(
+    alloc: Global,
+    numbers: &mut RandomNumbers,
+) -> Result<RescanOutcome, AllocError> {
     let texts = random_texts(alloc, numbers, &[6, 3, 3, 6])?;
     match texts.as_slice() {
-        [front, middle, other, following] => change(
+        [front, middle, other, following] => outcome_of_change(
             alloc,
             front.as_str(),
             middle.as_str(),
@@ -294,15 +316,16 @@ fn random_change(alloc: Global, numbers: &mut Numbers) -> Result<Outcome, AllocE
     }
 }
 
-/// Makes 10,000 random changes of random texts. Returns whether each changed text is scanned as if
-/// from scratch. At least 3,000 of the changed texts must be accepted and 500 refused.
+/// Makes 10,000 random changes of random texts. Returns whether each rescan agrees with a scan from
+/// scratch. At least 3,000 of the changed texts must be accepted and at least 500 refused. A change
+/// of a text that can't be scanned is skipped.
 fn scans_random_changes_as_from_scratch(alloc: Global) -> bool {
-    let mut numbers = Numbers { seed: 1 };
+    let mut numbers = RandomNumbers { seed: 1 };
     let mut read: usize = 0;
     let mut refused: usize = 0;
     for _i in 0..10000 {
-        match random_change(alloc, &mut numbers) {
-            Ok(Read(_count, _alike)) => read = read.saturating_add(1),
+        match outcome_of_random_change(alloc, &mut numbers) {
+            Ok(SameTokens(_count, _alike)) => read = read.saturating_add(1),
             Ok(Refused) => refused = refused.saturating_add(1),
             Ok(Unscanned) => {}
             _ => return false,

@@ -1,34 +1,34 @@
-//! Tests messages from a client and their meanings, contents that aren't messages, and the bytes of
-//! answers.
+//! Tests the meanings of a client's messages, contents that aren't messages, and the bytes of
+//! messages that are sent.
 
-use crate::cases::{Case, first_wrong};
-use crate::rpc::Message::*;
-use crate::rpc::MessageSubject::{Content, Notification, Request, Sent};
+use crate::cases::{Case, first_failing_row};
+use crate::rpc::SentMessage::*;
+use crate::rpc::TestedMessage::{Content, Notification, Request, Sent};
 use crate::text::at;
 use ob0_rpc::{
     Call, ClientFeatures, Id, Incoming, Note, OneMemberObject, RpcFault, answer_text, error,
-    notice, notification, notification_of, read, request, result,
+    notice, notification, notification_text, read, request, result,
 };
 use ob0_text::{Indent, Range};
 use serde_json::{Value, json};
 use std::alloc::{AllocError, Global};
 use std::process::Abort;
 
-/// The subject of a row: a content, a request or a notification (its method and params), or a
-/// message that is sent. The row also has the expected meaning in words. For a message that is
+/// The message that a row tests: a content, a request or a notification (its method and params), or
+/// a message that is sent. The row also has the expected meaning in words. For a message that is
 /// sent, it has the expected content instead.
 #[derive(Clone, Copy)]
-enum MessageSubject {
+enum TestedMessage {
     Content(&'static str),
     Request(&'static str, &'static str),
     Notification(&'static str, &'static str),
-    Sent(Message),
+    Sent(SentMessage),
 }
 
-/// A message that is sent. A name with `Note` means a notification, and `Refusal` is a refusal.
-/// Each other message is an answer, and its name describes the answer's result.
+/// A message that is sent. `Refusal` is an answer with an error, and each name with `Note` is a
+/// notification. Each other name describes the result of an answer.
 #[derive(Clone, Copy)]
-enum Message {
+enum SentMessage {
     Nothing,
     Refusal(RpcFault),
     NoteOfNothing,
@@ -39,16 +39,17 @@ enum Message {
     Text,
     Truths,
     Member,
-    /// A JSON value with members of each kind except a fraction.
+    /// A JSON value that contains values of each kind, except fractions.
     EachKind,
     NoteOfEachKind,
 }
 
-type MessageCase = (MessageSubject, &'static str);
+/// A tested message, and its expected meaning in words or its expected content.
+type MessageCase = (TestedMessage, &'static str);
 
-const PLACE: &str = r#"{"position":{"character":2,"line":1},"textDocument":{"uri":"u"}}"#;
+const POSITION_PARAMS: &str = r#"{"position":{"character":2,"line":1},"textDocument":{"uri":"u"}}"#;
 
-static ROWS: &[MessageCase] = rows![
+static MESSAGE_CASES: &[MessageCase] = rows![
     Content("") => "not JSON";
     Content("{") => "not JSON";
     Content("[]") => "not a message";
@@ -75,9 +76,9 @@ static ROWS: &[MessageCase] = rows![
         \"workspaceEdit\":{\"documentChanges\":true}}}}") => "of a client that can everything";
     Request("shutdown", "null") => "shutdown";
     Request("exit", "{}") => "unknown method";
-    Request("textDocument/hover", PLACE) => "hover";
-    Request("textDocument/definition", PLACE) => "definition";
-    Request("textDocument/prepareRename", PLACE) => "prepare a rename";
+    Request("textDocument/hover", POSITION_PARAMS) => "hover";
+    Request("textDocument/definition", POSITION_PARAMS) => "definition";
+    Request("textDocument/prepareRename", POSITION_PARAMS) => "prepare a rename";
     Request("textDocument/hover", "{}") => "bad params";
     Request("textDocument/hover", r#"{"position":{"character":1.0,"line":0},"textDocument":{"uri":"u"}}"#) => "bad params";
     Request("textDocument/hover", r#"{"position":{"character":0,"line":-1},"textDocument":{"uri":"u"}}"#) => "bad params";
@@ -87,10 +88,10 @@ static ROWS: &[MessageCase] = rows![
     Request("textDocument/references",
         "{\"context\":{\"includeDeclaration\":true},\"position\":{\"character\":0,\
         \"line\":18446744073709551615},\"textDocument\":{\"uri\":\"u\"}}") => "references and the declaration";
-    Request("textDocument/references", PLACE) => "bad params";
+    Request("textDocument/references", POSITION_PARAMS) => "bad params";
     Request("textDocument/rename",
         r#"{"newName":"x","position":{"character":0,"line":0},"textDocument":{"uri":"u"}}"#) => "rename";
-    Request("textDocument/rename", PLACE) => "bad params";
+    Request("textDocument/rename", POSITION_PARAMS) => "bad params";
     Request("textDocument/codeAction",
         "{\"range\":{\"end\":{\"character\":0,\"line\":0},\"start\":{\"character\":0,\"line\":0}},\
         \"textDocument\":{\"uri\":\"u\"}}") => "bad params";
@@ -140,16 +141,16 @@ static ROWS: &[MessageCase] = rows![
     Sent(NoteOfEachKind) => r#"{"jsonrpc":"2.0","method":"m","params":{"a":{"c":"\"\n"},"b":[true,null,-1]}}"#;
 ];
 
-/// Returns the kind of message that a content is, or the fault, in words.
-fn kind_of(alloc: Global, content: &str) -> &'static str {
+/// Returns in words which kind of message a content is, or the fault of reading it.
+fn content_kind_in_words(alloc: Global, content: &str) -> &'static str {
     match read(alloc, content.as_bytes()) {
-        Ok(message) => word_of_message(&message),
+        Ok(message) => message_kind_in_words(&message),
         Err(fault) => fault.text(),
     }
 }
 
 /// Returns the kind of a message, in words.
-fn word_of_message(message: &Incoming) -> &'static str {
+fn message_kind_in_words(message: &Incoming) -> &'static str {
     match message {
         Incoming::Request(Id::Unsigned(u64::MAX), _method, Value::Null) => "greatest request",
         Incoming::Request(_id, _method, _params) => "request",
@@ -158,8 +159,8 @@ fn word_of_message(message: &Incoming) -> &'static str {
     }
 }
 
-/// Returns the features of a client, as the server reads them in `initialize`, in words.
-fn client_in_words(client: ClientFeatures) -> &'static str {
+/// Returns in words whether a client has all, none or some of these features.
+fn client_features_in_words(client: ClientFeatures) -> &'static str {
     let ClientFeatures {
         offers_utf8: utf8,
         prepares_renames: renames,
@@ -185,7 +186,7 @@ fn formatting_in_words(indent: Indent) -> &'static str {
 }
 
 /// Returns a request for code actions of these kinds, in words.
-fn actions_in_words(only: &Option<Vec<String>>) -> &'static str {
+fn code_actions_in_words(only: &Option<Vec<String>>) -> &'static str {
     match only {
         None => "actions",
         Some(kinds) if kinds.len() == 2 => "actions of two kinds",
@@ -193,10 +194,10 @@ fn actions_in_words(only: &Option<Vec<String>>) -> &'static str {
     }
 }
 
-/// Returns a word or two for the meaning of a request.
+/// Returns the meaning of a request in words.
 fn call_in_words(call: &Call) -> &'static str {
     match call {
-        Call::Initialize(client) => client_in_words(*client),
+        Call::Initialize(client) => client_features_in_words(*client),
         Call::Shutdown => "shutdown",
         Call::Hover(_place) => "hover",
         Call::Definition(_place) => "definition",
@@ -207,7 +208,7 @@ fn call_in_words(call: &Call) -> &'static str {
         Call::References { .. } => "references",
         Call::PrepareRename(_place) => "prepare a rename",
         Call::Rename { .. } => "rename",
-        Call::CodeAction { only, .. } => actions_in_words(only),
+        Call::CodeAction { only, .. } => code_actions_in_words(only),
         Call::Formatting { indent, .. } => formatting_in_words(*indent),
     }
 }
@@ -220,8 +221,8 @@ fn request_in_words(alloc: Global, method: &str, params: &Value) -> &'static str
     }
 }
 
-/// Returns a word or two for the meaning of a notification.
-fn word_of_note(note: &Note) -> &'static str {
+/// Returns the meaning of a notification in words.
+fn note_in_words(note: &Note) -> &'static str {
     match note {
         Note::Unreadable { uri: None } => "unreadable",
         Note::Unreadable { uri: Some(_uri) } => "unreadable, of a document",
@@ -234,31 +235,33 @@ fn word_of_note(note: &Note) -> &'static str {
 }
 
 /// Returns the meaning of a notification with this method and these params, or its fault, in words.
-fn notice_in_words(alloc: Global, method: &str, params: Value) -> &'static str {
+fn notification_in_words(alloc: Global, method: &str, params: Value) -> &'static str {
     match notice(alloc, method, params) {
-        Ok(note) => word_of_note(&note),
+        Ok(note) => note_in_words(&note),
         Err(fault) => fault.text(),
     }
 }
 
-/// Returns whether the notification with this method and these params has the expected meaning.
-fn has_notification_meaning(alloc: Global, method: &str, params: &str, wanted: &str) -> bool {
+/// Returns whether the params are JSON and the notification with this method and these params has
+/// the expected meaning.
+fn notification_has_meaning(alloc: Global, method: &str, params: &str, wanted: &str) -> bool {
     match Value::from_str(alloc, params) {
-        Ok(params) => notice_in_words(alloc, method, params) == wanted,
+        Ok(params) => notification_in_words(alloc, method, params) == wanted,
         Err(_fault) => false,
     }
 }
 
-/// Returns whether the request with this method and these params has the expected meaning.
-fn has_request_meaning(alloc: Global, method: &str, params: &str, wanted: &str) -> bool {
+/// Returns whether the params are JSON and the request with this method and these params has the
+/// expected meaning.
+fn request_has_meaning(alloc: Global, method: &str, params: &str, wanted: &str) -> bool {
     match Value::from_str(alloc, params) {
         Ok(params) => request_in_words(alloc, method, &params) == wanted,
         Err(_fault) => false,
     }
 }
 
-/// Returns a JSON value with members of each kind except a fraction.
-fn value_of_each_kind(alloc: Global) -> Result<Value, AllocError> {
+/// Returns a JSON value that contains values of each kind, except fractions.
+fn value_with_each_kind(alloc: Global) -> Result<Value, AllocError> {
     json!(in alloc; {"b": [true, null, -1], "a": {"c": "\"\n"}})
 }
 
@@ -279,39 +282,41 @@ fn answer_with_member(alloc: Global) -> Result<Vec<u8>, AllocError> {
 }
 
 /// Returns the content of a message that is sent.
-fn written_content(alloc: Global, message: Message) -> Result<Vec<u8>, AllocError> {
-    const MOST: (u64, u64) = (u64::MAX, u64::MAX);
+fn content_of_sent_message(alloc: Global, message: SentMessage) -> Result<Vec<u8>, AllocError> {
+    const LARGEST_POSITION: (u64, u64) = (u64::MAX, u64::MAX);
     match message {
         Nothing => answer_text(alloc, &Id::Signed(-7), &()),
         Refusal(fault) => error(alloc, None, fault.code(), fault.text()),
-        NoteOfNothing => notification_of(alloc, "m", &()),
-        LargestRange => answer_with_range(alloc, MOST, MOST),
+        NoteOfNothing => notification_text(alloc, "m", &()),
+        LargestRange => answer_with_range(alloc, LARGEST_POSITION, LARGEST_POSITION),
         OneRange => answer_with_range(alloc, (0, 9), (10, 12345)),
         LargestNumber => answer_text(alloc, &Id::Unsigned(0), &u64::MAX),
         LeastNumber => answer_text(alloc, &Id::Unsigned(u64::MAX), &i64::MIN),
         Text => answer_text(alloc, &Id::Signed(-7), &"a\"\n\u{1}"),
         Truths => answer_text(alloc, &Id::Signed(0), &[true, false].as_slice()),
         Member => answer_with_member(alloc),
-        EachKind => result(alloc, &Id::Unsigned(5), value_of_each_kind(alloc)?),
-        NoteOfEachKind => notification(alloc, "m", value_of_each_kind(alloc)?),
+        EachKind => result(alloc, &Id::Unsigned(5), value_with_each_kind(alloc)?),
+        NoteOfEachKind => notification(alloc, "m", value_with_each_kind(alloc)?),
     }
 }
 
 impl Case for MessageCase {
-    fn holds(&self, alloc: Global) -> Result<bool, AllocError> {
+    fn has_expected_outcome(&self, alloc: Global) -> Result<bool, AllocError> {
         match self.0 {
-            Content(content) => Ok(kind_of(alloc, content) == self.1),
-            Request(method, params) => Ok(has_request_meaning(alloc, method, params, self.1)),
-            Notification(method, params) => Ok(has_notification_meaning(
+            Content(content) => Ok(content_kind_in_words(alloc, content) == self.1),
+            Request(method, params) => Ok(request_has_meaning(alloc, method, params, self.1)),
+            Notification(method, params) => Ok(notification_has_meaning(
                 alloc, method, params, self.1,
             )),
-            Sent(message) => Ok(written_content(alloc, message)?.as_slice() == self.1.as_bytes()),
+            Sent(message) => Ok(
+                content_of_sent_message(alloc, message)?.as_slice() == self.1.as_bytes(),
+            ),
         }
     }
 }
 
 #[test]
 fn messages_are_read_and_written(rt: HostRuntime) {
-    let wrong = first_wrong(rt.alloc(), ROWS);
+    let wrong = first_failing_row(rt.alloc(), MESSAGE_CASES);
     assert!(rt; wrong.is_none(), "row {wrong:?}");
 }

@@ -1,6 +1,6 @@
 //! Tests calculations with numbers and truth values.
 
-use crate::cases::{Case, first_wrong};
+use crate::cases::{Case, first_failing_row};
 use crate::values::Computation::{Add, Multiply, Negate, Relate, SignOf};
 use ob0_language_values::Scalar::{Number, Truth};
 use ob0_language_values::scalar::{add, apply_relation, apply_sign, multiply, negate};
@@ -21,9 +21,10 @@ enum Computation {
     Negate(Scalar),
 }
 
+/// A computation with its expected result.
 type ComputationCase = (Computation, Result<Scalar, OperatorFault>);
 
-static ROWS: &[ComputationCase] = rows![
+static COMPUTATION_CASES: &[ComputationCase] = rows![
     Multiply(Divide, -7, 3) => Ok(Number(-3));
     Multiply(Modulo, -7, 3) => Ok(Number(2));
     Multiply(Modulo, 1, 0) => Err(OperatorFault::Divisor);
@@ -50,13 +51,13 @@ fn compute(computation: Computation) -> Result<Scalar, OperatorFault> {
 }
 
 impl Case for ComputationCase {
-    fn holds(&self, _alloc: Global) -> Result<bool, AllocError> {
+    fn has_expected_outcome(&self, _alloc: Global) -> Result<bool, AllocError> {
         Ok(compute(self.0) == self.1)
     }
 }
 
 #[test]
 fn operators_compute_as_expected(rt: HostRuntime) {
-    let wrong = first_wrong(rt.alloc(), ROWS);
+    let wrong = first_failing_row(rt.alloc(), COMPUTATION_CASES);
     assert!(rt; wrong.is_none(), "row {wrong:?}");
 }

@@ -1,25 +1,25 @@
-//! Tests how command lines are read, and that commands flush their output. The writers of these
+//! Tests how command lines are parsed, and that commands flush their output. The writers of these
 //! tests pass written bytes on only when they are flushed.
 
-use crate::devices::{Count, Counter, Source};
+use crate::devices::{CountingWriter, FailingReader, WriterCounts};
 use ob0_cli::{CommandFault, CommandLine, command};
 use ob0_commands::{TrackedReader, TrackedWriter, perform};
 use ob0_text::Position;
 use std::alloc::Global;
 use std::process::Abort;
 
-const READS: &[u8] = b"MODULE M; VAR x: INTEGER; BEGIN Read(x); Write(x) END M.";
+const READ_AND_WRITE_MODULE: &[u8] = b"MODULE M; VAR x: INTEGER; BEGIN Read(x); Write(x) END M.";
 
-const CHECK: CommandLine<'static> = CommandLine::Check { file: "m" };
+const CHECK_COMMAND: CommandLine<'static> = CommandLine::Check { file: "m" };
 
-const RUN: CommandLine<'static> = CommandLine::Run {
+const RUN_COMMAND: CommandLine<'static> = CommandLine::Run {
     file: "m",
     calls: 0,
     turns: 0,
 };
 
 /// The renaming of the variable `x` to `abc`.
-const RENAME: CommandLine<'static> = CommandLine::Rename {
+const RENAME_X_TO_ABC: CommandLine<'static> = CommandLine::Rename {
     file: "m",
     position: Position {
         line: 0,
@@ -29,7 +29,7 @@ const RENAME: CommandLine<'static> = CommandLine::Rename {
 };
 
 /// A renaming to `abc` at the word `MODULE`, which isn't a name.
-const RENAME_WORD: CommandLine<'static> = CommandLine::Rename {
+const RENAME_AT_KEYWORD: CommandLine<'static> = CommandLine::Rename {
     file: "m",
     position: Position {
         line: 0,
@@ -39,24 +39,24 @@ const RENAME_WORD: CommandLine<'static> = CommandLine::Rename {
 };
 
 /// A command line, the bytes of its file and the bytes of the standard input.
-type Call = (CommandLine<'static>, &'static [u8], &'static [u8]);
+type CommandWithInput = (CommandLine<'static>, &'static [u8], &'static [u8]);
 
-/// Performs a call with a writer whose first `flushes` flushes succeed, and whose later flushes
-/// fail. Returns the status, and the number of bytes that the writer passed on. A command line
-/// without a file isn't performed; its status is 2.
-fn outcome_of(alloc: Global, call: Call, flushes: u32) -> (u8, usize) {
+/// Performs a command, whose output goes to a writer of which only the first `flushes` flushes
+/// succeed. Returns the status, and the number of bytes that this writer passed on. A command line
+/// without a file isn't performed; the status is 2.
+fn status_and_passed_on_bytes(alloc: Global, call: CommandWithInput, flushes: u32) -> (u8, usize) {
     let (line, file, bytes) = call;
     let Some(_path) = line.file() else {
         return (2, 0);
     };
-    let (mut printed, mut reported) = (Count::new(512, flushes), Count::new(512, 1));
-    let mut out = TrackedWriter::new(Counter {
+    let (mut printed, mut reported) = (WriterCounts::new(512, flushes), WriterCounts::new(512, 1));
+    let mut out = TrackedWriter::new(CountingWriter {
         count: &mut printed,
     });
-    let mut err = TrackedWriter::new(Counter {
+    let mut err = TrackedWriter::new(CountingWriter {
         count: &mut reported,
     });
-    let mut input = TrackedReader::new(Source {
+    let mut input = TrackedReader::new(FailingReader {
         bytes,
         most: 1,
         calls_left: 16,
@@ -65,27 +65,38 @@ fn outcome_of(alloc: Global, call: Call, flushes: u32) -> (u8, usize) {
     (status, printed.passed_on)
 }
 
-/// Calls, each with the number of flushes that succeed, the expected status, and the expected
+/// Commands, each with the number of flushes that succeed, the expected status, and the expected
 /// number of bytes that the writer passes on.
-static CALLS: &[(Call, u32, (u8, usize))] = &[
+static COMMAND_CASES: &[(CommandWithInput, u32, (u8, usize))] = &[
     (
-        (CHECK, b"", b""),
+        (CHECK_COMMAND, b"", b""),
         1,
         (1, "0:0: Syntax: expected MODULE\n".len()),
     ),
-    ((CHECK, b"", b""), 0, (4, 0)),
-    ((RUN, READS, b"-17"), 1, (0, " -17".len())),
-    ((RUN, READS, b""), 1, (1, 0)),
-    ((RUN, READS, b"x"), 1, (4, 0)),
-    ((RENAME, READS, b""), 1, (0, READS.len() + 6)),
-    ((RENAME_WORD, READS, b""), 1, (1, 0)),
+    ((CHECK_COMMAND, b"", b""), 0, (4, 0)),
+    (
+        (RUN_COMMAND, READ_AND_WRITE_MODULE, b"-17"),
+        1,
+        (0, " -17".len()),
+    ),
+    ((RUN_COMMAND, READ_AND_WRITE_MODULE, b""), 1, (1, 0)),
+    ((RUN_COMMAND, READ_AND_WRITE_MODULE, b"x"), 1, (4, 0)),
+    (
+        (RENAME_X_TO_ABC, READ_AND_WRITE_MODULE, b""),
+        1,
+        (0, READ_AND_WRITE_MODULE.len() + 6),
+    ),
+    ((RENAME_AT_KEYWORD, READ_AND_WRITE_MODULE, b""), 1, (1, 0)),
 ];
 
-/// Returns the index, from 0, of the first call that doesn't have its expected outcome. Returns
-/// None if all calls have their expected outcomes.
-fn first_wrong_call(alloc: Global, calls: &[(Call, u32, (u8, usize))]) -> Option<usize> {
+/// Returns the index, from 0, of the first command without its expected outcome. Returns None if
+/// all commands have their expected outcomes.
+fn first_failing_command(
+    alloc: Global,
+    calls: &[(CommandWithInput, u32, (u8, usize))],
+) -> Option<usize> {
     for i in 0..calls.len() {
-        if outcome_of(alloc, calls[i].0, calls[i].1) != calls[i].2 {
+        if status_and_passed_on_bytes(alloc, calls[i].0, calls[i].1) != calls[i].2 {
             return Some(i);
         }
     }
@@ -94,7 +105,7 @@ fn first_wrong_call(alloc: Global, calls: &[(Call, u32, (u8, usize))]) -> Option
 
 #[test]
 fn commands_print_what_they_flush(rt: HostRuntime) {
-    let number = first_wrong_call(rt.alloc(), CALLS);
+    let number = first_failing_command(rt.alloc(), COMMAND_CASES);
     assert!(rt; number.is_none(), "call {number:?}");
 }
 
@@ -114,9 +125,9 @@ fn command_in_words(line: &CommandLine<'_>) -> &'static str {
     }
 }
 
-/// Returns the command that the arguments `words` spell, in words (`command_in_words`). Returns `refused` if
-/// the words are refused, and `out of memory` if an allocation fails.
-fn line_of(alloc: Global, words: &[&str]) -> &'static str {
+/// Parses these arguments, and returns the resulting command as `command_in_words` does. Returns
+/// `refused` if the arguments are refused, and `out of memory` if an allocation fails.
+fn parsed_command_in_words(alloc: Global, words: &[&str]) -> &'static str {
     match command(alloc, words) {
         Ok(line) => command_in_words(&line),
         Err(CommandFault::Refused(_error)) => "refused",
@@ -124,7 +135,7 @@ fn line_of(alloc: Global, words: &[&str]) -> &'static str {
     }
 }
 
-static LINES: &[(&[&str], &str)] = &[
+static COMMAND_LINE_CASES: &[(&[&str], &str)] = &[
     (&["ob0", "serve"], "serve"),
     (&["ob0", "run", "m"], "run m"),
     (&["ob0", "check", "m"], "check"),
@@ -133,8 +144,12 @@ static LINES: &[(&[&str], &str)] = &[
 ];
 
 #[test]
-fn command_lines_are_read(rt: HostRuntime) {
-    for row in LINES {
-        assert!(rt; line_of(rt.alloc(), row.0) == row.1, "{}", row.1);
+fn command_lines_are_parsed(rt: HostRuntime) {
+    for row in COMMAND_LINE_CASES {
+        assert!(rt;
+            parsed_command_in_words(rt.alloc(), row.0) == row.1,
+            "{}",
+            row.1
+        );
     }
 }

@@ -6,13 +6,13 @@ use std::io::{self, Read, Write};
 /// A reader of `bytes`, which returns at most `most` bytes in each call. The next `calls_left`
 /// calls succeed, and later calls fail.
 #[derive(Drop)]
-pub struct Source<'a> {
+pub struct FailingReader<'a> {
     pub bytes: &'a [u8],
     pub most: usize,
     pub calls_left: u32,
 }
 
-impl<'a> Read for Source<'a> {
+impl<'a> Read for FailingReader<'a> {
     fn read(&mut self, buf: &mut [u8]) -> io::Result<usize> {
         if self.calls_left == 0 {
             return Err(io::ErrorKind::Other.into());
@@ -23,20 +23,20 @@ impl<'a> Read for Source<'a> {
     }
 }
 
-/// The counts of a `Counter`: the written bytes, how many of them it has passed on, how many more
-/// bytes it accepts, and how many more flushes succeed.
+/// The counts of a `CountingWriter`: the written bytes, how many of them it has passed on, how many
+/// more bytes it accepts, and how many more flushes succeed.
 #[derive(Clone, Copy)]
-pub struct Count {
+pub struct WriterCounts {
     pub written: usize,
     pub passed_on: usize,
     pub capacity: usize,
     pub flushes_left: u32,
 }
 
-impl Count {
+impl WriterCounts {
     /// Returns the counts before anything is written.
-    pub fn new(capacity: usize, flushes_left: u32) -> Count {
-        Count {
+    pub fn new(capacity: usize, flushes_left: u32) -> WriterCounts {
+        WriterCounts {
             written: 0,
             passed_on: 0,
             capacity,
@@ -48,11 +48,11 @@ impl Count {
 /// A writer that stores nothing: it only counts the written bytes, in `count`. A write fails if no
 /// more bytes are accepted. Written bytes count as passed on once the writer is flushed.
 #[derive(Drop)]
-pub struct Counter<'a> {
-    pub count: &'a mut Count,
+pub struct CountingWriter<'a> {
+    pub count: &'a mut WriterCounts,
 }
 
-impl<'a> Write for Counter<'a> {
+impl<'a> Write for CountingWriter<'a> {
     fn write(&mut self, buf: &[u8]) -> io::Result<usize> {
         if self.count.capacity == 0 {
             return Err(io::ErrorKind::Other.into());

@@ -1,5 +1,5 @@
-//! Tests `serve`, the commands and command lines. The tests are examples with known answers, and
-//! with failing devices. Other tests check the output of the built program from end to end.
+//! Tests `serve`, the commands and command lines. The tests are examples with known answers, some
+//! of them with failing devices. Other tests check the output of the built program from end to end.
 #![tactic(auto)]
 
 #[cfg(test)]

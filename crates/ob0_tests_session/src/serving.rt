@@ -1,13 +1,13 @@
-//! Tests conversations with failing devices, and with a writer that passes bytes on only when the
-//! writer is flushed.
+//! Tests conversations with failing devices, and with a writer that passes bytes on only when it is
+//! flushed.
 
-use crate::devices::{Count, Counter, Source};
+use crate::devices::{CountingWriter, FailingReader, WriterCounts};
 use ob0_session::{DeviceFault, InputDevice, Noted, OutputDevice, ServeFault, serve, status_of};
 use std::alloc::Global;
 use std::process::Abort;
 
 /// A conversation from `initialize` to `exit`.
-const INPUT: &[u8] = b"Content-Length: 75\r\n\r\n\
+const WHOLE_CONVERSATION: &[u8] = b"Content-Length: 75\r\n\r\n\
     {\"id\":1,\"jsonrpc\":\"2.0\",\"method\":\"initialize\",\"params\":{\"capabilities\":{}}}\
     Content-Length: 171\r\n\r\n{\"jsonrpc\":\"2.0\",\"method\":\"textDocument/didOpen\",\
     \"params\":{\"textDocument\":{\"languageId\":\"oberon-0\",\
@@ -15,15 +15,15 @@ const INPUT: &[u8] = b"Content-Length: 75\r\n\r\n\
     Content-Length: 44\r\n\r\n{\"id\":2,\"jsonrpc\":\"2.0\",\"method\":\"shutdown\"}\
     Content-Length: 33\r\n\r\n{\"jsonrpc\":\"2.0\",\"method\":\"exit\"}";
 
-/// The first message of `INPUT`, followed by a bad head.
-const BAD_HEAD: &[u8] = b"Content-Length: 75\r\n\r\n\
+/// The first message of `WHOLE_CONVERSATION`, followed by a bad head.
+const CONVERSATION_WITH_BAD_HEAD: &[u8] = b"Content-Length: 75\r\n\r\n\
     {\"id\":1,\"jsonrpc\":\"2.0\",\"method\":\"initialize\",\"params\":{\"capabilities\":{}}}\
     Content-Length: x\r\n\r\n";
 
-/// A conversation and its expected result. The input is the first `len` bytes of `bytes`, and at
-/// most `reads` reads of at most `given` bytes each succeed. The writer accepts `capacity` bytes.
-/// The conversation needs exactly `flushes` flushes.
-struct ServeEnd {
+/// A conversation and its expected result. The input is the first `len` bytes of `bytes`. The first
+/// `reads` reads succeed, and each returns at most `given` bytes. The writer accepts `capacity`
+/// bytes. The conversation needs exactly `flushes` flushes.
+struct ConversationCase {
     bytes: &'static [u8],
     len: usize,
     given: usize,
@@ -37,20 +37,20 @@ struct ServeEnd {
 /// RESULT;`.
 macro_rules! ends {
     ($($bytes:ident to $len:expr, $given:expr, $reads:expr; $capacity:expr, $flushes:expr => $result:expr;)*) => {
-        &[$(ServeEnd { bytes: $bytes, len: $len, given: $given, reads: $reads, capacity: $capacity, flushes: $flushes,
+        &[$(ConversationCase { bytes: $bytes, len: $len, given: $given, reads: $reads, capacity: $capacity, flushes: $flushes,
             result: $result }),*]
     };
 }
 
-static ENDS: &[ServeEnd] = ends![
-    INPUT to 412, 8192, u32::MAX; 512, 1 => Ok(0);
-    INPUT to 412, 40, u32::MAX; 512, 11 => Ok(0);
-    INPUT to 291, 40, u32::MAX; 512, 8 => Ok(1);
-    INPUT to 300, 8192, u32::MAX; 512, 1 => Err(ServeFault::Truncated);
-    INPUT to 412, 40, 5; 512, 5 => Err(ServeFault::Read);
-    INPUT to 412, 8192, u32::MAX; 300, 1 => Err(ServeFault::Write);
-    BAD_HEAD to 118, 8192, u32::MAX; 512, 1 => Err(ServeFault::BadHead);
-    BAD_HEAD to 118, 40, u32::MAX; 512, 3 => Err(ServeFault::BadHead);
+static CONVERSATION_CASES: &[ConversationCase] = ends![
+    WHOLE_CONVERSATION to 412, 8192, u32::MAX; 512, 1 => Ok(0);
+    WHOLE_CONVERSATION to 412, 40, u32::MAX; 512, 11 => Ok(0);
+    WHOLE_CONVERSATION to 291, 40, u32::MAX; 512, 8 => Ok(1);
+    WHOLE_CONVERSATION to 300, 8192, u32::MAX; 512, 1 => Err(ServeFault::Truncated);
+    WHOLE_CONVERSATION to 412, 40, 5; 512, 5 => Err(ServeFault::Read);
+    WHOLE_CONVERSATION to 412, 8192, u32::MAX; 300, 1 => Err(ServeFault::Write);
+    CONVERSATION_WITH_BAD_HEAD to 118, 8192, u32::MAX; 512, 1 => Err(ServeFault::BadHead);
+    CONVERSATION_WITH_BAD_HEAD to 118, 40, u32::MAX; 512, 3 => Err(ServeFault::BadHead);
 ];
 
 /// The end of a conversation: the result of `serve`, whether a read or a write failed, and whether
@@ -65,13 +65,17 @@ struct ConversationEnd {
 
 /// Calls `serve` for this conversation, with a writer that has these counts, and returns how the
 /// conversation ended.
-fn converse(alloc: Global, end: &ServeEnd, count: &mut Count) -> ConversationEnd {
-    let mut reader = Noted::new(Source {
+fn serve_with_failing_devices(
+    alloc: Global,
+    end: &ConversationCase,
+    count: &mut WriterCounts,
+) -> ConversationEnd {
+    let mut reader = Noted::new(FailingReader {
         bytes: &end.bytes[..end.len.min(end.bytes.len())],
         most: end.given,
         calls_left: end.reads,
     });
-    let mut writer = Noted::new(Counter { count });
+    let mut writer = Noted::new(CountingWriter { count });
     let result = serve(alloc, &mut reader, &mut writer);
     ConversationEnd {
         result,
@@ -93,9 +97,9 @@ fn result_matches_failures(found: ConversationEnd) -> bool {
 /// Returns whether a conversation ends as expected when only this many flushes succeed. If a needed
 /// flush fails, the result must be `Write`. Otherwise it must be the expected result, and all
 /// written bytes must be passed on.
-fn ends_flushed(alloc: Global, end: &ServeEnd, flushes: u32) -> bool {
-    let mut count = Count::new(end.capacity, flushes);
-    let found = converse(alloc, end, &mut count);
+fn ends_as_expected_with_flushes(alloc: Global, end: &ConversationCase, flushes: u32) -> bool {
+    let mut count = WriterCounts::new(end.capacity, flushes);
+    let found = serve_with_failing_devices(alloc, end, &mut count);
     if flushes < end.flushes {
         return found.result == Err(ServeFault::Write);
     }
@@ -104,20 +108,20 @@ fn ends_flushed(alloc: Global, end: &ServeEnd, flushes: u32) -> bool {
 
 /// Returns whether a conversation needs exactly `end.flushes` flushes. With fewer flushes it must
 /// end with `Write`, and with this number it must end as expected.
-fn needs_each_flush(alloc: Global, end: &ServeEnd) -> bool {
+fn needs_expected_flushes(alloc: Global, end: &ConversationCase) -> bool {
     for flushes in 0..end.flushes {
-        if !ends_flushed(alloc, end, flushes) {
+        if !ends_as_expected_with_flushes(alloc, end, flushes) {
             return false;
         }
     }
-    ends_flushed(alloc, end, end.flushes)
+    ends_as_expected_with_flushes(alloc, end, end.flushes)
 }
 
 /// Returns the index, from 0, of the first conversation that doesn't end as expected. Returns None
 /// if all do.
-fn first_wrong_conversation(alloc: Global, ends: &[ServeEnd]) -> Option<usize> {
+fn first_failing_conversation(alloc: Global, ends: &[ConversationCase]) -> Option<usize> {
     for i in 0..ends.len() {
-        if !needs_each_flush(alloc, &ends[i]) {
+        if !needs_expected_flushes(alloc, &ends[i]) {
             return Some(i);
         }
     }
@@ -126,13 +130,13 @@ fn first_wrong_conversation(alloc: Global, ends: &[ServeEnd]) -> Option<usize> {
 
 #[test]
 fn output_is_flushed_after_each_piece(rt: HostRuntime) {
-    let number = first_wrong_conversation(rt.alloc(), ENDS);
+    let number = first_failing_conversation(rt.alloc(), CONVERSATION_CASES);
     assert!(rt; number.is_none(), "conversation {number:?}");
 }
 
 /// Returns whether `Noted` passes a reader's bytes on unchanged, and records the reader's failure.
 fn reader_failure_is_recorded() -> bool {
-    let mut reader = Noted::new(Source {
+    let mut reader = Noted::new(FailingReader {
         bytes: b"ab",
         most: 1,
         calls_left: 1,
@@ -144,8 +148,8 @@ fn reader_failure_is_recorded() -> bool {
 
 /// Returns whether `Noted` passes a writer's bytes on unchanged, and records the writer's failure.
 fn writer_failure_is_recorded() -> bool {
-    let mut count = Count::new(1, 1);
-    let mut writer = Noted::new(Counter { count: &mut count });
+    let mut count = WriterCounts::new(1, 1);
+    let mut writer = Noted::new(CountingWriter { count: &mut count });
     let is_written = writer.write(b"ab") == Ok(1) && writer.flush().is_ok() && !writer.failed();
     is_written && writer.write(b"b") == Err(DeviceFault) && writer.failed()
 }
@@ -156,7 +160,7 @@ fn device_failures_are_recorded(rt: HostRuntime) {
 }
 
 /// The faults that end a conversation, with the status of the program for each.
-static STATUSES: &[(ServeFault, u8)] = &[
+static FAULT_STATUSES: &[(ServeFault, u8)] = &[
     (ServeFault::BadHead, 3),
     (ServeFault::Truncated, 3),
     (ServeFault::Read, 4),
@@ -167,7 +171,7 @@ static STATUSES: &[(ServeFault, u8)] = &[
 
 #[test]
 fn each_fault_has_its_status(rt: HostRuntime) {
-    for row in STATUSES {
+    for row in FAULT_STATUSES {
         assert!(rt; status_of(row.0) == row.1, "{:?}", row.0);
     }
 }

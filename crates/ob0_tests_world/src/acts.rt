@@ -1,5 +1,5 @@
-//! Defines short forms of events and of reports, for the tests' tables. Builds the events from their
-//! short forms, and makes them happen in a world.
+//! Defines short forms of events and of reports, for the tests' tables. Builds the events from
+//! their short forms, and makes them happen in a world.
 //!
 //! If an allocation fails while a story's list of events is built, the list is built a second time.
 //! The second time succeeds, because only one allocation of a test's run fails.
@@ -11,9 +11,9 @@ use std::alloc::{AllocError, Global};
 /// The short form of an event of a world. The event is about the document `u`, unless it is
 /// `Other`.
 #[derive(Clone, Copy)]
-pub enum Act {
+pub enum ShortEvent {
     /// This event, but about another document, `v`.
-    Other(&'static Act),
+    Other(&'static ShortEvent),
     Open(&'static str),
     /// A change notification without changes.
     NoChange,
@@ -56,7 +56,7 @@ pub struct Story {
     pub name: &'static str,
     pub unit: ob0_text::Unit,
     /// Each event with its expected report.
-    pub moments: &'static [(Act, ShortReport)],
+    pub moments: &'static [(ShortEvent, ShortReport)],
     /// The text before and the text after each applied edit, in order.
     pub applied: &'static [(&'static str, &'static str)],
     /// The version and text of each published list of diagnostics, in order, and whether the list
@@ -92,7 +92,7 @@ fn at(line: u64, character: u64) -> Position {
 }
 
 /// Returns a list of one change, which replaces a range by a text.
-fn changes(alloc: Global, range: Range, text: &str) -> Result<Vec<Change>, AllocError> {
+fn list_of_one_change(alloc: Global, range: Range, text: &str) -> Result<Vec<Change>, AllocError> {
     let text = String::from_str(alloc, text)?;
     let mut changes = Vec::new(alloc);
     let range = Some(range);
@@ -106,15 +106,15 @@ fn rename_ask(alloc: Global, position: Position, name: &str) -> Result<Ask, Allo
     Ok(Ask::Rename { position, name })
 }
 
-/// Returns the request for edits that an act describes. For any act other than a rename or an
-/// inlining, returns the request for a formatting.
-fn ask_of(alloc: Global, act: Act) -> Result<Ask, AllocError> {
+/// Returns the request for edits whose short form is `act`. If `act` is neither a rename nor an
+/// inlining, returns a request for formatting.
+fn ask_of(alloc: Global, act: ShortEvent) -> Result<Ask, AllocError> {
     match act {
-        Act::Rename(line, character, name) => rename_ask(alloc, at(line, character), name),
-        Act::InlineHere(line, character) => Ok(Ask::InlineHere {
+        ShortEvent::Rename(line, character, name) => rename_ask(alloc, at(line, character), name),
+        ShortEvent::InlineHere(line, character) => Ok(Ask::InlineHere {
             position: at(line, character),
         }),
-        Act::InlineAll(line, character) => Ok(Ask::InlineAll {
+        ShortEvent::InlineAll(line, character) => Ok(Ask::InlineAll {
             position: at(line, character),
         }),
         _ => Ok(Ask::Format {
@@ -123,24 +123,24 @@ fn ask_of(alloc: Global, act: Act) -> Result<Ask, AllocError> {
     }
 }
 
-/// Returns the event that an act describes, about the document with this uri. For any act other
-/// than an opening, a change or a closing, the event is a request for edits.
-fn event_about(alloc: Global, uri: String, act: Act) -> Result<Event, AllocError> {
+/// Returns the event whose short form is `act`, about the document with this uri. If `act` isn't an
+/// opening, a change or a closing, the event is a request for edits.
+fn event_about(alloc: Global, uri: String, act: ShortEvent) -> Result<Event, AllocError> {
     match act {
-        Act::Open(text) => {
+        ShortEvent::Open(text) => {
             let text = String::from_str(alloc, text)?;
             Ok(Event::OpenDoc { uri, text })
         }
-        Act::NoChange => {
+        ShortEvent::NoChange => {
             let changes = Vec::new(alloc);
             Ok(Event::ChangeDoc { uri, changes })
         }
-        Act::Write(line, start, end, text) => {
+        ShortEvent::Write(line, start, end, text) => {
             let (start, end) = (at(line, start), at(line, end));
-            let changes = changes(alloc, Range { start, end }, text)?;
+            let changes = list_of_one_change(alloc, Range { start, end }, text)?;
             Ok(Event::ChangeDoc { uri, changes })
         }
-        Act::Close => Ok(Event::CloseDoc { uri }),
+        ShortEvent::Close => Ok(Event::CloseDoc { uri }),
         act => {
             let ask = ask_of(alloc, act)?;
             Ok(Event::Ask { uri, ask })
@@ -148,20 +148,23 @@ fn event_about(alloc: Global, uri: String, act: Act) -> Result<Event, AllocError
     }
 }
 
-/// Returns the event that an act describes.
-fn event_of(alloc: Global, act: Act) -> Result<Event, AllocError> {
+/// Returns the event whose short form is `act`.
+fn event_of(alloc: Global, act: ShortEvent) -> Result<Event, AllocError> {
     match act {
-        Act::Serve => Ok(Event::Serve),
-        Act::Take => Ok(Event::Take),
-        Act::Apply(k) => Ok(Event::Apply { k }),
-        Act::Discard(k) => Ok(Event::Discard { k }),
-        Act::Other(act) => event_about(alloc, String::from_str(alloc, "v")?, *act),
+        ShortEvent::Serve => Ok(Event::Serve),
+        ShortEvent::Take => Ok(Event::Take),
+        ShortEvent::Apply(k) => Ok(Event::Apply { k }),
+        ShortEvent::Discard(k) => Ok(Event::Discard { k }),
+        ShortEvent::Other(act) => event_about(alloc, String::from_str(alloc, "v")?, *act),
         act => event_about(alloc, String::from_str(alloc, "u")?, act),
     }
 }
 
-/// Returns the events that these acts describe.
-fn events_of(alloc: Global, moments: &[(Act, ShortReport)]) -> Result<Vec<Event>, AllocError> {
+/// Returns the events of these moments, each of which has the short form of an event.
+fn events_of(
+    alloc: Global,
+    moments: &[(ShortEvent, ShortReport)],
+) -> Result<Vec<Event>, AllocError> {
     let mut events = Vec::new(alloc);
     for moment in moments {
         events.push(event_of(alloc, moment.0)?)?;
@@ -194,8 +197,9 @@ fn short_report_of(seen: &Seen) -> ShortReport {
 }
 
 /// Makes an event happen in a world. Returns whether the report is the expected one (`wanted`), or
-/// why the event failed.
-pub fn make_event<T: TextStore>(
+/// why the event failed. After more than 1,000,000 steps, no event happens and the result is
+/// `Unexpected`.
+pub fn make_event_happen<T: TextStore>(
     world: &mut World<T>,
     event: &Event,
     wanted: ShortReport,

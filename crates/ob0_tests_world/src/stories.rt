@@ -1,63 +1,65 @@
 //! Lists the stories. A story is a list of events of an editor and a server, with the expected
-//! results. The events are renames, inlinings of constants, formattings, and discarded answers,
-//! among others.
+//! reports and results. Among the events are renames, inlinings of constants, formattings and
+//! discarded answers.
 
-use crate::acts::Act::*;
+use crate::acts::ShortEvent::*;
 use crate::acts::ShortReport::*;
-use crate::acts::{Act, ShortReport, Story};
+use crate::acts::{ShortEvent, ShortReport, Story};
 use ob0_text::Unit::{Utf8, Utf16};
 
-const COUNTS: &str = "MODULE M;\nVAR n: INTEGER;\nPROCEDURE P; BEGIN Write(n) END P;\n\
+const COUNTDOWN_MODULE: &str = "MODULE M;\nVAR n: INTEGER;\nPROCEDURE P; BEGIN Write(n) END P;\n\
     BEGIN Read(n); WHILE n > 0 DO n := n - 1; WriteLn END; P END M.\n";
 
-const RENAMED: &str = "MODULE M;\nVAR k: INTEGER;\nPROCEDURE P; BEGIN Write(k) END P;\n\
+const COUNTDOWN_RENAMED: &str = "MODULE M;\nVAR k: INTEGER;\nPROCEDURE P; BEGIN Write(k) END P;\n\
     BEGIN Read(k); WHILE k > 0 DO k := k - 1; WriteLn END; P END M.\n";
 
-const COUNTS_FORMATTED: &str =
+const COUNTDOWN_FORMATTED: &str =
     "MODULE M;\nVAR\n  n: INTEGER;\n  PROCEDURE P;\n  BEGIN\n    Write(n)\n  END P;\n\
     BEGIN\n  Read(n);\n  WHILE n > 0 DO\n    n := n - 1;\n    WriteLn\n  END;\n  P\nEND M.\n";
 
 /// An unformatted module with comments.
-const CROWDED: &str =
+const UNFORMATTED_WITH_COMMENTS: &str =
     "MODULE M;VAR x:INTEGER;BEGIN x:=-1;IF x<0 THEN Write(x)(* a (* b *) c *)END;WriteLn END M.(* end *)";
 
-const CROWDED_FORMATTED: &str =
+const FORMATTED_WITH_COMMENTS: &str =
     "MODULE M;\nVAR\n  x: INTEGER;\nBEGIN\n  x := -1;\n  IF x < 0 THEN\n    \
     Write(x) (* a (* b *) c *)\n  END;\n  WriteLn\nEND M. (* end *)\n";
 
 /// This text isn't a module: the full stop is missing.
 const FAULTY_TEXT: &str = "MODULE M; END M";
 
-const NAME: Act = Rename(1, 4, "k");
+const RENAME_N_TO_K: ShortEvent = Rename(1, 4, "k");
 
-const LEAST: &str =
+const CONSTANT_TO_INLINE: &str =
     "MODULE M;\nCONST c = -2147483647 - 1;\nVAR x: INTEGER;\nBEGIN x := 0 + c; Write(x) END M.\n";
 
-const INLINED_HERE: &str = "MODULE M;\nCONST c = -2147483647 - 1;\nVAR x: INTEGER;\n\
+const CONSTANT_INLINED_HERE: &str = "MODULE M;\nCONST c = -2147483647 - 1;\nVAR x: INTEGER;\n\
     BEGIN x := 0 + (-2147483647 - 1); Write(x) END M.\n";
 
-const INLINED_EVERYWHERE: &str =
+const CONSTANT_INLINED_EVERYWHERE: &str =
     "MODULE M;\nCONST \nVAR x: INTEGER;\nBEGIN x := 0 + (-2147483647 - 1); Write(x) END M.\n";
 
 /// In this module, inlining the constant `on` is refused: its value `TRUE` would be bound to the
 /// variable `TRUE`.
-const SHADOWED: &str =
+const CONSTANT_OF_SHADOWED_TRUE: &str =
     "MODULE M;\nCONST on = TRUE;\nPROCEDURE P; VAR TRUE, b: BOOLEAN; BEGIN b := on END P;\nBEGIN P END M.\n";
 
-const WIDE: &str = "MODULE M;\nVAR (* 😀 *) n: INTEGER;\nBEGIN (* 😀 *) n := 1 END M.\n";
+const EMOJI_TEXT: &str = "MODULE M;\nVAR (* 😀 *) n: INTEGER;\nBEGIN (* 😀 *) n := 1 END M.\n";
 
-const WIDE_RENAMED: &str = "MODULE M;\nVAR (* 😀 *) k: INTEGER;\nBEGIN (* 😀 *) k := 1 END M.\n";
+const EMOJI_TEXT_RENAMED: &str =
+    "MODULE M;\nVAR (* 😀 *) k: INTEGER;\nBEGIN (* 😀 *) k := 1 END M.\n";
 
-/// The text `WIDE` with `k` written over the declared name, so that `n` is undeclared.
-const WIDE_WRITTEN: &str = "MODULE M;\nVAR (* 😀 *) k: INTEGER;\nBEGIN (* 😀 *) n := 1 END M.\n";
+/// The text `EMOJI_TEXT` with `k` written over the declared name, so that `n` is undeclared.
+const EMOJI_TEXT_OVERWRITTEN: &str =
+    "MODULE M;\nVAR (* 😀 *) k: INTEGER;\nBEGIN (* 😀 *) n := 1 END M.\n";
 
-/// Builds a list of moments. A moment is an act with its expected report, written `ACT => REPORT`.
-/// Moments are separated by commas.
+/// Builds a list of moments. A moment is an event with its expected report, both in their short
+/// forms, written `EVENT => REPORT`. Moments are separated by commas.
 macro_rules! moments {
     ($($act:expr => $sight:expr),*) => { &[$(($act, $sight)),*] };
 }
 
-/// Builds a list of stories, each written `NAME, UNIT, MOMENTS, [BEFORE => AFTER of each edit],
+/// Builds a list of stories, each written `TITLE, UNIT, MOMENTS, [BEFORE => AFTER of each edit],
 /// [VERSION, TEXT => EMPTY of each publication];`.
 macro_rules! stories {
     ($($name:expr, $unit:expr, $moments:expr, [$($before:expr => $after:expr),*],
@@ -67,14 +69,14 @@ macro_rules! stories {
     };
 }
 
-const NAMED: &[(Act, ShortReport)] = moments![
-    Open(COUNTS) => Sent, NAME => Sent, Serve => Served(1), Serve => Served(1), Take => Published(true),
+const RENAME_MOMENTS: &[(ShortEvent, ShortReport)] = moments![
+    Open(COUNTDOWN_MODULE) => Sent, RENAME_N_TO_K => Sent, Serve => Served(1), Serve => Served(1), Take => Published(true),
     Take => Answered(1, true), Apply(1) => Applied(1), Apply(1) => Nothing, Serve => Served(1),
     Take => Published(true)
 ];
 
-const REOPENED: &[(Act, ShortReport)] = moments![
-    Open(COUNTS) => Sent, NAME => Sent, Close => Sent, Open(FAULTY_TEXT) => Sent, Serve => Served(1),
+const REOPENING_MOMENTS: &[(ShortEvent, ShortReport)] = moments![
+    Open(COUNTDOWN_MODULE) => Sent, RENAME_N_TO_K => Sent, Close => Sent, Open(FAULTY_TEXT) => Sent, Serve => Served(1),
     Serve => Served(1), Serve => Served(1), Serve => Served(1), Take => Published(true),
     Take => Answered(1, true), Take => Published(true), Take => Published(false), Apply(1) => Dropped(1),
     Apply(1) => Nothing
@@ -86,86 +88,86 @@ pub fn stories() -> &'static [Story] {
     STORIES
 }
 
-/// The stories. Two other tests also run the first story.
+/// All stories. Two tests run only the first one.
 static STORIES: &[Story] = stories![
-    "another name is applied", Utf16, NAMED,
-        [COUNTS => RENAMED], [1, COUNTS => true; 2, RENAMED => true];
+    "another name is applied", Utf16, RENAME_MOMENTS,
+        [COUNTDOWN_MODULE => COUNTDOWN_RENAMED], [1, COUNTDOWN_MODULE => true; 2, COUNTDOWN_RENAMED => true];
     "a layout is applied", Utf16,
-        moments![Open(COUNTS) => Sent, Format => Sent, Serve => Served(1), Serve => Served(1),
+        moments![Open(COUNTDOWN_MODULE) => Sent, Format => Sent, Serve => Served(1), Serve => Served(1),
             Take => Published(true), Take => Answered(1, true), Apply(1) => Applied(1)],
-        [COUNTS => COUNTS_FORMATTED], [1, COUNTS => true];
+        [COUNTDOWN_MODULE => COUNTDOWN_FORMATTED], [1, COUNTDOWN_MODULE => true];
     "a layout is applied, and another has nothing to change", Utf16,
-        moments![Open(CROWDED) => Sent, Format => Sent, Serve => Served(1), Serve => Served(1),
+        moments![Open(UNFORMATTED_WITH_COMMENTS) => Sent, Format => Sent, Serve => Served(1), Serve => Served(1),
             Take => Published(true), Take => Answered(1, true), Apply(1) => Applied(1), Format => Sent,
             Serve => Served(1), Serve => Served(1), Take => Published(true), Take => Answered(2, false)],
-        [CROWDED => CROWDED_FORMATTED], [1, CROWDED => true; 2, CROWDED_FORMATTED => true];
-    "an answer about an earlier opening is dropped", Utf16, REOPENED,
-        [], [1, COUNTS => true; 1, FAULTY_TEXT => false];
+        [UNFORMATTED_WITH_COMMENTS => FORMATTED_WITH_COMMENTS], [1, UNFORMATTED_WITH_COMMENTS => true; 2, FORMATTED_WITH_COMMENTS => true];
+    "an answer about an earlier opening is dropped", Utf16, REOPENING_MOMENTS,
+        [], [1, COUNTDOWN_MODULE => true; 1, FAULTY_TEXT => false];
     "a change with no changes raises the version, and the answer is dropped", Utf16,
-        moments![Open(COUNTS) => Sent, NAME => Sent, NoChange => Sent, Serve => Served(1), Serve => Served(1),
+        moments![Open(COUNTDOWN_MODULE) => Sent, RENAME_N_TO_K => Sent, NoChange => Sent, Serve => Served(1), Serve => Served(1),
             Serve => Served(1), Take => Published(true), Take => Answered(1, true), Take => Published(true),
             Apply(1) => Dropped(1)],
-        [], [1, COUNTS => true; 2, COUNTS => true];
+        [], [1, COUNTDOWN_MODULE => true; 2, COUNTDOWN_MODULE => true];
     "of two answers the second is dropped", Utf16,
-        moments![Open(COUNTS) => Sent, NAME => Sent, Format => Sent, Serve => Served(1), Serve => Served(1),
+        moments![Open(COUNTDOWN_MODULE) => Sent, RENAME_N_TO_K => Sent, Format => Sent, Serve => Served(1), Serve => Served(1),
             Serve => Served(1), Take => Published(true), Take => Answered(1, true), Take => Answered(2, true),
             Apply(1) => Applied(1), Apply(2) => Dropped(2)],
-        [COUNTS => RENAMED], [1, COUNTS => true];
+        [COUNTDOWN_MODULE => COUNTDOWN_RENAMED], [1, COUNTDOWN_MODULE => true];
     "nothing happens", Utf16,
         moments![Apply(7) => Nothing, Discard(7) => Nothing, Take => Nothing, Serve => Nothing,
-            NoChange => Nothing, Close => Nothing, NAME => Nothing, Open(COUNTS) => Sent,
+            NoChange => Nothing, Close => Nothing, RENAME_N_TO_K => Nothing, Open(COUNTDOWN_MODULE) => Sent,
             Open(FAULTY_TEXT) => Nothing, Serve => Served(1), Serve => Nothing],
-        [], [1, COUNTS => true];
+        [], [1, COUNTDOWN_MODULE => true];
     "an answer is discarded", Utf16,
-        moments![Open(COUNTS) => Sent, NAME => Sent, Serve => Served(1), Serve => Served(1),
+        moments![Open(COUNTDOWN_MODULE) => Sent, RENAME_N_TO_K => Sent, Serve => Served(1), Serve => Served(1),
             Take => Published(true), Take => Answered(1, true), Discard(1) => Dropped(1), Discard(1) => Nothing,
             Apply(1) => Nothing],
-        [], [1, COUNTS => true];
+        [], [1, COUNTDOWN_MODULE => true];
     "an answer about a closed document is dropped", Utf16,
-        moments![Open(COUNTS) => Sent, NAME => Sent, Serve => Served(1), Serve => Served(1),
+        moments![Open(COUNTDOWN_MODULE) => Sent, RENAME_N_TO_K => Sent, Serve => Served(1), Serve => Served(1),
             Take => Published(true), Take => Answered(1, true), Close => Sent, Apply(1) => Dropped(1),
             Serve => Served(1), Take => Published(true)],
-        [], [1, COUNTS => true];
+        [], [1, COUNTDOWN_MODULE => true];
     "of two documents each has its own text, version and diagnostics", Utf16,
-        moments![Open(COUNTS) => Sent, Other(&Open(FAULTY_TEXT)) => Sent, NAME => Sent, Other(&NAME) => Sent,
+        moments![Open(COUNTDOWN_MODULE) => Sent, Other(&Open(FAULTY_TEXT)) => Sent, RENAME_N_TO_K => Sent, Other(&RENAME_N_TO_K) => Sent,
             Serve => Served(1), Serve => Served(1), Serve => Served(1), Serve => Served(1),
             Take => Published(true), Take => PublishedOther(false), Take => Answered(1, true),
             Take => Answered(2, false), Other(&Close) => Sent, Apply(1) => Applied(1), Serve => Served(1),
             Serve => Served(1), Take => PublishedOther(true), Take => Published(true)],
-        [COUNTS => RENAMED], [1, COUNTS => true; 1, FAULTY_TEXT => false; 2, RENAMED => true];
+        [COUNTDOWN_MODULE => COUNTDOWN_RENAMED], [1, COUNTDOWN_MODULE => true; 1, FAULTY_TEXT => false; 2, COUNTDOWN_RENAMED => true];
     "a constant is inlined at one use", Utf16,
-        moments![Open(LEAST) => Sent, InlineHere(3, 15) => Sent, Serve => Served(1), Serve => Served(1),
+        moments![Open(CONSTANT_TO_INLINE) => Sent, InlineHere(3, 15) => Sent, Serve => Served(1), Serve => Served(1),
             Take => Published(true), Take => Answered(1, true), Apply(1) => Applied(1), Serve => Served(1),
             Take => Published(true)],
-        [LEAST => INLINED_HERE], [1, LEAST => true; 2, INLINED_HERE => true];
+        [CONSTANT_TO_INLINE => CONSTANT_INLINED_HERE], [1, CONSTANT_TO_INLINE => true; 2, CONSTANT_INLINED_HERE => true];
     "a constant is inlined everywhere, asked for at its declaration", Utf16,
-        moments![Open(LEAST) => Sent, InlineAll(1, 6) => Sent, Serve => Served(1), Serve => Served(1),
+        moments![Open(CONSTANT_TO_INLINE) => Sent, InlineAll(1, 6) => Sent, Serve => Served(1), Serve => Served(1),
             Take => Published(true), Take => Answered(1, true), Apply(1) => Applied(1), Serve => Served(1),
             Take => Published(true)],
-        [LEAST => INLINED_EVERYWHERE], [1, LEAST => true; 2, INLINED_EVERYWHERE => true];
+        [CONSTANT_TO_INLINE => CONSTANT_INLINED_EVERYWHERE], [1, CONSTANT_TO_INLINE => true; 2, CONSTANT_INLINED_EVERYWHERE => true];
     "a value whose name is another's is not written", Utf16,
-        moments![Open(SHADOWED) => Sent, InlineHere(2, 46) => Sent, InlineAll(2, 46) => Sent,
+        moments![Open(CONSTANT_OF_SHADOWED_TRUE) => Sent, InlineHere(2, 46) => Sent, InlineAll(2, 46) => Sent,
             Serve => Served(1), Serve => Served(1), Serve => Served(1), Take => Published(true),
             Take => Answered(1, false), Take => Answered(2, false)],
-        [], [1, SHADOWED => true];
+        [], [1, CONSTANT_OF_SHADOWED_TRUE => true];
     "another name, in UTF-16 units", Utf16,
-        moments![Open(WIDE) => Sent, Rename(1, 13, "k") => Sent, Serve => Served(1), Serve => Served(1),
+        moments![Open(EMOJI_TEXT) => Sent, Rename(1, 13, "k") => Sent, Serve => Served(1), Serve => Served(1),
             Take => Published(true), Take => Answered(1, true), Apply(1) => Applied(1)],
-        [WIDE => WIDE_RENAMED], [1, WIDE => true];
+        [EMOJI_TEXT => EMOJI_TEXT_RENAMED], [1, EMOJI_TEXT => true];
     "a change of a range, in UTF-16 units", Utf16,
-        moments![Open(WIDE) => Sent, Write(1, 13, 14, "k") => Sent, Serve => Served(1), Serve => Served(1),
+        moments![Open(EMOJI_TEXT) => Sent, Write(1, 13, 14, "k") => Sent, Serve => Served(1), Serve => Served(1),
             Take => Published(true), Take => Published(false)],
-        [], [1, WIDE => true; 2, WIDE_WRITTEN => false];
-    "another name is applied, where both count bytes", Utf8, NAMED,
-        [COUNTS => RENAMED], [1, COUNTS => true; 2, RENAMED => true];
-    "an answer about an earlier opening is dropped, where both count bytes", Utf8, REOPENED,
-        [], [1, COUNTS => true; 1, FAULTY_TEXT => false];
+        [], [1, EMOJI_TEXT => true; 2, EMOJI_TEXT_OVERWRITTEN => false];
+    "another name is applied, where both count bytes", Utf8, RENAME_MOMENTS,
+        [COUNTDOWN_MODULE => COUNTDOWN_RENAMED], [1, COUNTDOWN_MODULE => true; 2, COUNTDOWN_RENAMED => true];
+    "an answer about an earlier opening is dropped, where both count bytes", Utf8, REOPENING_MOMENTS,
+        [], [1, COUNTDOWN_MODULE => true; 1, FAULTY_TEXT => false];
     "another name, in bytes", Utf8,
-        moments![Open(WIDE) => Sent, Rename(1, 15, "k") => Sent, Serve => Served(1), Serve => Served(1),
+        moments![Open(EMOJI_TEXT) => Sent, Rename(1, 15, "k") => Sent, Serve => Served(1), Serve => Served(1),
             Take => Published(true), Take => Answered(1, true), Apply(1) => Applied(1)],
-        [WIDE => WIDE_RENAMED], [1, WIDE => true];
+        [EMOJI_TEXT => EMOJI_TEXT_RENAMED], [1, EMOJI_TEXT => true];
     "a change of a range, in bytes", Utf8,
-        moments![Open(WIDE) => Sent, Write(1, 15, 16, "k") => Sent, Serve => Served(1), Serve => Served(1),
+        moments![Open(EMOJI_TEXT) => Sent, Write(1, 15, 16, "k") => Sent, Serve => Served(1), Serve => Served(1),
             Take => Published(true), Take => Published(false)],
-        [], [1, WIDE => true; 2, WIDE_WRITTEN => false];
+        [], [1, EMOJI_TEXT => true; 2, EMOJI_TEXT_OVERWRITTEN => false];
 ];

@@ -1,15 +1,15 @@
 //! Tests whole lists of events, both step by step and by `play`, with positions in UTF-16 units and
 //! in bytes, and over both text stores.
 
-use crate::acts::{StepsResult, Story, events_with_retry, join_results, make_event};
+use crate::acts::{StepsResult, Story, events_with_retry, join_results, make_event_happen};
 use crate::stories::stories;
 use ob0_text::{Lines, TextStore, Unit, Whole};
 use ob0_world::{Applied, Event, Made, PlayFault, Played, World, WorldFault};
 use std::alloc::{AllocError, Global};
 use std::process::Abort;
 
-/// The way in which a story's events are made: one by one over a store of lines or of whole texts,
-/// or all by `play`.
+/// How a story's events are made to happen: one by one over a store of lines or of whole texts, or
+/// all by `play`.
 #[derive(Clone, Copy)]
 enum StoryMode {
     OverLines,
@@ -20,12 +20,12 @@ enum StoryMode {
 /// The result of a story, the number of events that happened, the number of applied edits, and the
 /// number of publications.
 #[derive(Clone, Copy)]
-struct Outcome(StepsResult, u64, usize, usize);
+struct StoryOutcome(StepsResult, u64, usize, usize);
 
 /// The outcome of a story that doesn't run as expected. Its numbers have no meaning.
-const UNEXPECTED_OUTCOME: Outcome = Outcome(StepsResult::Unexpected, 0, 0, 0);
+const UNEXPECTED_OUTCOME: StoryOutcome = StoryOutcome(StepsResult::Unexpected, 0, 0, 0);
 
-/// Returns whether the edits in `found` are the first ones in `wanted`, the expected edits, in
+/// Returns whether the edits in `found` are the first of the expected edits (`wanted`), in the same
 /// order.
 fn are_first_edits(found: &[Applied], wanted: &[(&str, &str)]) -> bool {
     if found.len() > wanted.len() {
@@ -40,8 +40,8 @@ fn are_first_edits(found: &[Applied], wanted: &[(&str, &str)]) -> bool {
     true
 }
 
-/// Returns whether the publications in `found` are the first ones in `wanted`, the expected
-/// publications, in order.
+/// Returns whether the publications in `found` are the first of the expected ones (`wanted`), in
+/// the same order.
 fn are_first_publications(found: &[Made], wanted: &[(i64, &str, bool)]) -> bool {
     if found.len() > wanted.len() {
         return false;
@@ -60,12 +60,17 @@ fn are_first_publications(found: &[Made], wanted: &[(i64, &str, bool)]) -> bool 
 
 /// Returns the outcome of a story's first events if their edits and publications are the first of
 /// the expected ones. Otherwise returns `UNEXPECTED_OUTCOME`.
-fn outcome_of(story: &Story, steps_result: StepsResult, steps: u64, played: &Played) -> Outcome {
+fn outcome_of_first_events(
+    story: &Story,
+    steps_result: StepsResult,
+    steps: u64,
+    played: &Played,
+) -> StoryOutcome {
     let are_edits = are_first_edits(played.applied.as_slice(), story.applied);
     if !are_edits || !are_first_publications(played.made.as_slice(), story.made) {
         return UNEXPECTED_OUTCOME;
     }
-    Outcome(steps_result, steps, played.applied.len(), played.made.len())
+    StoryOutcome(steps_result, steps, played.applied.len(), played.made.len())
 }
 
 /// Returns a world in which nothing has happened and positions are counted in this unit.
@@ -76,24 +81,31 @@ fn begin_world<T: TextStore>(alloc: Global, unit: Unit) -> Result<World<T>, Worl
     }
 }
 
-/// Makes the events of a story in a world, and returns the common result of all steps
+/// Makes the events of a story happen in a world, and returns the common result of all steps
 /// (`join_results`).
-fn make_events<T: TextStore>(world: &mut World<T>, story: &Story, events: &[Event]) -> StepsResult {
+fn make_events_happen<T: TextStore>(
+    world: &mut World<T>,
+    story: &Story,
+    events: &[Event],
+) -> StepsResult {
     let mut result = StepsResult::AsExpected;
     for i in 0..events.len().min(story.moments.len()) {
-        result = join_results(result, make_event(world, &events[i], story.moments[i].1));
+        result = join_results(
+            result,
+            make_event_happen(world, &events[i], story.moments[i].1),
+        );
     }
     result
 }
 
-/// Makes a story's events one by one over a store of type `T`, and returns the outcome.
-fn step_through<T: TextStore>(alloc: Global, story: &Story, events: &[Event]) -> Outcome {
+/// Makes a story's events happen one by one over a store of type `T`, and returns the outcome.
+fn step_through<T: TextStore>(alloc: Global, story: &Story, events: &[Event]) -> StoryOutcome {
     let Ok(mut world) = begin_world::<T>(alloc, story.unit) else {
-        return Outcome(StepsResult::Refused, 0, 0, 0);
+        return StoryOutcome(StepsResult::Refused, 0, 0, 0);
     };
-    let result = make_events(&mut world, story, events);
+    let result = make_events_happen(&mut world, story, events);
     let steps = world.steps();
-    outcome_of(story, result, steps, &world.into_played())
+    outcome_of_first_events(story, result, steps, &world.into_played())
 }
 
 /// Plays events by `play` over a store of lines, with positions in this unit.
@@ -105,16 +117,26 @@ fn play(alloc: Global, unit: Unit, events: &[Event]) -> Result<Played, PlayFault
 }
 
 /// Plays a story's events by `play`, and returns the outcome.
-fn play_through(alloc: Global, story: &Story, events: &[Event]) -> Outcome {
+fn play_through(alloc: Global, story: &Story, events: &[Event]) -> StoryOutcome {
     match play(alloc, story.unit, events) {
-        Ok(played) => outcome_of(story, StepsResult::AsExpected, events.len() as u64, &played),
-        Err(fault) => outcome_of(story, StepsResult::Refused, fault.steps, &fault.played),
+        Ok(played) => outcome_of_first_events(
+            story,
+            StepsResult::AsExpected,
+            events.len() as u64,
+            &played,
+        ),
+        Err(fault) => outcome_of_first_events(
+            story,
+            StepsResult::Refused,
+            fault.steps,
+            &fault.played,
+        ),
     }
 }
 
 /// Runs a story, and returns the outcome up to an event at which an allocation fails, or up to the
 /// story's end.
-fn run_story(alloc: Global, story: &Story, manner: StoryMode) -> Outcome {
+fn run_story(alloc: Global, story: &Story, manner: StoryMode) -> StoryOutcome {
     match events_with_retry(alloc, story) {
         Ok(events) => match manner {
             StoryMode::OverLines => step_through::<Lines>(alloc, story, events.as_slice()),
@@ -126,8 +148,8 @@ fn run_story(alloc: Global, story: &Story, manner: StoryMode) -> Outcome {
 }
 
 /// Returns whether a story runs to its end and has all the expected results.
-fn ends_as_written(alloc: Global, story: &Story, manner: StoryMode) -> bool {
-    let Outcome(result, steps, applied, made) = run_story(alloc, story, manner);
+fn completes_as_expected(alloc: Global, story: &Story, manner: StoryMode) -> bool {
+    let StoryOutcome(result, steps, applied, made) = run_story(alloc, story, manner);
     result == StepsResult::AsExpected
         && steps == story.moments.len() as u64
         && applied == story.applied.len()
@@ -140,13 +162,13 @@ fn runs_as_expected(alloc: Global, story: &Story, may_fail: bool) -> bool {
     if may_fail {
         return run_story(alloc, story, StoryMode::OverLines).0 != StepsResult::Unexpected;
     }
-    ends_as_written(alloc, story, StoryMode::OverLines)
-        && ends_as_written(alloc, story, StoryMode::OverWhole)
-        && ends_as_written(alloc, story, StoryMode::Played)
+    completes_as_expected(alloc, story, StoryMode::OverLines)
+        && completes_as_expected(alloc, story, StoryMode::OverWhole)
+        && completes_as_expected(alloc, story, StoryMode::Played)
 }
 
 /// Returns the name of the first story that doesn't run as expected, or the empty string if all do.
-fn first_wrong_story(alloc: Global, may_fail: bool) -> &'static str {
+fn first_failing_story(alloc: Global, may_fail: bool) -> &'static str {
     for story in stories() {
         if !runs_as_expected(alloc, story, may_fail) {
             return story.name;
@@ -156,20 +178,20 @@ fn first_wrong_story(alloc: Global, may_fail: bool) -> &'static str {
 }
 
 #[test]
-fn worlds_play_as_written(rt: HostRuntime) {
-    let name = first_wrong_story(rt.alloc(), false);
+fn stories_play_as_expected(rt: HostRuntime) {
+    let name = first_failing_story(rt.alloc(), false);
     assert!(rt; name.is_empty(), "{name}");
 }
 
 #[test]
 fn a_refused_event_ends_a_world(rt: HostRuntime) {
-    let name = first_wrong_story(rt.alloc(), true);
+    let name = first_failing_story(rt.alloc(), true);
     assert!(rt; name.is_empty(), "{name}");
 }
 
 /// Runs the first story and returns its outcome. If there is no story, returns
 /// `UNEXPECTED_OUTCOME`.
-fn run_first(alloc: Global, manner: StoryMode) -> Outcome {
+fn run_first_story(alloc: Global, manner: StoryMode) -> StoryOutcome {
     match stories().first() {
         Some(story) => run_story(alloc, story, manner),
         None => UNEXPECTED_OUTCOME,
@@ -181,14 +203,17 @@ fn run_first(alloc: Global, manner: StoryMode) -> Outcome {
 // failed.
 #[test]
 fn a_refused_event_leaves_what_was_played_before(rt: HostRuntime) {
-    let Outcome(result, steps, applied, made) = run_first(rt.alloc(), StoryMode::Played);
+    let StoryOutcome(result, steps, applied, made) = run_first_story(rt.alloc(), StoryMode::Played);
     assert!(rt; result != StepsResult::Unexpected);
     let _ = println!(rt; "played {steps} {applied} {made}");
 }
 
 #[test]
 fn a_refused_step_ends_what_was_played(rt: HostRuntime) {
-    let Outcome(result, steps, applied, made) = run_first(rt.alloc(), StoryMode::OverLines);
+    let StoryOutcome(result, steps, applied, made) = run_first_story(
+        rt.alloc(),
+        StoryMode::OverLines,
+    );
     assert!(rt; result != StepsResult::Unexpected);
     let _ = println!(rt; "played {steps} {applied} {made}");
 }

@@ -8,7 +8,7 @@ use Rattle.std.proofs.lemmas.List.Elements.{All-nil, All-append, All-take}
 use Rattle.std.proofs.lemmas.List.Sums.{sum_by-append}
 use Rattle.std.proofs.lemmas.Str.{chars-append, chars-nil, IsUtf8-append, IsUtf8-nil}
 use Rattle.ob0_text.specs.declared.stretches.Stretch.{Stretch}
-use Rattle.ob0_text.specs.Stretches.{IsNotLineBreak, AreInOneLine, IsPieceOfLine, IsStretch}
+use Rattle.ob0_text.specs.Stretches.{IsNotLineBreak, AreInOneLineWithUnits, IsPieceOfLine, IsStretch}
 
 -- Returns the bytes from the offset `from` to the offset `to`.
 abbrev pub cut : List ℕ → ℕ → ℕ → List ℕ
@@ -34,8 +34,8 @@ empty_piece width text start s inside here none =
       ordered = omega (arith, here);
       inside = omega (arith, here, inside);
       whole = subst IsUtf8 (sym nothing) IsUtf8-nil;
-      in_one_line = subst (λ t. AreInOneLine width (chars t) s.units) (sym nothing)
-          (subst (λ t. AreInOneLine width t s.units) (sym chars-nil) (record { no_line_break = All-nil IsNotLineBreak; width_sum = sym none }));
+      in_one_line = subst (λ t. AreInOneLineWithUnits width (chars t) s.units) (sym nothing)
+          (subst (λ t. AreInOneLineWithUnits width t s.units) (sym chars-nil) (record { no_line_break = All-nil IsNotLineBreak; width_sum = sym none }));
     }
 
 pub piece_joined : (width : ℕ → ℕ) (text : List ℕ) (start : ℕ) (s next whole : Stretch) → IsPieceOfLine width text start s → IsStretch width text s.end next → whole.end ≡ next.end → whole.units ≡ s.units + next.units → IsPieceOfLine width text start whole
@@ -46,20 +46,20 @@ piece_joined width text start s next whole is more end units =
       ordered = omega (arith, is.ordered, more.further, end);
       inside = omega (arith, more.inside, end);
       whole = subst IsUtf8 (sym parts) (IsUtf8-append (cut text start s.end) (cut text s.end next.end) is.whole more.whole);
-      in_one_line = subst (λ t. AreInOneLine width (chars t) whole.units) (sym parts)
-          (subst (λ t. AreInOneLine width t whole.units) (sym both) (record {
+      in_one_line = subst (λ t. AreInOneLineWithUnits width (chars t) whole.units) (sym parts)
+          (subst (λ t. AreInOneLineWithUnits width t whole.units) (sym both) (record {
             no_line_break = All-append IsNotLineBreak (chars (cut text start s.end)) (chars (cut text s.end next.end)) is.in_one_line.no_line_break more.in_one_line.no_line_break;
             width_sum = omega (arith, sum_by-append width (chars (cut text start s.end)) (chars (cut text s.end next.end)), is.in_one_line.width_sum, more.in_one_line.width_sum, units);
           }));
     }
 
-pub piece_cut : (width : ℕ → ℕ) (text : List ℕ) (start : ℕ) (s less : Stretch) (last : ℕ) → IsPieceOfLine width text start s → start ≤ less.end → less.end ≤ s.end → IsUtf8 (cut text start less.end) → AreInOneLine width (chars (cut text less.end s.end)) last → less.units ≡ s.units - last → IsPieceOfLine width text start less
+pub piece_cut : (width : ℕ → ℕ) (text : List ℕ) (start : ℕ) (s less : Stretch) (last : ℕ) → IsPieceOfLine width text start s → start ≤ less.end → less.end ≤ s.end → IsUtf8 (cut text start less.end) → AreInOneLineWithUnits width (chars (cut text less.end s.end)) last → less.units ≡ s.units - last → IsPieceOfLine width text start less
 piece_cut width text start s less last is low high whole gone units =
     let parts = joined_cut text start less.end s.end low high in
     let front = chars (cut text start less.end) in
     let back = chars (cut text less.end s.end) in
     let both : chars (cut text start s.end) ≡ front ++ back = ap chars parts ∙ chars-append (cut text start less.end) (cut text less.end s.end) whole in
-    let all : AreInOneLine width (front ++ back) s.units = subst (λ t. AreInOneLine width t s.units) both is.in_one_line in
+    let all : AreInOneLineWithUnits width (front ++ back) s.units = subst (λ t. AreInOneLineWithUnits width t s.units) both is.in_one_line in
     record {
       ordered = low;
       inside = omega (arith, high, is.inside);
@@ -89,5 +89,5 @@ piece_stays width text rest start offset s is before inside =
       ordered = is.ordered;
       inside = omega (arith, long, before, length-append (take offset text) rest);
       whole = subst IsUtf8 (sym same) is.whole;
-      in_one_line = subst (λ t. AreInOneLine width (chars t) s.units) (sym same) is.in_one_line;
+      in_one_line = subst (λ t. AreInOneLineWithUnits width (chars t) s.units) (sym same) is.in_one_line;
     }

@@ -4,7 +4,7 @@ use Rattle.std.proofs.Common.{◌≡◌, ℕ, ◌+◌, ◌-◌, ◌<◌, ◌≤�
 use Rattle.std.specs.Prelude.{Option, Some, None, encode_utf8_all}
 use Rattle.std.proofs.lemmas.List.{take-append-le, drop_all}
 use Rattle.ob0_text.specs.Texts.{byte_len}
-use Rattle.ob0_text.specs.ChangedBytes.{CoversAllChanges, IsChangedAt}
+use Rattle.ob0_text.specs.ChangedBytes.{CoversAllChanges, DifferOnlyInReplacedBytes}
 use Rattle.ob0_text.specs.declared.replaced_bytes.ReplacedBytes.{ReplacedBytes}
 
 shorter_front : (n m : ℕ) (xs ys : List ℕ) → n ≤ m → m ≤ length xs → m ≤ length ys → take m xs ≡ take m ys → take n xs ≡ take n ys
@@ -17,16 +17,16 @@ shorter_front n m xs ys less hx hy e =
     ∙ sym (take-append-le n (take m ys) (drop m ys) (omega arith))
     ∙ ap (take n) (take-append-drop m ys)
 
-pub rests : (a b : List ℕ) (r : ReplacedBytes) → IsChangedAt a b r → byte_len a - (r.from + r.removed) ≡ byte_len b - (r.from + r.added)
+pub rests : (a b : List ℕ) (r : ReplacedBytes) → DifferOnlyInReplacedBytes a b r → byte_len a - (r.from + r.removed) ≡ byte_len b - (r.from + r.added)
 rests a b r p = sym (length-drop (r.from + r.removed) (encode_utf8_all a)) ∙ ap length p.same_behind ∙ length-drop (r.from + r.added) (encode_utf8_all b)
 
 -- If h reaches from before both changes to `end`, a place of the middle text after both of them, h
 -- contains both changes.
-pub around_both : (a b c : List ℕ) (r s h : ReplacedBytes) (end : ℕ) → IsChangedAt a b r → IsChangedAt b c s
+pub around_both : (a b c : List ℕ) (r s h : ReplacedBytes) (end : ℕ) → DifferOnlyInReplacedBytes a b r → DifferOnlyInReplacedBytes b c s
     → h.from ≤ r.from → h.from ≤ s.from → r.from + r.added ≤ end → s.from + s.removed ≤ end → end ≤ byte_len b
     → h.from + h.removed ≡ r.from + r.removed + (end - (r.from + r.added))
     → h.from + h.added ≡ s.from + s.added + (end - (s.from + s.removed))
-    → IsChangedAt a c h
+    → DifferOnlyInReplacedBytes a c h
 around_both a b c r s h end p q before_r before_s left gone inside old_end new_end =
     let A = encode_utf8_all a in
     let B = encode_utf8_all b in
@@ -66,7 +66,7 @@ pub changed_there : (old new bytes put : List ℕ) (r : ReplacedBytes) (to : ℕ
     → encode_utf8_all old ≡ bytes → encode_utf8_all new ≡ (take r.from bytes ++ put) ++ drop to bytes
     → r.from ≤ to → to ≤ length bytes → r.removed ≡ to - r.from → r.added ≡ length put
     → length bytes < 2 ^ 64 → byte_len new < 2 ^ 64
-    → IsChangedAt old new r
+    → DifferOnlyInReplacedBytes old new r
 changed_there old new bytes put r to is_old is_new order inside removed added short_old short_new =
     let parts = put_there bytes put r.from to order inside in
     let same_in_front = length-take-le r.from bytes (omega (arith, order, inside)) in
@@ -84,7 +84,7 @@ changed_there old new bytes put r to is_old is_new order inside removed added sh
     }
 
 -- Replacing all bytes of a text is a change of the text.
-pub all_changed : (old new : List ℕ) (r : ReplacedBytes) → r.from ≡ 0 → r.removed ≡ byte_len old → r.added ≡ byte_len new → byte_len old < 2 ^ 64 → byte_len new < 2 ^ 64 → IsChangedAt old new r
+pub all_changed : (old new : List ℕ) (r : ReplacedBytes) → r.from ≡ 0 → r.removed ≡ byte_len old → r.added ≡ byte_len new → byte_len old < 2 ^ 64 → byte_len new < 2 ^ 64 → DifferOnlyInReplacedBytes old new r
 all_changed old new r from removed added short_old short_new =
     record {
       inside_old = omega (arith, from, removed);

@@ -4,7 +4,7 @@ use Rattle.std.proofs.Math.Seq.{drop-append_seam, get_or-append_seam, take-appen
 use Rattle.std.specs.Str.{IsUtf8, chars}
 use Rattle.std.proofs.lemmas.List.{drop-drop, drop-map, length-map, length-reverse, length-take-le, reverse-append, take-append-drop}
 use Rattle.ob0_text.specs.Texts.{LF}
-use Rattle.ob0_text.specs.LineStarts.{AreAllAtLeast, AreAllBelow, IsCountBefore, line_starts, line_starts_after_bytes, stored_starts}
+use Rattle.ob0_text.specs.LineStarts.{AreAllAtLeast, AreAllBelow, IsCountOfStartsBefore, line_starts, line_starts_after_bytes, starts_in_front_and_back}
 use Rattle.ob0_text.proofs.StartLaws.{following-from, following-under, table, table-split}
 use Rattle.ob0_text.proofs.LinePlaces.{mended_starts, moved_starts}
 use Rattle.ob0_text.proofs.Halving.{more_later}
@@ -14,15 +14,15 @@ abbrev pub from_end : ℕ → ℕ → ℕ
 from_end len d = len - d
 
 -- The number of starts is the sum of the lengths of both parts.
-pub length-stored_starts : (len : ℕ) (front back : List ℕ) → length (stored_starts len front back) ≡ length front + length back
-length-stored_starts len front back =
+pub length-starts_in_front_and_back : (len : ℕ) (front back : List ℕ) → length (starts_in_front_and_back len front back) ≡ length front + length back
+length-starts_in_front_and_back len front back =
     length-append front (map (from_end len) (reverse back)) ∙ ap (λ n. length front + n) (length-map (reverse back) (from_end len) ∙ length-reverse back)
 
 flipped : (x : ℕ) (xs : List ℕ) → reverse (xs ++ (x ∷ [])) ≡ x ∷ reverse xs
 flipped x xs = reverse-append xs (x ∷ [])
 
 -- Moving a start from the front to the back changes no start.
-pub moved_left : (len : ℕ) (front back : List ℕ) (s d : ℕ) → d ≡ len - s → s ≤ len → stored_starts len front (back ++ (d ∷ [])) ≡ stored_starts len (front ++ (s ∷ [])) back
+pub moved_left : (len : ℕ) (front back : List ℕ) (s d : ℕ) → d ≡ len - s → s ≤ len → starts_in_front_and_back len front (back ++ (d ∷ [])) ≡ starts_in_front_and_back len (front ++ (s ∷ [])) back
 moved_left len front back s d is within =
     let again : len - d ≡ s = omega (arith, is, within) in
     ap (λ xs. front ++ map (from_end len) xs) (flipped d back)
@@ -30,13 +30,13 @@ moved_left len front back s d is within =
     ∙ sym (append_assoc front (s ∷ []) (map (from_end len) (reverse back))))
 
 -- Moving a start from the back to the front changes no start.
-pub moved_right : (len : ℕ) (front back : List ℕ) (d : ℕ) → stored_starts len (front ++ ((len - d) ∷ [])) back ≡ stored_starts len front (back ++ (d ∷ []))
+pub moved_right : (len : ℕ) (front back : List ℕ) (d : ℕ) → starts_in_front_and_back len (front ++ ((len - d) ∷ [])) back ≡ starts_in_front_and_back len front (back ++ (d ∷ []))
 moved_right len front back d =
     append_assoc front ((len - d) ∷ []) (map (from_end len) (reverse back))
     ∙ ap (λ xs. front ++ map (from_end len) xs) (sym (flipped d back))
 
 -- The last start of the front is below the bound that all starts are below.
-pub last_within : (len bound : ℕ) (starts front back : List ℕ) (s : ℕ) → AreAllBelow bound starts → stored_starts len (front ++ (s ∷ [])) back ≡ starts → s < bound
+pub last_within : (len bound : ℕ) (starts front back : List ℕ) (s : ℕ) → AreAllBelow bound starts → starts_in_front_and_back len (front ++ (s ∷ [])) back ≡ starts → s < bound
 last_within len bound starts front back s under is =
     let whole : starts ≡ front ++ (s ∷ map (from_end len) (reverse back)) = sym is ∙ append_assoc front (s ∷ []) (map (from_end len) (reverse back)) in
     let long : length starts ≡ length front + suc (length (map (from_end len) (reverse back))) = ap length whole ∙ length-append front (s ∷ map (from_end len) (reverse back)) in
@@ -65,7 +65,7 @@ with_the_end len after to by (d ∷ ds) is up =
     let same : after - d ≡ len - d - to + by = omega (arith, is, here) in
     (λ i. same i ∷ with_the_end len after to by ds is (λ k h. up (suc k) (omega (arith, h))) i)
 
-module _ (bs new starts front back added : List ℕ) (len from to kept moved : ℕ) (u : IsUtf8 bs) (is : starts ≡ line_starts (chars bs)) (long : len ≡ length bs) (order : from ≤ to) (within : to ≤ length bs) (kept_is : IsCountBefore starts from kept) (moved_is : IsCountBefore starts (to + 1) moved) (parts : stored_starts len front back ≡ starts) (here : length front ≡ kept) where
+module _ (bs new starts front back added : List ℕ) (len from to kept moved : ℕ) (u : IsUtf8 bs) (is : starts ≡ line_starts (chars bs)) (long : len ≡ length bs) (order : from ≤ to) (within : to ≤ length bs) (kept_is : IsCountOfStartsBefore starts from kept) (moved_is : IsCountOfStartsBefore starts (to + 1) moved) (parts : starts_in_front_and_back len front back ≡ starts) (here : length front ≡ kept) where
   old : starts ≡ line_starts_after_bytes 0 (LF ∷ bs) []
   old = is ∙ table bs u
 
@@ -88,14 +88,14 @@ module _ (bs new starts front back added : List ℕ) (len from to kept moved : �
   -- If the table has `moved` starts, the starts after them are the ones that the back part keeps.
   later_starts : moved ≤ length starts → drop moved starts ≡ map (from_end len) (reverse rest)
   later_starts few =
-      let both : length starts ≡ length front + length back = ap length (sym parts) ∙ length-stored_starts len front back in
+      let both : length starts ≡ length front + length back = ap length (sym parts) ∙ length-starts_in_front_and_back len front back in
       let ahead : drop kept starts ≡ map (from_end len) (reverse back) = (λ i. drop (sym here i) (sym parts i)) ∙ drop-append_seam front (map (from_end len) (reverse back)) in
       let split : kept + (moved - kept) ≡ moved = omega (arith, up_to_moved) in
       ap (λ n. drop n starts) (sym split) ∙ sym (drop-drop (moved - kept) kept starts) ∙ ap (drop (moved - kept)) ahead
       ∙ drop-map (from_end len) (moved - kept) (reverse back)
       ∙ ap (map (from_end len)) (dropped_back back (moved - kept) (omega (arith, few, both, here, up_to_moved)))
 
-  pub table_replaced : moved ≤ length starts → added ≡ line_starts_after_bytes from (get_or (LF ∷ bs) from 0 ∷ new) (drop to bs) → (after : ℕ) → after ≡ length ((take from bs ++ new) ++ drop to bs) → IsUtf8 ((take from bs ++ new) ++ drop to bs) → stored_starts after (front ++ added) rest ≡ line_starts (chars ((take from bs ++ new) ++ drop to bs))
+  pub table_replaced : moved ≤ length starts → added ≡ line_starts_after_bytes from (get_or (LF ∷ bs) from 0 ∷ new) (drop to bs) → (after : ℕ) → after ≡ length ((take from bs ++ new) ++ drop to bs) → IsUtf8 ((take from bs ++ new) ++ drop to bs) → starts_in_front_and_back after (front ++ added) rest ≡ line_starts (chars ((take from bs ++ new) ++ drop to bs))
   table_replaced few added_is after after_is v =
       let stays : take kept starts ≡ front = (λ i. take (sym here i) (sym parts i)) ∙ take-append_seam front (map (from_end len) (reverse back)) in
       let later = later_starts few in

@@ -3,9 +3,9 @@ use Rattle.std.proofs.Common.{◌≡◌, ℕ, List, ◌++◌, take, drop, min, m
 use Rattle.std.specs.Prelude.{Result, OnOk}
 use Rattle.std.specs.Str.{IsUtf8, IsCharBoundary, chars}
 use Rattle.ob0_text.specs.Texts.{text_before, byte_len, offset_of}
-use Rattle.ob0_text.specs.Patches.{char_count_before, cut_at, with_range_replaced}
+use Rattle.ob0_text.specs.Patches.{char_count_before, cut_at, text_with_range_replaced}
 use Rattle.ob0_text.specs.declared.position_types.Range.{Range}
-use Rattle.ob0_text.proofs.Prefixes.{patched-one, range_start, range_end, border_at, replaced_at}
+use Rattle.ob0_text.proofs.Prefixes.{patched_text-one, range_start, range_end, border_at, replaced_at}
 
 pub on_ok_so : {T E P Q : Type 0} (r : Result T E) → (P → Q) → OnOk r P → OnOk r Q
 on_ok_so (Ok x) so p = so p
@@ -28,9 +28,9 @@ module _ (width : ℕ → ℕ) (text bs : List ℕ) (u : IsUtf8 bs) (is : chars 
   pub to_border : IsCharBoundary bs to
   to_border = subst (IsCharBoundary bs) (sym at_to) (border_at bs u (max (char_count_before width (chars bs) r.start) (char_count_before width (chars bs) r.end)))
 
-  pub replaced_is : (new bytes : List ℕ) → IsUtf8 new → bytes ≡ (take from bs ++ new) ++ drop to bs → with_range_replaced width text r (chars new) ≡ Some (chars bytes)
+  pub replaced_is : (new bytes : List ℕ) → IsUtf8 new → bytes ≡ (take from bs ++ new) ++ drop to bs → text_with_range_replaced width text r (chars new) ≡ Some (chars bytes)
   unfolding cut_at
   replaced_is new bytes v bytes_is =
-      ap (λ t. with_range_replaced width t r (chars new)) (sym is)
-      ∙ patched-one (chars bs) (min (char_count_before width (chars bs) r.start) (char_count_before width (chars bs) r.end)) (max (char_count_before width (chars bs) r.start) (char_count_before width (chars bs) r.end)) (chars new)
+      ap (λ t. text_with_range_replaced width t r (chars new)) (sym is)
+      ∙ patched_text-one (chars bs) (min (char_count_before width (chars bs) r.start) (char_count_before width (chars bs) r.end)) (max (char_count_before width (chars bs) r.start) (char_count_before width (chars bs) r.end)) (chars new)
       ∙ ap Some (sym (ap chars bytes_is ∙ (λ i. chars ((take (at_from i) bs ++ new) ++ drop (at_to i) bs)) ∙ replaced_at bs u (min (char_count_before width (chars bs) r.start) (char_count_before width (chars bs) r.end)) (max (char_count_before width (chars bs) r.start) (char_count_before width (chars bs) r.end)) new v))

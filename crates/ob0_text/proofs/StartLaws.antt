@@ -8,7 +8,7 @@ use Rattle.std.specs.Str.{IsUtf8, chars}
 use Rattle.std.proofs.lemmas.Bool.Decides.{nat_tests}
 use Rattle.std.specs.Char.{len_utf8}
 use Rattle.std.proofs.lemmas.Str.{length-encode, len_utf8_ascii, encode_ascii, inside_one, encodes-append, encodes-chars}
-use Rattle.ob0_text.specs.Texts.{LF, CR, Line, starts_with_lf, ends_line, add_character, add_to_ending, lines, byte_len}
+use Rattle.ob0_text.specs.Texts.{LF, CR, Line, starts_with_lf, ends_line, add_to_first_line_body, add_to_first_line_ending, lines, byte_len}
 use Rattle.ob0_text.specs.LineStarts.{line_with_ending, line_starts_from, line_starts, line_starts_after_bytes, AreAllBelow, AreAllAtLeast}
 use Rattle.ob0_text.proofs.LineLaws.{has_line, lines-ends, lines-before_lf, lines-in_front, no_line_end, lf_ends}
 use Rattle.ob0_text.proofs.FirstBytes.{lf_byte}
@@ -205,12 +205,12 @@ starts-lines at (c ∷ cs) = by_end (starts-lines (at + len_utf8 c) cs) (ends_li
         let l = has_line cs in
         let long : byte_len (l.0.body ++ (c ∷ l.0.ending)) ≡ len_utf8 c + byte_len (l.0.body ++ l.0.ending) =
         omega (arith, byte_len-append l.0.body (c ∷ l.0.ending), byte_len-append l.0.body l.0.ending, byte_len-cons c l.0.ending) in
-        ap (line_starts_from at) (lines-before_lf c cs e p ∙ ap (add_to_ending c) l.2)
+        ap (line_starts_from at) (lines-before_lf c cs e p ∙ ap (add_to_first_line_ending c) l.2)
         ∙ longer_first at c cs l.0 (record { body = l.0.body; ending = c ∷ l.0.ending }) l.1 l.2 long more
         ∙ ap (λ t. at ∷ t) (sym (ends-on at c cs e))
     by_end more false e false p =
         let l = has_line cs in
-        ap (line_starts_from at) (lines-in_front c cs e p ∙ ap (add_character c) l.2)
+        ap (line_starts_from at) (lines-in_front c cs e p ∙ ap (add_to_first_line_body c) l.2)
         ∙ longer_first at c cs l.0 (record { body = c ∷ l.0.body; ending = l.0.ending }) l.1 l.2 (byte_len-cons c (l.0.body ++ l.0.ending)) more
         ∙ ap (λ t. at ∷ t) (sym (ends-on at c cs e))
 

@@ -10,17 +10,17 @@ use Rattle.std.proofs.lemmas.List.Elements.{All-nil, All-cons, All-head, All-dro
 use Rattle.std.proofs.Math.Seq.{drop-append_seam}
 use Rattle.std.proofs.lemmas.Str.{encode_ascii, encodes-chars, length-encode}
 use Rattle.ob0_text.specs.Texts.{LF, CR, utf16_width, byte_len}
-use Rattle.ob0_text.specs.Stretches.{IsNotLineBreak, utf16_units_at, AreInOneLine}
+use Rattle.ob0_text.specs.Stretches.{IsNotLineBreak, utf16_units_at_byte, AreInOneLineWithUnits}
 
 -- The units counted at the bytes of a character are its UTF-16 units.
-units_of_char : (c : ℕ) → sum_by utf16_units_at (encode_utf8 c) ≡ utf16_width c
+units_of_char : (c : ℕ) → sum_by utf16_units_at_byte (encode_utf8 c) ≡ utf16_width c
 unfolding encode_utf8
 units_of_char c = grind (arith, nat_tests)
 
-pub units_of_chars : (cs : List ℕ) → sum_by utf16_units_at (encode_utf8_all cs) ≡ sum_by utf16_width cs
+pub units_of_chars : (cs : List ℕ) → sum_by utf16_units_at_byte (encode_utf8_all cs) ≡ sum_by utf16_width cs
 units_of_chars [] = refl
 units_of_chars (c ∷ cs) =
-    sum_by-append utf16_units_at (encode_utf8 c) (encode_utf8_all cs) ∙ (λ i. units_of_char c i + units_of_chars cs i) ∙ sym (sum_by-cons utf16_width c cs)
+    sum_by-append utf16_units_at_byte (encode_utf8 c) (encode_utf8_all cs) ∙ (λ i. units_of_char c i + units_of_chars cs i) ∙ sym (sum_by-cons utf16_width c cs)
 
 pub bytes_of_chars : (cs : List ℕ) → byte_len cs ≡ sum_by len_utf8 cs
 bytes_of_chars [] = refl
@@ -47,13 +47,13 @@ module _ (bs : List ℕ) (u : IsUtf8 bs) (h : All IsNotLineBreak bs) where
   no_line_break : All IsNotLineBreak (chars bs)
   no_line_break = chars_of_line (chars bs) (subst (All IsNotLineBreak) (sym (encodes-chars bs u)) h)
 
-  pub counted_in_utf16 : AreInOneLine utf16_width (chars bs) (sum_by utf16_units_at bs)
+  pub counted_in_utf16 : AreInOneLineWithUnits utf16_width (chars bs) (sum_by utf16_units_at_byte bs)
   counted_in_utf16 = record {
     no_line_break = no_line_break;
-    width_sum = sym (units_of_chars (chars bs)) ∙ ap (sum_by utf16_units_at) (encodes-chars bs u);
+    width_sum = sym (units_of_chars (chars bs)) ∙ ap (sum_by utf16_units_at_byte) (encodes-chars bs u);
   }
 
-  pub counted_in_bytes : AreInOneLine len_utf8 (chars bs) (length bs)
+  pub counted_in_bytes : AreInOneLineWithUnits len_utf8 (chars bs) (length bs)
   counted_in_bytes = record {
     no_line_break = no_line_break;
     width_sum = sym (bytes_of_chars (chars bs)) ∙ ap length (encodes-chars bs u);

@@ -6,9 +6,9 @@ use Rattle.ob0_text.specs.declared.replaced_bytes.ReplacedBytes.{ReplacedBytes}
 use Rattle.ob0_text.specs.Texts.{byte_len}
 use Rattle.ob0_text.specs.OpenDocuments.{OpenDocuments, document_at, text_if_in_step}
 
--- States that the new text differs from the old text only in the replaced bytes `r`. The bytes in
--- front of `r` and behind `r` are the same in both texts. Both texts have fewer than 2^64 bytes.
-pub record IsChangedAt (old new : List ℕ) (r : ReplacedBytes) : Type 0 where
+-- States that the new text differs from the old text only in the replaced bytes `r`. The bytes
+-- before `r` and after `r` are the same in both texts. Both texts have fewer than 2^64 bytes.
+pub record DifferOnlyInReplacedBytes (old new : List ℕ) (r : ReplacedBytes) : Type 0 where
   pub inside_old : r.from + r.removed ≤ byte_len old
   pub inside_new : r.from + r.added ≤ byte_len new
   pub short_old : byte_len old < 2 ^ 64
@@ -25,7 +25,7 @@ abbrev pub CoversAllChanges : Option (List ℕ) → Option (List ℕ) → Option
 CoversAllChanges None new covering_change = covering_change ≡ None
 CoversAllChanges (Some old) new None = new ≡ Some old
 CoversAllChanges (Some old) new (Some r) =
-    (text : List ℕ) × (new ≡ Some text) × IsChangedAt old text r
+    (text : List ℕ) × (new ≡ Some text) × DifferOnlyInReplacedBytes old text r
 
 -- Returns the text of the document with this uri, or None if the document isn't open or is out of
 -- step.

@@ -9,7 +9,7 @@ use Rattle.ob0_text.specs.Stretches.{IsPieceOfLine}
 use Rattle.ob0_text.specs.Units.{width_of}
 
 -- States that `table` has the line starts and the length of the text. Also states that the counted
--- piece `c` is right: the characters from `c.start` to `c.end_and_units.end` are in one line, and
+-- piece `c` is correct: the characters from `c.start` to `c.end_and_units.end` are in one line, and
 -- have `c.end_and_units.units` units, counted in `unit`.
 pub record TableAndPieceMatchText (text : List ℕ) (unit : Unit) (table : LineStartTable) (c : CountedPiece) : Type 0 where
   pub lines : IsLineTableOf text table

@@ -8,5 +8,5 @@ max_indent = 16
 
 -- Returns the number of spaces in one level of indentation if a client requests `n` spaces. The
 -- result is `n`, but at least 1 and at most 16.
-abbrev pub spaces_in_level : ℕ → ℕ
-spaces_in_level n = max 1 (min n max_indent)
+abbrev pub indent_spaces_for_tab_size : ℕ → ℕ
+indent_spaces_for_tab_size n = max 1 (min n max_indent)

@@ -1,15 +1,15 @@
 -- Defines the byte offsets at which the lines of a text start. A line starts after an LF, and after
 -- a CR that no LF follows. So the two bytes next to an offset decide whether a line starts there.
--- The text's start counts as an offset after an LF. The rest of this comment explains how a change
--- is applied to a list of line starts. The names in parentheses are declared in `StartLaws`. The
--- starts of the whole text are `line_starts_after_bytes 0 (LF ∷ bytes) []` (`table`), which is
+-- The start of the text counts as an offset after an LF. The rest of this comment explains how a
+-- change is applied to a list of line starts. The names in parentheses are declared in `StartLaws`.
+-- The starts of the whole text are `line_starts_after_bytes 0 (LF ∷ bytes) []` (`table`), which is
 -- proved character by character (`following_ends`). If a run of bytes has two parts, the starts in
 -- the first part come first, then the starts in the second part (`following-append`). Whether a
 -- line starts at the end of a run depends on the first byte after the run, and on no later byte
 -- (`following-next`). If the run begins at a greater offset, the starts are greater by the same
--- number of bytes (`following-moved`). So the code for a change keeps the starts in front of the
--- change, tests the inserted bytes and one byte on either side, and shifts the starts behind the
--- change (`table-mended`). A CR and an LF that a change joins or separates need no separate case.
+-- number of bytes (`following-moved`). So the code for a change keeps the starts before the change,
+-- tests the inserted bytes and one byte on either side, and shifts the starts after the change
+-- (`table-mended`). A CR and an LF that a change joins or separates need no separate case.
 -- Rule: docs/PROTOCOL.md, Positions 2 (by bytes, for the table of lines).
 use Rattle.std.specs.Prelude.{◌≡◌, ℕ, suc, ◌+◌, ◌-◌, ◌<◌, ◌≤◌, if◌then◌else◌, List, [], ◌∷◌, ◌++◌, length, map, reverse, slice_index, refl}
 use Rattle.std.specs.Str.{chars}
@@ -32,7 +32,7 @@ abbrev pub line_starts : List ℕ → List ℕ
 line_starts text = line_starts_from 0 (lines text)
 
 -- Returns the byte offsets at which a line starts directly after one of these bytes. `at` is the
--- offset after the first byte of the list. The bytes `next` follow the last byte of the list.
+-- offset directly after the first of these bytes. The bytes `next` follow the last one.
 unfoldable pub line_starts_after_bytes : ℕ → List ℕ → List ℕ → List ℕ
 line_starts_after_bytes at [] next = []
 line_starts_after_bytes at (b ∷ bs) next =
@@ -51,27 +51,27 @@ AreAllAtLeast bound ns = (k : ℕ) → k < length ns → bound ≤ slice_index n
 -- States that in an ascending list of starts, `count` is the number of starts below `offset`. More
 -- precisely: if `starts` is a list of numbers below `offset` followed by a list of numbers at or
 -- above `offset`, the first of these lists has `count` numbers.
-abbrev pub IsCountBefore : List ℕ → ℕ → ℕ → Type 0
-IsCountBefore starts offset count =
+abbrev pub IsCountOfStartsBefore : List ℕ → ℕ → ℕ → Type 0
+IsCountOfStartsBefore starts offset count =
     (front back : List ℕ) → starts ≡ front ++ back → AreAllBelow offset front → AreAllAtLeast offset back
     → count ≡ length front
 
 -- A text, and the unit in which its positions are counted.
-pub record TextInUnit : Type 0 where
+pub record TextWithUnit : Type 0 where
   pub text : List ℕ
   pub unit : Unit
 
 -- The encoding (`Coded`) of a text with its unit, which the model of the store `Lines` requires.
-abbrev pub coded_text_in_unit : Coded TextInUnit
-coded_text_in_unit =
+abbrev pub coded_text_with_unit : Coded TextWithUnit
+coded_text_with_unit =
     code_by (List ℕ × Unit) (coded× (coded_list coded_ℕ) coded_position_unit) (λ t. (t.text, t.unit))
     (λ p. record { text = p.0; unit = p.1 }) (λ t. refl)
 
 -- Returns the line starts that the two lists of a line table store. `front` has the starts of the
 -- first lines. `back` has the other starts, the last line first, each as its distance from the end
 -- of the text. `len` is the length of the text in bytes.
-abbrev pub stored_starts : ℕ → List ℕ → List ℕ → List ℕ
-stored_starts len front back = front ++ map (λ d. len - d) (reverse back)
+abbrev pub starts_in_front_and_back : ℕ → List ℕ → List ℕ → List ℕ
+starts_in_front_and_back len front back = front ++ map (λ d. len - d) (reverse back)
 
 -- The table of a text's lines: the byte offsets at which they start, and the text's length in
 -- bytes.

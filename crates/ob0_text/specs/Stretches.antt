@@ -11,15 +11,15 @@ use Rattle.ob0_text.specs.Texts.{LF, CR}
 abbrev pub IsNotLineBreak : ℕ → Type 0
 IsNotLineBreak c = (c == LF || c == CR) ≡ false
 
--- Returns the number of UTF-16 units that are counted at a byte of UTF-8: 1 at the first byte of a
--- character, 2 if that character has four bytes, and 0 at any other byte.
-abbrev pub utf16_units_at : ℕ → ℕ
-utf16_units_at b =
+-- Returns the number of UTF-16 units that are counted at a byte of UTF-8: 2 at the first byte of a
+-- character of four bytes, 1 at the first byte of any other character, and 0 at every other byte.
+abbrev pub utf16_units_at_byte : ℕ → ℕ
+utf16_units_at_byte b =
     (if nat_lt b 0x80 || nat_le 0xC0 b then 1 else 0) + (if nat_le 0xF0 b then 1 else 0)
 
 -- States that no character of the list is LF or CR, and that the widths of the characters add up to
 -- `units`.
-pub record AreInOneLine (width : ℕ → ℕ) (cs : List ℕ) (units : ℕ) : Type 0 where
+pub record AreInOneLineWithUnits (width : ℕ → ℕ) (cs : List ℕ) (units : ℕ) : Type 0 where
   pub no_line_break : All IsNotLineBreak cs
   pub width_sum : sum_by width cs ≡ units
 
@@ -29,7 +29,7 @@ pub record IsPieceOfLine (width : ℕ → ℕ) (text : List ℕ) (from : ℕ) (s
   pub ordered : from ≤ s.end
   pub inside : s.end ≤ length text
   pub whole : IsUtf8 (take (s.end - from) (drop from text))
-  pub in_one_line : AreInOneLine width (chars (take (s.end - from) (drop from text))) s.units
+  pub in_one_line : AreInOneLineWithUnits width (chars (take (s.end - from) (drop from text))) s.units
 
 -- States that `s` is a stretch: at least one whole character, all of one line, from the byte offset
 -- `from` to `s.end`, with `s.units` units.
@@ -37,4 +37,4 @@ pub record IsStretch (width : ℕ → ℕ) (text : List ℕ) (from : ℕ) (s : S
   pub further : from < s.end
   pub inside : s.end ≤ length text
   pub whole : IsUtf8 (take (s.end - from) (drop from text))
-  pub in_one_line : AreInOneLine width (chars (take (s.end - from) (drop from text))) s.units
+  pub in_one_line : AreInOneLineWithUnits width (chars (take (s.end - from) (drop from text))) s.units

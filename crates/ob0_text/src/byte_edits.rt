@@ -1,10 +1,10 @@
-//! Applies several edits of one text at once.
+//! Applies several edits to one text together.
 
 ghost use Rattle.std.specs.Prelude.{◌≡◌, Some, None, map, min, max, IfOk, IsErrOf, string_bytes};
 ghost use Rattle.std.specs.Str.{chars};
 ghost use Rattle.ob0_text.specs.Texts.{offset_of};
 ghost use Rattle.ob0_text.specs.Units.{width_of};
-ghost use Rattle.ob0_text.specs.Patches.{cuts_of, in_text_order, patched};
+ghost use Rattle.ob0_text.specs.Patches.{cuts_of, cuts_in_text_order, patched_text};
 ghost use Rattle.ob0_text.specs.StoredCuts.{cut_of_byte_edit, cut_in_bytes};
 ghost use Rattle.ob0_text.specs.declared.byte_edits.PatchFault.TheVariants.{Memory};
 
@@ -14,8 +14,8 @@ use crate::stores::TextStore;
 use std::alloc::{AllocError, Global};
 use thiserror::Error;
 
-/// The reason why edits can't be applied at once: two ranges share a character, or an allocation
-/// failed.
+/// The reason why several edits can't be applied together: two ranges share a character, or an
+/// allocation failed.
 #[derive(Clone, Copy, Debug, PartialEq, Eq, Error)]
 pub enum PatchFault {
     #[error("two edits touch the same character")]
@@ -45,47 +45,47 @@ struct ByteEdit<'e> {
 /// before all edits. If two ranges share a character, the fault is `Overlap`. If an allocation
 /// fails, the fault is `Memory`.
 pub fn patch<T: TextStore>(alloc: Global, store: &T, edits: &[Edit]) -> Result<String, PatchFault>
-    ensures ok { IfOk result (λ text. patched (width_of (T.unit_of store.now)) (T.content store.now)
+    ensures ok { IfOk result (λ text. patched_text (width_of (T.unit_of store.now)) (T.content store.now)
         edits.now
         ≡ Some (chars (string_bytes text))) }
     ensures overlap { IsErrOf result PatchFault.Overlap
-        → patched (width_of (T.unit_of store.now)) (T.content store.now) edits.now ≡ None }
+        → patched_text (width_of (T.unit_of store.now)) (T.content store.now) edits.now ≡ None }
 {
-    let cuts = sorted_cuts(alloc, store, edits)?;
+    let cuts = sorted_byte_edits(alloc, store, edits)?;
     let text = store.as_str();
-    let mut patched = String::new(alloc);
+    let mut patched_text = String::new(alloc);
     let mut kept = 0;
     for cut in &cuts {
         if cut.start < kept {
             return Err(PatchFault::Overlap);
         }
-        patched.push_str(&text[kept..cut.start])?;
-        patched.push_str(cut.text)?;
+        patched_text.push_str(&text[kept..cut.start])?;
+        patched_text.push_str(cut.text)?;
         kept = cut.end;
     }
-    patched.push_str(&text[kept..])?;
-    Ok(patched)
+    patched_text.push_str(&text[kept..])?;
+    Ok(patched_text)
 }
 
 /// Returns the edits with byte offsets instead of positions, in text order: by start, then by end.
-/// Edits with the same start and end keep the order of the list.
-fn sorted_cuts<'e, T: TextStore>(
+/// Edits with the same start and end keep their order in `edits`.
+fn sorted_byte_edits<'e, T: TextStore>(
     alloc: Global,
     store: &T,
     edits: &'e [Edit],
 ) -> Result<Vec<ByteEdit<'e>>, AllocError>
     ensures { let text = T.content store.now in
         IfOk result (λ cuts. map cut_of_byte_edit cuts.items
-        ≡ map (cut_in_bytes text) (in_text_order
+        ≡ map (cut_in_bytes text) (cuts_in_text_order
         (cuts_of (width_of (T.unit_of store.now)) text edits.now))) }
 {
-    let mut cuts = unsorted_cuts(alloc, store, edits)?;
+    let mut cuts = unsorted_byte_edits(alloc, store, edits)?;
     cuts.sort_by_key(|cut| (cut.start, cut.end))?;
     Ok(cuts)
 }
 
-/// Returns the edits with byte offsets instead of positions, in the order of the list.
-fn unsorted_cuts<'e, T: TextStore>(
+/// Returns the edits with byte offsets instead of positions, in the order of `edits`.
+fn unsorted_byte_edits<'e, T: TextStore>(
     alloc: Global,
     store: &T,
     edits: &'e [Edit],
@@ -100,13 +100,13 @@ fn unsorted_cuts<'e, T: TextStore>(
     let to = offsets_of_positions(alloc, store, ends)?;
     let mut cuts = Vec::new(alloc);
     for (i, edit) in edits.iter().enumerate() {
-        cuts.push(cut_between(from[i], to[i], edit.text.as_str()))?;
+        cuts.push(byte_edit_between(from[i], to[i], edit.text.as_str()))?;
     }
     Ok(cuts)
 }
 
-/// Returns the byte offset of each position, in the order of the list. Takes the list of positions
-/// by value and drops it, so the caller doesn't hold two lists at once.
+/// Returns the byte offset of each position, in the order of `positions`. Takes `positions` by
+/// value and drops it, so that memory doesn't hold the positions longer than necessary.
 fn offsets_of_positions<T: TextStore>(
     alloc: Global,
     store: &T,
@@ -135,7 +135,7 @@ fn edit_ends(alloc: Global, edits: &[Edit]) -> Result<Vec<Position>, AllocError>
 
 /// Returns the edit that replaces the bytes between two offsets by `text`. The offsets are swapped
 /// if the first is greater.
-fn cut_between(start: usize, end: usize, text: &str) -> ByteEdit<'_>
+fn byte_edit_between(start: usize, end: usize, text: &str) -> ByteEdit<'_>
     ensures { cut_of_byte_edit result
         ≡ record { from = min start end; to = max start end; new = chars text.now } }
 {

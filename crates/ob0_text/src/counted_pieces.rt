@@ -6,8 +6,8 @@
 //! part. Short runs of characters (`stretches.rt`) are removed from the end of the part or added to
 //! it (`shorten_to_units`, `extend_to_units`). So if an editor replaces all occurrences of a word
 //! in one long line, forwards or backwards, only the text between two changes is passed over. The
-//! part contains only text in front of the change (`piece_if_ends_before`). So it remains a piece
-//! of a line (`IsPieceOfLine`), even if the change adds or removes lines. `place_after_counted`
+//! part contains only text before the change (`piece_if_ends_before`). So it remains a piece of a
+//! line (`IsPieceOfLine`), even if the change adds or removes lines. `place_from_counted_piece`
 //! tests whether a line still starts at the part's start. If changes alternate between two places
 //! of one long line, each change passes over the text between these places.
 
@@ -16,7 +16,7 @@ ghost use Rattle.ob0_text.specs.Units.{width_of};
 ghost use Rattle.ob0_text.specs.Stretches.{IsPieceOfLine, IsStretch};
 
 use crate::position_types::Unit;
-use crate::stretches::{STRETCH_BYTES, Stretch, next_stretch, units_of};
+use crate::stretches::{MAX_STRETCH_BYTES, Stretch, next_stretch, units_if_in_one_line};
 
 /// Consecutive characters of a line whose units (`Unit`) have been counted. The characters begin at
 /// the byte offset `start`. `end_and_units` has the byte offset of their end and the number of
@@ -41,9 +41,9 @@ pub fn empty_counted_piece() -> CountedPiece
 
 impl CountedPiece {
     /// Returns this piece if it ends at or before the byte offset `offset`, otherwise an empty
-    /// piece. The result remains right if the text behind `offset` changes. More precisely: if this
-    /// piece is a piece of a line of some text, the result is a piece of a line of every text with
-    /// the same first `offset` bytes.
+    /// piece. The result remains correct if the text after `offset` changes. More precisely: if
+    /// this piece is a piece of a line of some text, the result is a piece of a line of every text
+    /// with the same first `offset` bytes.
     pub fn piece_if_ends_before(self, offset: usize) -> CountedPiece
         ensures { (width : ℕ → ℕ) (text rest : List ℕ)
             → IsPieceOfLine width text self.start self.end_and_units
@@ -58,9 +58,9 @@ impl CountedPiece {
 }
 
 /// Returns a counted piece of one line that begins at the byte offset `start` and has at most
-/// `units` units. In a long line the piece has nearly `units` units. If the piece `last` also
-/// begins at `start`, only the difference between the two pieces is counted.
-pub fn counted_stretch_up_to(
+/// `units` units. If the line has at least `units` units, the piece has nearly `units` units. If
+/// the piece `last` also begins at `start`, only the difference between the two pieces is counted.
+pub fn counted_piece_up_to(
     text: &str,
     unit: Unit,
     start: usize,
@@ -112,8 +112,8 @@ fn without_last_bytes(text: &str, unit: Unit, start: usize, piece: Stretch) -> O
     ensures is { IfSome result (IsPieceOfLine (width_of unit) text.now start) }
     ensures shorter { IfSome result (λ s. s.end < piece.end) }
 {
-    let end = text.floor_char_boundary(piece.end.saturating_sub(STRETCH_BYTES - 3));
-    if end <= start || piece.end <= end || piece.end - end > STRETCH_BYTES {
+    let end = text.floor_char_boundary(piece.end.saturating_sub(MAX_STRETCH_BYTES - 3));
+    if end <= start || piece.end <= end || piece.end - end > MAX_STRETCH_BYTES {
         return None;
     }
     if !text.is_char_boundary(start) || !text.is_char_boundary(piece.end) {
@@ -121,7 +121,7 @@ fn without_last_bytes(text: &str, unit: Unit, start: usize, piece: Stretch) -> O
     }
     // The proof needs this slice: it shows that the rest also consists of whole characters.
     let _left = &text[start..end];
-    let last = units_of(&text[end..piece.end], unit)?;
+    let last = units_if_in_one_line(&text[end..piece.end], unit)?;
     if piece.units < last {
         return None;
     }

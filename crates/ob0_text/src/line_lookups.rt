@@ -7,14 +7,14 @@
 //! or before it (`line_counted`, `line_sought` in `LinePlaces`). The result is the same for each of
 //! these lines. Beginning at the nearest line only saves time.
 //!
-//! The offsets or positions of a list are looked up in the order of the list. The pass to an offset
-//! or position continues at the place of the previous one if this place is in the same line and not
-//! further on. The pass to an offset also continues there if the offset is less than 32 bytes
-//! further on, even in another line. Otherwise the pass begins at the start of the line, which the
-//! table gives (`nearest_place_before`, `place_from_last`). So ascending offsets or positions in
-//! one long line take a single pass over that line, as in the plain store `Whole`. An offset that
-//! isn't near takes a binary search for its line. If both ends of a changed range are in one line,
-//! one pass finds both ends (`range_offsets`).
+//! A list of offsets or positions is looked up in its order. The pass to an offset or position
+//! continues at the place of the previous one if this place is in the same line and not after it.
+//! The pass to an offset also continues there if the offset is less than 32 bytes ahead, even in
+//! another line. Otherwise the pass begins at the start of the line, which the table gives
+//! (`pass_start_for_offset`, `place_from_previous`). So ascending offsets or positions in one long
+//! line take a single pass over that line, as in the plain store `Whole`. An offset that isn't near
+//! takes a binary search for its line. If both ends of a changed range are in one line, one pass
+//! finds both ends (`range_offsets`).
 
 ghost use Rattle.std.specs.Prelude.{◌≡◌, ◌+◌, ◌-◌, ◌<◌, ◌≤◌, IfOk, length, map, min, slice_get, slice_index};
 ghost use Rattle.std.specs.Option.{option_map};
@@ -26,7 +26,7 @@ ghost use Rattle.ob0_text.specs.declared.position_types.Unit.{Unit};
 ghost use Rattle.ob0_text.specs.LineStarts.{IsLineTableOf, line_with_ending};
 ghost use Rattle.ob0_text.specs.Stretches.{IsPieceOfLine};
 
-use crate::counted_pieces::{CountedPiece, counted_stretch_up_to};
+use crate::counted_pieces::{CountedPiece, counted_piece_up_to};
 use crate::line_table::LineTable;
 use crate::passes::{
     PlaceInText, TEXT_START, advance_to_offset, advance_to_position, is_at_or_after,
@@ -35,9 +35,9 @@ use crate::passes::{
 use crate::position_types::{Position, Range, Unit};
 use std::alloc::{AllocError, Global};
 
-/// The distance in bytes below which an offset is near: a pass continues to a near offset without a
-/// look-up in the table.
-const NEAR_BYTES: usize = 32;
+/// An offset is near if it is fewer than this many bytes ahead. A pass continues to a near offset
+/// without a look-up in the table.
+const NEAR_DISTANCE_BYTES: usize = 32;
 
 /// Returns the byte offset of a position in the text whose line table is `table`.
 pub fn offset_in(text: &str, table: &LineTable, unit: Unit, position: Position) -> usize
@@ -74,7 +74,7 @@ pub fn range_offsets(
         result.counted_piece.end_and_units }
 {
     let counted = counted_piece_before(text, table, unit, last, range.start);
-    let start = place_after_counted(text, table, unit, counted, range.start);
+    let start = place_from_counted_piece(text, table, unit, counted, range.start);
     let end = if range.start.line == range.end.line && is_at_or_after(range.start, range.end) {
         advance_to_position(text, unit, start, range.end)
     } else {
@@ -87,8 +87,9 @@ pub fn range_offsets(
     }
 }
 
-/// Returns a counted piece of the position's line that ends at or before the position. Counting
-/// begins with `last`, the piece that was counted last.
+/// Returns a counted piece of the position's line, or of the last line if the text has no such
+/// line. The piece ends at or before the position. Counting begins with `last`, the piece that was
+/// counted last.
 fn counted_piece_before(
     text: &str,
     table: &LineTable,
@@ -106,14 +107,14 @@ fn counted_piece_before(
     }
     CountedPiece {
         start: start.offset,
-        end_and_units: counted_stretch_up_to(text, unit, start.offset, last, position.character),
+        end_and_units: counted_piece_up_to(text, unit, start.offset, last, position.character),
     }
 }
 
 /// Returns the place of a position. If the piece `counted` is the beginning of the position's line
 /// and ends at or before the position, the search begins at the end of this piece. Otherwise the
 /// search begins at the start of the line.
-fn place_after_counted(
+fn place_from_counted_piece(
     text: &str,
     table: &LineTable,
     unit: Unit,
@@ -160,7 +161,7 @@ pub fn position_in(text: &str, table: &LineTable, unit: Unit, offset: usize) -> 
     position_of_place(advance_to_offset(text, unit, place, offset))
 }
 
-/// Returns the position of each byte offset, in the order of the list. Each position is counted
+/// Returns the position of each byte offset, in the order of `offsets`. Each position is counted
 /// from the previous offset's place or from the start of a line.
 pub fn positions_in(
     alloc: Global,
@@ -176,14 +177,14 @@ pub fn positions_in(
     let mut positions = Vec::with_capacity(alloc, offsets.len())?;
     let mut place = TEXT_START;
     for offset in offsets {
-        let from = nearest_place_before(text, table, place, *offset);
+        let from = pass_start_for_offset(text, table, place, *offset);
         place = advance_to_offset(text, unit, from, *offset);
         positions.push(position_of_place(place))?;
     }
     Ok(positions)
 }
 
-/// Returns the byte offset of each position, in the order of the list. The search for a position
+/// Returns the byte offset of each position, in the order of `positions`. The search for a position
 /// begins at the previous position's place if this place is in the same line and not after the
 /// position. Otherwise it begins at the start of the position's line.
 pub fn offsets_in(
@@ -201,7 +202,7 @@ pub fn offsets_in(
     let mut place = TEXT_START;
     let mut last = position_of_place(TEXT_START);
     for position in positions {
-        place = place_from_last(text, table, unit, last, place, *position);
+        place = place_from_previous(text, table, unit, last, place, *position);
         last = *position;
         offsets.push(place.offset)?;
     }
@@ -210,7 +211,7 @@ pub fn offsets_in(
 
 /// Returns the place of `position`. If the previous position `last` is in the same line and not
 /// after `position`, the search begins at `place`, the place of `last`.
-fn place_from_last(
+fn place_from_previous(
     text: &str,
     table: &LineTable,
     unit: Unit,
@@ -233,7 +234,7 @@ fn place_from_last(
 /// Returns the place at which a pass to a byte offset begins. The result is `place`, the previous
 /// offset's place, if `place` isn't after the offset, and is near the offset or in the offset's
 /// line. Otherwise the result is the start of the offset's line.
-fn nearest_place_before(
+fn pass_start_for_offset(
     text: &str,
     table: &LineTable,
     place: PlaceInText,
@@ -244,7 +245,7 @@ fn nearest_place_before(
         → CanCountFrom (width_of unit) text.now result }
     ensures following { result.offset ≤ offset }
 {
-    if place.offset <= offset && offset - place.offset < NEAR_BYTES {
+    if place.offset <= offset && offset - place.offset < NEAR_DISTANCE_BYTES {
         return place;
     }
     let start = line_start_before(text, table, offset);
@@ -274,7 +275,7 @@ pub fn line_in<'a>(text: &'a str, table: &LineTable, k: usize) -> Option<&'a str
         return None;
     }
     let end = line_end_offset(table, text.len(), k);
-    Some(&text[table.at(k)..end])
+    Some(&text[table.line_start(k)..end])
 }
 
 /// Returns the byte offset of the end of line `k`, counted from 0, its ending included. The result
@@ -285,7 +286,11 @@ fn line_end_offset(table: &LineTable, len: usize, k: usize) -> usize
     ensures last { length table.now.starts ≤ k + 1 → result ≡ len }
 {
     let count = table.count();
-    if k + 1 < count { table.at(k + 1) } else { len }
+    if k + 1 < count {
+        table.line_start(k + 1)
+    } else {
+        len
+    }
 }
 
 /// Returns the place at which a line, counted from 0, starts. If there is no such line, the result
@@ -298,7 +303,7 @@ fn line_start_place(table: &LineTable, line: u64) -> PlaceInText
 {
     let line = line.min(table.count() as u64 - 1);
     PlaceInText {
-        offset: table.at(line as usize),
+        offset: table.line_start(line as usize),
         line,
         character: 0,
     }

@@ -19,8 +19,8 @@ pub fn line_starts_of(alloc: Global, text: &str) -> Result<Vec<usize>, AllocErro
 /// Returns the line starts that a change adds. The change replaces the bytes `from..to` of `text`
 /// by `new`. The result has the byte offsets in the changed text at which a line starts, from the
 /// start of `new` to its end, both included. These starts also depend on the byte before `from` and
-/// on the unchanged bytes behind `to`.
-pub fn line_starts_in_change(
+/// on the unchanged bytes after `to`.
+pub fn line_starts_added_by_change(
     alloc: Global,
     text: &str,
     from: usize,
@@ -75,13 +75,13 @@ fn add_line_starts(
     let mut last = before;
     let mut at = from;
     for byte in bytes {
-        if line_starts_between(last, Some(*byte)) {
+        if is_line_start_between(last, Some(*byte)) {
             starts.push(at)?;
         }
         last = *byte;
         at += 1;
     }
-    if line_starts_between(last, following.first().copied()) {
+    if is_line_start_between(last, following.first().copied()) {
         starts.push(at)?;
     }
     Ok(())
@@ -91,7 +91,7 @@ fn add_line_starts(
 /// text, `next` is None. No line starts between CR and LF.
 #[tactic(auto, unfolding(crate::specs::Texts::ends_line, crate::specs::Texts::starts_with_lf))]
 #[inline(always)]
-fn line_starts_between(last: u8, next: Option<u8>) -> bool
+fn is_line_start_between(last: u8, next: Option<u8>) -> bool
     ensures { result ≡ ends_line last (option_to_list next) }
 {
     // Most bytes of a text are greater than CR, so for them this comparison is enough.

@@ -24,9 +24,9 @@ use crate::stores::TextStore;
 use std::alloc::{AllocError, Global};
 use std::marker::Model;
 
-/// A text with the table of its lines. A look-up counts only the characters of one line. If a
-/// change starts in the same line as the previous change, finding its start passes only over the
-/// text between the two changes.
+/// A text with the table of its lines. A look-up of one offset or position counts only the
+/// characters of its line. If a change starts in the same line as the previous change, finding its
+/// start usually passes over little more than the text between the two changes.
 #[derive(Drop)]
 pub struct Lines {
     text: String,
@@ -39,11 +39,11 @@ impl Model for Lines {
     ghost use Rattle.std.specs.Prelude.{string_bytes};
     ghost use Rattle.std.specs.Str.{chars};
     ghost use Rattle.ob0_text.specs.CountedLines.{TableAndPieceMatchText};
-    ghost use Rattle.ob0_text.specs.LineStarts.{TextInUnit, coded_text_in_unit};
+    ghost use Rattle.ob0_text.specs.LineStarts.{TextWithUnit, coded_text_with_unit};
 
-    ghost Value = { TextInUnit };
+    ghost Value = { TextWithUnit };
 
-    ghost coded = { coded_text_in_unit };
+    ghost coded = { coded_text_with_unit };
 
     ghost view = { λ lines. record { text = chars (string_bytes lines.text); unit = lines.unit } };
 

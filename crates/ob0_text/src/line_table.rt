@@ -1,31 +1,31 @@
 //! Keeps the table of a text's lines, in two parts.
 //!
 //! The table has the start of each line. The starts up to the end of the last change are kept as
-//! byte offsets. The starts behind that place are kept as distances in bytes from the text's end,
-//! last line first. So a change doesn't alter the stored distances of the lines behind it (proved
-//! as `with_the_end` in `LineTables`). A change takes time for the starts that it adds or removes,
-//! and for the starts between its place and the previous change's place. `move_starts_to_back` and
+//! byte offsets. The starts after that place are kept as distances in bytes from the text's end,
+//! last line first. So a change doesn't alter the stored distances of the lines after it (proved as
+//! `with_the_end` in `LineTables`). A change takes time for the starts that it adds or removes, and
+//! for the starts between its place and the previous change's place. `move_starts_to_back` and
 //! `move_starts_to_front` move the starts between these two places from one part to the other.
 //! Their contracts say that the list of all starts is unchanged. If changes alternate between two
 //! distant places, each change moves all starts between these places.
 //!
-//! `replace_untrimmed` allocates all memory first: for the new starts, for both parts of the table,
-//! then for the text. After that no allocation can fail, as the contracts of `reserve` and
+//! `replace_without_trimming` allocates all memory first: for the new starts, for both parts of the
+//! table, then for the text. After that no allocation can fail, as the contracts of `reserve` and
 //! `extend_from_slice` say. If an allocation fails while starts are moved, the two parts divide the
 //! table at another line, but the table still matches the text. At the end `replace` releases spare
 //! memory (`spare_room.rt`).
 
 ghost use Rattle.std.specs.Prelude.{◌≡◌, ◌+◌, ◌<◌, ◌≤◌, ◌++◌, IfOk, OnOk, OnErr, drop, length, min, slice_index, string_bytes, take};
 ghost use Rattle.std.specs.Str.{IsCharBoundary};
-ghost use Rattle.ob0_text.specs.LineStarts.{AreAllBelow, IsLineTableOf, IsCountBefore, stored_starts};
+ghost use Rattle.ob0_text.specs.LineStarts.{AreAllBelow, IsLineTableOf, IsCountOfStartsBefore, starts_in_front_and_back};
 
-use crate::line_starts::{line_starts_in_change, line_starts_of};
+use crate::line_starts::{line_starts_added_by_change, line_starts_of};
 use crate::spare_room::{trim_list, trim_text};
 use std::alloc::{AllocError, Global};
 use std::marker::Model;
 
 /// The byte offsets at which a text's lines start, in text order. `front` has the starts up to the
-/// end of the last change, as byte offsets. `back` has the starts behind that place, last line
+/// end of the last change, as byte offsets. `back` has the starts after that place, last line
 /// first, as distances in bytes from the text's end. So a change only moves the starts between its
 /// place and the previous change's place from one list to the other. `len` is the text's length in
 /// bytes.
@@ -37,12 +37,12 @@ pub struct LineTable {
 }
 
 impl Model for LineTable {
-    ghost use Rattle.ob0_text.specs.LineStarts.{LineStartTable, stored_starts};
+    ghost use Rattle.ob0_text.specs.LineStarts.{LineStartTable, starts_in_front_and_back};
 
     ghost Value = { LineStartTable };
 
     ghost view = { λ t. record {
-      starts = stored_starts t.len t.front.items t.back.items;
+      starts = starts_in_front_and_back t.len t.front.items t.back.items;
       len = t.len;
     } };
 }
@@ -68,7 +68,7 @@ impl LineTable {
     }
 
     /// Returns the byte offset at which a line starts. Lines are counted from 0.
-    pub fn at(&self, line: usize) -> usize
+    pub fn line_start(&self, line: usize) -> usize
         requires { line < length self.now.starts }
         ensures { result ≡ slice_index self.now.starts line }
     {
@@ -80,17 +80,17 @@ impl LineTable {
             .saturating_sub(self.back[self.back.len() - 1 - later])
     }
 
-    /// Returns the number of lines whose start is less than the byte offset `offset`, by binary
+    /// Returns the number of lines that start before the byte offset `offset`, found by binary
     /// search.
     pub fn count_starts_before(&self, offset: usize) -> usize
         ensures bound { result ≤ length self.now.starts }
-        ensures count { IsCountBefore self.now.starts offset result }
+        ensures count { IsCountOfStartsBefore self.now.starts offset result }
     {
         let mut low = 0;
         let mut high = self.count();
         while low < high {
             let middle = low + (high - low) / 2;
-            if self.at(middle) < offset {
+            if self.line_start(middle) < offset {
                 low = middle + 1;
             } else {
                 high = middle;
@@ -118,7 +118,7 @@ impl LineTable {
             ≡ (take from (string_bytes text.old) ++ new.now) ++ drop to (string_bytes text.old)) }
         ensures err { OnErr result (string_bytes text.new ≡ string_bytes text.old) }
     {
-        self.replace_untrimmed(text, from, to, new)?;
+        self.replace_without_trimming(text, from, to, new)?;
         trim_text(text);
         self.trim();
         Ok(())
@@ -135,7 +135,7 @@ impl LineTable {
     /// Replaces the bytes `from..to` of the text by `new`, and updates this table to match the
     /// text. Spare memory isn't released. If an allocation fails, the text is unchanged, and the
     /// table still matches it.
-    fn replace_untrimmed(
+    fn replace_without_trimming(
         &mut self,
         text: &mut String,
         from: usize,
@@ -154,7 +154,7 @@ impl LineTable {
         let kept = self.count_starts_before(from);
         let moved = self.count_starts_before(to + 1);
         let alloc = *self.front.allocator();
-        let added = line_starts_in_change(alloc, text.as_str(), from, to, new)?;
+        let added = line_starts_added_by_change(alloc, text.as_str(), from, to, new)?;
         move_starts_to_back(&mut self.front, &mut self.back, self.len, kept)?;
         move_starts_to_front(&mut self.front, &mut self.back, self.len, kept)?;
         self.front.reserve(added.len())?;
@@ -175,9 +175,9 @@ fn move_starts_to_back(
     len: usize,
     count: usize,
 ) -> Result<(), AllocError>
-    requires { AreAllBelow (len + 1) (stored_starts len front.old.items back.old.items) }
-    ensures same { stored_starts len front.new.items back.new.items
-        ≡ stored_starts len front.old.items back.old.items }
+    requires { AreAllBelow (len + 1) (starts_in_front_and_back len front.old.items back.old.items) }
+    ensures same { starts_in_front_and_back len front.new.items back.new.items
+        ≡ starts_in_front_and_back len front.old.items back.old.items }
     ensures left { OnOk result (length front.new.items ≡ min count (length front.old.items)) }
 {
     let gone = front.len().saturating_sub(count);
@@ -200,10 +200,10 @@ fn move_starts_to_front(
     len: usize,
     count: usize,
 ) -> Result<(), AllocError>
-    ensures same { stored_starts len front.new.items back.new.items
-        ≡ stored_starts len front.old.items back.old.items }
+    ensures same { starts_in_front_and_back len front.new.items back.new.items
+        ≡ starts_in_front_and_back len front.old.items back.old.items }
     ensures left { OnOk result (length front.old.items ≤ count
-        → count ≤ length (stored_starts len front.old.items back.old.items)
+        → count ≤ length (starts_in_front_and_back len front.old.items back.old.items)
         → length front.new.items ≡ count) }
 {
     let added = count.saturating_sub(front.len());

@@ -3,8 +3,8 @@
 //! There are two kinds of passes: to a byte offset (`advance_to_offset`) and to a position
 //! (`advance_to_position`). Both first advance by stretches of a line: runs of up to 64 bytes
 //! (`stretches.rt`). Then the pass to an offset advances over ASCII bytes (`skip_ascii`), even
-//! across lines, because the offset is usually only a few lines further on. This pass decodes only
-//! CR and characters outside ASCII. The pass to a position decodes each remaining character. If the
+//! across lines, because the offset is usually only a few lines ahead. This pass decodes only CR
+//! and characters outside ASCII. The pass to a position decodes each remaining character. If the
 //! pass began in the position's line, fewer than 64 characters remain to be decoded. The pass to an
 //! offset preserves the invariant `CanCountFrom`, and the pass to a position preserves
 //! `CanSeekFrom`. `StretchSteps` proves that a step over a whole stretch preserves both, because a
@@ -37,7 +37,7 @@ pub const TEXT_START: PlaceInText = PlaceInText {
     character: 0,
 };
 
-/// Returns the position of each byte offset, in the order of the list. If the offsets ascend, a
+/// Returns the position of each byte offset, in the order of `offsets`. If the offsets ascend, a
 /// single pass over the text finds all positions.
 pub fn positions_of(
     alloc: Global,
@@ -60,8 +60,8 @@ pub fn positions_of(
     Ok(positions)
 }
 
-/// Returns the byte offset of each position, in the order of the list. If the positions ascend, a
-/// single pass over the text finds all offsets.
+/// Returns the byte offset of each position, in the order of `positions`. If the positions ascend,
+/// a single pass over the text finds all offsets.
 pub fn offsets_of(
     alloc: Global,
     text: &str,

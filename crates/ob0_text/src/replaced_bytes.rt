@@ -1,18 +1,18 @@
-//! Describes which bytes of a text a change has replaced.
+//! Describes which bytes of a text were replaced by a change.
 //!
 //! The changes in one notification are merged into one range of bytes that contains every change.
-//! The bytes in front of this range and behind it are unchanged (`CoversAllChanges`,
-//! `IsChangedAt`). `rescan` of `ob0_scan` requires this (`ReplacesRange`). `replace_at` of a store
-//! returns the bytes that one change replaces. `merge_with` joins two changes, of which the second
-//! is made to the result of the first. It compares their ranges in this result, which has the added
-//! bytes of the first change and still has the removed bytes of the second. The bytes behind both
-//! ranges are unchanged. A change of the whole text replaces all bytes. `CoversAllChanges` allows a
-//! range with more bytes than necessary, because a smaller range only saves time. If the text
-//! before the changes wasn't known, the result is None, because no part of that text is known to be
-//! unchanged.
+//! The bytes before this range and after it are unchanged (`CoversAllChanges`,
+//! `DifferOnlyInReplacedBytes`). `rescan` of `ob0_scan` requires this (`ReplacesRange`).
+//! `replace_at` of a store returns the bytes that one change replaces. `merge_with` joins two
+//! changes, of which the second is made to the result of the first. It compares their ranges in
+//! this result, which has the added bytes of the first change and still has the removed bytes of
+//! the second. The bytes after both ranges are unchanged. A change of the whole text replaces all
+//! bytes. `CoversAllChanges` allows a range with more bytes than necessary, because a smaller range
+//! only saves time. If the text before the changes wasn't known, the result is None, because no
+//! part of that text is known to be unchanged.
 
 ghost use Rattle.std.specs.Prelude.{◌≡◌, ℕ, List, Option, is_some};
-ghost use Rattle.ob0_text.specs.ChangedBytes.{CoversAllChanges, IsChangedAt};
+ghost use Rattle.ob0_text.specs.ChangedBytes.{CoversAllChanges, DifferOnlyInReplacedBytes};
 
 /// A change of a text: the `removed` bytes of the old text that start at the byte offset `from`
 /// were replaced by `added` other bytes.
@@ -28,9 +28,9 @@ impl ReplacedBytes {
     /// the text that this change left.
     pub(crate) fn merge_with(self, next: ReplacedBytes) -> ReplacedBytes
         ensures { (first middle last : List ℕ)
-            → IsChangedAt first middle self
-            → IsChangedAt middle last next
-            → IsChangedAt first last result }
+            → DifferOnlyInReplacedBytes first middle self
+            → DifferOnlyInReplacedBytes middle last next
+            → DifferOnlyInReplacedBytes first last result }
     {
         let from = self.from.min(next.from);
         let left = self.from.saturating_add(self.added);

@@ -1,16 +1,17 @@
 //! Releases spare memory.
 //!
 //! A list keeps its capacity when it gets shorter. `trim_list` and `trim_text` release most of the
-//! capacity if the used part and `MAX_SPARE_CAPACITY` together are less than a quarter of the
-//! capacity. So an open document occupies at most a few times its present length, even if it was
-//! much longer before. Room for twice the length is kept, so a list can grow by its own length
+//! capacity if the used part and `NEGLIGIBLE_SPARE_CAPACITY` together are less than a quarter of
+//! the capacity. So an open document occupies at most a few times its present length, even if it
+//! was much longer before. Room for twice the length is kept, so a list can grow by its own length
 //! before memory is moved again. No contract bounds the capacity, because std's `shrink_to` leaves
 //! the capacity unchanged if it can't allocate a smaller block.
 
 ghost use Rattle.std.specs.Prelude.{◌≡◌, string_bytes};
 
-/// The spare capacity that isn't worth releasing, in entries of a list or bytes of a text.
-const MAX_SPARE_CAPACITY: usize = 512;
+/// The amount of spare capacity that isn't worth releasing, in entries of a list or bytes of a
+/// text.
+const NEGLIGIBLE_SPARE_CAPACITY: usize = 512;
 
 /// Releases most of a list's memory if little of it is used (`is_sparse`). Room for twice the
 /// list's length is kept.
@@ -33,7 +34,7 @@ pub(crate) fn trim_text(text: &mut String)
 }
 
 /// Returns whether so little of a capacity is used that memory should be released: a quarter of the
-/// capacity is more than the used part and `MAX_SPARE_CAPACITY` together.
+/// capacity is more than the used part and `NEGLIGIBLE_SPARE_CAPACITY` together.
 fn is_sparse(capacity: usize, used: usize) -> bool {
-    capacity / 4 > used.saturating_add(MAX_SPARE_CAPACITY)
+    capacity / 4 > used.saturating_add(NEGLIGIBLE_SPARE_CAPACITY)
 }

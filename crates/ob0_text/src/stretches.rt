@@ -3,17 +3,17 @@
 //!
 //! A stretch has at most 64 bytes of whole characters, and no character in it is LF or CR. One loop
 //! counts the bytes that are LF or CR. If the unit is UTF-16, another loop counts the first byte of
-//! each character, and counts this byte twice if the character has four bytes (`utf16_units_at`).
-//! `StretchBytes` proves that this sum is the width of the characters. Both loops add to an 8-bit
-//! number and have no early exit, so the compiler vectorizes them. It doesn't vectorize a loop that
-//! sets a flag.
+//! each character, and counts this byte twice if the character has four bytes
+//! (`utf16_units_at_byte`). `StretchBytes` proves that this sum is the width of the characters.
+//! Both loops add to an 8-bit number and have no early exit, so the compiler vectorizes them. It
+//! doesn't vectorize a loop that sets a flag.
 
 ghost use Rattle.std.specs.Prelude.{◌≡◌, ◌==◌, ◌||◌, ◌+◌, ◌<◌, ◌≤◌, false, IfSome, length, sum_by};
 ghost use Rattle.std.specs.List.{All};
 ghost use Rattle.std.specs.Str.{IsCharBoundary, chars};
 ghost use Rattle.ob0_text.specs.Texts.{LF, CR};
 ghost use Rattle.ob0_text.specs.Units.{width_of};
-ghost use Rattle.ob0_text.specs.Stretches.{IsNotLineBreak, utf16_units_at, AreInOneLine, IsStretch};
+ghost use Rattle.ob0_text.specs.Stretches.{IsNotLineBreak, utf16_units_at_byte, AreInOneLineWithUnits, IsStretch};
 
 use crate::position_types::Unit;
 
@@ -25,7 +25,7 @@ pub struct Stretch {
 }
 
 /// The greatest number of bytes in a stretch.
-pub(crate) const STRETCH_BYTES: usize = 64;
+pub(crate) const MAX_STRETCH_BYTES: usize = 64;
 
 /// Returns the stretch that begins at the byte offset `from`: as many whole characters as 64 bytes
 /// can hold. Returns None if fewer than 64 bytes follow `from`, if `room` is less than 64, or if
@@ -35,21 +35,21 @@ pub fn next_stretch(text: &str, unit: Unit, from: usize, room: u64) -> Option<St
     ensures is { IfSome result (λ s. IsStretch (width_of unit) text.now from s) }
     ensures fits { IfSome result (λ s. s.end ≤ from + room) }
 {
-    if room < STRETCH_BYTES as u64 || text.len().saturating_sub(from) < STRETCH_BYTES {
+    if room < MAX_STRETCH_BYTES as u64 || text.len().saturating_sub(from) < MAX_STRETCH_BYTES {
         return None;
     }
-    let end = text.floor_char_boundary(from + STRETCH_BYTES);
+    let end = text.floor_char_boundary(from + MAX_STRETCH_BYTES);
     if end <= from {
         return None;
     }
-    let units = units_of(&text[from..end], unit)?;
+    let units = units_if_in_one_line(&text[from..end], unit)?;
     Some(Stretch { end, units })
 }
 
-/// Returns the number of units of a piece's characters, or None if one of them is LF or CR.
-pub(crate) fn units_of(piece: &str, unit: Unit) -> Option<u64>
+/// Returns the number of units of the characters in `piece`, or None if one of them is LF or CR.
+pub(crate) fn units_if_in_one_line(piece: &str, unit: Unit) -> Option<u64>
     requires { length piece.now ≤ 64 }
-    ensures { IfSome result (λ units. AreInOneLine (width_of unit) (chars piece.now) units) }
+    ensures { IfSome result (λ units. AreInOneLineWithUnits (width_of unit) (chars piece.now) units) }
 {
     if has_line_break(piece.as_bytes()) {
         return None;
@@ -82,22 +82,22 @@ fn is_line_break(byte: u8) -> bool
     byte == b'\n' || byte == b'\r'
 }
 
-/// Returns the number of UTF-16 units of a piece's characters. `bytes` are the characters in UTF-8.
+/// Returns the number of UTF-16 units of a piece of text, whose UTF-8 bytes are `bytes`.
 fn utf16_units(bytes: &[u8]) -> u64
     requires { length bytes.now ≤ 64 }
-    ensures { result ≡ sum_by utf16_units_at bytes.now }
+    ensures { result ≡ sum_by utf16_units_at_byte bytes.now }
 {
     let mut units: u8 = 0;
     for byte in bytes {
-        units += utf16_units_at(*byte);
+        units += utf16_units_at_byte(*byte);
     }
     units as u64
 }
 
-/// Returns the number of UTF-16 units that are counted at a byte: 1 at the first byte of a
-/// character, 2 if that character has four bytes, and 0 at any other byte.
-fn utf16_units_at(byte: u8) -> u8
-    ensures { result ≡ utf16_units_at byte }
+/// Returns the number of UTF-16 units that are counted at a byte of UTF-8: 2 at the first byte of a
+/// character of four bytes, 1 at the first byte of any other character, and 0 at every other byte.
+fn utf16_units_at_byte(byte: u8) -> u8
+    ensures { result ≡ utf16_units_at_byte byte }
 {
     (byte < 0x80 || 0xC0 <= byte) as u8 + (0xF0 <= byte) as u8
 }

@@ -3,18 +3,18 @@
 use Rattle.std.proofs.Common.{◌≡◌, ◌<◌, ◌≤◌, ℕ, ◌+◌, List, [], ◌∷◌, ◌++◌, arith}
 use Rattle.std.proofs.lemmas.List.{map-append}
 use Rattle.ob0_tree.specs.declared.tree.Role.{Role}
-use Rattle.ob0_tree.specs.Order.{AreAscending, names_without_roles}
+use Rattle.ob0_tree.specs.Order.{AreAscendingWithin, names_without_roles}
 use Rattle.ob0_tree.proofs.Leaves.{ascending_bounds, ascending_lower}
 
-pub ascend_first : (low : ℕ) (xs ys : List ℕ) (high : ℕ) → AreAscending low (xs ++ ys) high → AreAscending low xs high
+pub ascend_first : (low : ℕ) (xs ys : List ℕ) (high : ℕ) → AreAscendingWithin low (xs ++ ys) high → AreAscendingWithin low xs high
 ascend_first low [] ys high h = ascending_bounds low ys high h
 ascend_first low (x ∷ xs) ys high h = (h.0, ascend_first (x + 1) xs ys high h.1)
 
-pub ascend_second : (low : ℕ) (xs ys : List ℕ) (high : ℕ) → AreAscending low (xs ++ ys) high → AreAscending low ys high
+pub ascend_second : (low : ℕ) (xs ys : List ℕ) (high : ℕ) → AreAscendingWithin low (xs ++ ys) high → AreAscendingWithin low ys high
 ascend_second low [] ys high h = h
 ascend_second low (x ∷ xs) ys high h = ascending_lower low (x + 1) ys high (omega (arith, h.0)) (ascend_second (x + 1) xs ys high h.1)
 
-pub ascend_past : (from : ℕ) (xs : List ℕ) (y : ℕ) (ys : List ℕ) (to : ℕ) → AreAscending from (xs ++ (y ∷ ys)) to → AreAscending (y + 1) ys to
+pub ascend_past : (from : ℕ) (xs : List ℕ) (y : ℕ) (ys : List ℕ) (to : ℕ) → AreAscendingWithin from (xs ++ (y ∷ ys)) to → AreAscendingWithin (y + 1) ys to
 ascend_past from [] y ys to h = h.1
 ascend_past from (x ∷ xs) y ys to h = ascend_past (x + 1) xs y ys to h.1
 
@@ -40,13 +40,13 @@ below_more n m [] le h = tt
 below_more n m (x ∷ xs) le h = (omega (arith, le, h.0), below_more n m xs le h.1)
 
 -- In an ascending list, the numbers before y are below y.
-pub before_one : (low : ℕ) (xs : List ℕ) (y : ℕ) (ys : List ℕ) (high : ℕ) → AreAscending low (xs ++ (y ∷ ys)) high → AllBelow y xs
+pub before_one : (low : ℕ) (xs : List ℕ) (y : ℕ) (ys : List ℕ) (high : ℕ) → AreAscendingWithin low (xs ++ (y ∷ ys)) high → AllBelow y xs
 before_one low [] y ys high h = tt
 before_one low (x ∷ xs) y ys high h =
     let later = ascend_second (x + 1) xs (y ∷ ys) high h.1 in
     (omega (arith, later.0), before_one (x + 1) xs y ys high h.1)
 
-pub ascending_below : (low : ℕ) (xs : List ℕ) (high : ℕ) → AreAscending low xs high → (low ≤ high) × AllBelow high xs
+pub ascending_below : (low : ℕ) (xs : List ℕ) (high : ℕ) → AreAscendingWithin low xs high → (low ≤ high) × AllBelow high xs
 ascending_below low [] high h = (h, tt)
 ascending_below low (x ∷ xs) high h =
     let later = ascending_below (x + 1) xs high h.1 in
@@ -70,6 +70,6 @@ pub from_second : (n : ℕ) (xs ys : List ℕ) → AllFrom n (xs ++ ys) → AllF
 from_second n [] ys h = h
 from_second n (x ∷ xs) ys h = from_second n xs ys h.1
 
-pub ascending_from : (low : ℕ) (xs : List ℕ) (high : ℕ) → AreAscending low xs high → AllFrom low xs
+pub ascending_from : (low : ℕ) (xs : List ℕ) (high : ℕ) → AreAscendingWithin low xs high → AllFrom low xs
 ascending_from low [] high h = tt
 ascending_from low (x ∷ xs) high h = (h.0, from_less low (x + 1) xs (omega (arith, h.0)) (ascending_from (x + 1) xs high h.1))

@@ -7,10 +7,10 @@ use Rattle.ob0_scan.specs.declared.lexeme.TokenKind.{TokenKind}
 use Rattle.ob0_scan.specs.declared.lexeme.TokenKind.TheVariants as kind
 use Rattle.ob0_scan.specs.declared.lexeme.Token.{Token}
 use Rattle.ob0_tree.specs.Lexeme.{Terminal, Name, Number, WordOrSymbol, EndOfText}
-use Rattle.ob0_tree.specs.Places.{index_terminal, index_terminals_from}
+use Rattle.ob0_tree.specs.Places.{indexed_terminal, indexed_terminals_from}
 use Rattle.ob0_tree.specs.ParsedModule.{ParsedModule, IsParsed, tree_of}
 use Rattle.ob0_tree.proofs.Occurring.{looked_up_only, looked_up-occurrences}
-use Rattle.ob0_tree.specs.Order.{AreAscending, names_without_roles, identifier_names, identifier_index, identifier_indexes_from, AreIdentifierTokens}
+use Rattle.ob0_tree.specs.Order.{AreAscendingWithin, names_without_roles, identifier_names, index_if_identifier, identifier_indexes_from, AreIdentifierTokens}
 use Rattle.ob0_tree.specs.declared.tree.Role.{Role}
 use Rattle.ob0_tree.specs.declared.tree.Role.TheVariants as role
 use Rattle.ob0_tree.specs.Tree.{occurrences, Sort, Tree, spell, identifiers, none, one, end, more, compares, relates, sum, adds, product, multiplies, designator, integer, parenthesised, negation, field, index, empty, assigns, calls, branches, while_loop, repeat_loop, no_arguments, some_arguments, then_argument, runs, then_statement, elsif_branch, else_branch, listed, then_name, named_type, array_type, record_type, no_fields, some_fields, then_fields, no_formals, some_formals, value_section, variable_section, then_section, declares_constant, declares_constants, declares_type, declares_types, declares_variable, declares_variables, declares_procedure, declares, begins, forms_block, is_module}
@@ -88,11 +88,11 @@ leaves_spelled r (begins s) = simp (leaves_spelled r s)
 leaves_spelled r (forms_block ds b) = simp (lexeme_names-append, map-append, leaves_spelled r ds, leaves_spelled r b)
 leaves_spelled r (is_module name b closing) = simp (lexeme_names-append, map-append, leaves_spelled r b)
 
-names_from : (ts : List Token) (i : ℕ) → lexeme_names (index_terminals_from i ts) ≡ identifier_indexes_from i ts
+names_from : (ts : List Token) (i : ℕ) → lexeme_names (indexed_terminals_from i ts) ≡ identifier_indexes_from i ts
 names_from [] i = refl
-names_from (t ∷ ts) i = name_first t.kind i (index_terminals_from (i + 1) ts) ∙ ap (λ z. identifier_index i t.kind ++ z) (names_from ts (i + 1))
+names_from (t ∷ ts) i = name_first t.kind i (indexed_terminals_from (i + 1) ts) ∙ ap (λ z. index_if_identifier i t.kind ++ z) (names_from ts (i + 1))
   where
-    name_first : (k : TokenKind) (i : ℕ) (xs : List (Terminal ℕ)) → lexeme_names (index_terminal i k ∷ xs) ≡ identifier_index i k ++ lexeme_names xs
+    name_first : (k : TokenKind) (i : ℕ) (xs : List (Terminal ℕ)) → lexeme_names (indexed_terminal i k ∷ xs) ≡ index_if_identifier i k ++ lexeme_names xs
     name_first kind.Identifier i xs = refl
     name_first (kind.Integer v) i xs = refl
     name_first _ i xs = refl
@@ -105,32 +105,32 @@ leaves_parsed m p =
     ∙ (sym (lexeme_names-append (spell (tree_of m)) (EndOfText ∷ []))
     ∙ (ap lexeme_names p.places ∙ names_from m.source.tokens 0)))
 
-pub ascending_bounds : (low : ℕ) (xs : List ℕ) (high : ℕ) → AreAscending low xs high → low ≤ high
+pub ascending_bounds : (low : ℕ) (xs : List ℕ) (high : ℕ) → AreAscendingWithin low xs high → low ≤ high
 ascending_bounds low [] high p = p
 ascending_bounds low (x ∷ xs) high p = let h = ascending_bounds (x + 1) xs high p.1 in omega (arith, p.0)
 
-pub ascending_lower : (less low : ℕ) (xs : List ℕ) (high : ℕ) → less ≤ low → AreAscending low xs high → AreAscending less xs high
+pub ascending_lower : (less low : ℕ) (xs : List ℕ) (high : ℕ) → less ≤ low → AreAscendingWithin low xs high → AreAscendingWithin less xs high
 ascending_lower less low [] high h p = omega (arith, h, p)
 ascending_lower less low (x ∷ xs) high h p = (omega (arith, h, p.0), p.1)
 
-pub ascending_higher : (low : ℕ) (xs : List ℕ) (high above : ℕ) → high ≤ above → AreAscending low xs high → AreAscending low xs above
+pub ascending_higher : (low : ℕ) (xs : List ℕ) (high above : ℕ) → high ≤ above → AreAscendingWithin low xs high → AreAscendingWithin low xs above
 ascending_higher low [] high above h p = omega (arith, h, p)
 ascending_higher low (x ∷ xs) high above h p = (p.0, ascending_higher (x + 1) xs high above h p.1)
 
-identifiers_ascend : (ts : List Token) (i : ℕ) → AreAscending i (identifier_indexes_from i ts) (i + length ts)
+identifiers_ascend : (ts : List Token) (i : ℕ) → AreAscendingWithin i (identifier_indexes_from i ts) (i + length ts)
 identifiers_ascend [] i = omega arith
 identifiers_ascend (t ∷ ts) i =
     let others = ascending_higher (i + 1) (identifier_indexes_from (i + 1) ts) (i + 1 + length ts) (i + length (t ∷ ts)) (omega arith) (identifiers_ascend ts (i + 1)) in
     first t.kind i (identifier_indexes_from (i + 1) ts) (i + length (t ∷ ts)) others
   where
-    first : (k : TokenKind) (i : ℕ) (xs : List ℕ) (high : ℕ) → AreAscending (i + 1) xs high → AreAscending i (identifier_index i k ++ xs) high
+    first : (k : TokenKind) (i : ℕ) (xs : List ℕ) (high : ℕ) → AreAscendingWithin (i + 1) xs high → AreAscendingWithin i (index_if_identifier i k ++ xs) high
     first kind.Identifier i xs high p = (omega arith, p)
     first (kind.Integer v) i xs high p = ascending_lower i (i + 1) xs high (omega arith) p
     first _ i xs high p = ascending_lower i (i + 1) xs high (omega arith) p
 
 -- The identifiers of a module's tree ascend.
-pub leaves_ascend : (m : ParsedModule) → IsParsed m → AreAscending 0 (identifier_names (tree_of m)) (length m.source.tokens)
-leaves_ascend m p = subst (λ l. AreAscending 0 l (length m.source.tokens)) (sym (leaves_parsed m p)) (subst (λ n. AreAscending 0 (identifier_indexes_from 0 m.source.tokens) n) (zero-add (length m.source.tokens)) (identifiers_ascend m.source.tokens 0))
+pub leaves_ascend : (m : ParsedModule) → IsParsed m → AreAscendingWithin 0 (identifier_names (tree_of m)) (length m.source.tokens)
+leaves_ascend m p = subst (λ l. AreAscendingWithin 0 l (length m.source.tokens)) (sym (leaves_parsed m p)) (subst (λ n. AreAscendingWithin 0 (identifier_indexes_from 0 m.source.tokens) n) (zero-add (length m.source.tokens)) (identifiers_ascend m.source.tokens 0))
 
 after_front : (front back : List Token) (t d : Token) → slice_index_or (front ++ (t ∷ back)) (length front) d ≡ t
 after_front [] back t d = refl
@@ -152,7 +152,7 @@ are_identifiers_from all front (t ∷ back) e i at =
     let at_index : (d : Token) → slice_index_or all i d ≡ t = λ d. ap (λ l. slice_index_or l i d) e ∙ (ap (λ n. slice_index_or (front ++ (t ∷ back)) n d) at ∙ after_front front back t d) in
     first all i t t.kind refl within at_index (identifier_indexes_from (i + 1) back) others
   where
-    first : (all : List Token) (i : ℕ) (t : Token) (k : TokenKind) → t.kind ≡ k → i < length all → ((d : Token) → slice_index_or all i d ≡ t) → (xs : List ℕ) → AreIdentifierTokens all xs → AreIdentifierTokens all (identifier_index i k ++ xs)
+    first : (all : List Token) (i : ℕ) (t : Token) (k : TokenKind) → t.kind ≡ k → i < length all → ((d : Token) → slice_index_or all i d ≡ t) → (xs : List ℕ) → AreIdentifierTokens all xs → AreIdentifierTokens all (index_if_identifier i k ++ xs)
     first all i t kind.Identifier e within at_index xs p = ((within, λ d. ap (λ u. u.kind) (at_index d) ∙ e), p)
     first all i t (kind.Integer v) e within at_index xs p = p
     first all i t _ e within at_index xs p = p
@@ -162,7 +162,7 @@ pub leaves_are_identifiers : (m : ParsedModule) → IsParsed m → AreIdentifier
 leaves_are_identifiers m p =
     subst (AreIdentifierTokens m.source.tokens) (sym (leaves_parsed m p)) (are_identifiers_from m.source.tokens [] m.source.tokens refl 0 refl)
 
-ascending_looked_up : (low : ℕ) (xs : List (Role × ℕ)) (high : ℕ) → AreAscending low (names_without_roles xs) high → AreAscending low (looked_up_only xs) high
+ascending_looked_up : (low : ℕ) (xs : List (Role × ℕ)) (high : ℕ) → AreAscendingWithin low (names_without_roles xs) high → AreAscendingWithin low (looked_up_only xs) high
 ascending_looked_up low [] high p = p
 ascending_looked_up low ((role.LookedUp, n) ∷ xs) high p = (p.0, ascending_looked_up (n + 1) xs high p.1)
 ascending_looked_up low ((role.Declaring, n) ∷ xs) high p = ascending_lower low (n + 1) (looked_up_only xs) high (omega (arith, p.0)) (ascending_looked_up (n + 1) xs high p.1)
@@ -171,6 +171,6 @@ ascending_looked_up low ((role.FieldName, n) ∷ xs) high p = ascending_lower lo
 ascending_looked_up low ((role.ModuleName, n) ∷ xs) high p = ascending_lower low (n + 1) (looked_up_only xs) high (omega (arith, p.0)) (ascending_looked_up (n + 1) xs high p.1)
 
 -- If the identifiers of a tree ascend, the ones that are looked up ascend as well.
-pub occurrences_ascend : {s : Sort} (t : Tree ℕ s) (low high : ℕ) → AreAscending low (identifier_names t) high → AreAscending low (occurrences t) high
+pub occurrences_ascend : {s : Sort} (t : Tree ℕ s) (low high : ℕ) → AreAscendingWithin low (identifier_names t) high → AreAscendingWithin low (occurrences t) high
 occurrences_ascend t low high p =
-    subst (λ l. AreAscending low l high) (looked_up-occurrences role.Declaring (λ n xs. refl) t) (ascending_looked_up low (identifiers role.Declaring t) high p)
+    subst (λ l. AreAscendingWithin low l high) (looked_up-occurrences role.Declaring (λ n xs. refl) t) (ascending_looked_up low (identifiers role.Declaring t) high p)

@@ -10,10 +10,10 @@ use Rattle.ob0_tree.specs.declared.tree.Role.TheVariants as role
 use Rattle.ob0_tree.specs.Tree.{Sort, Tree, identifiers}
 
 -- States that the numbers in the list are strictly ascending, and that each is at least `low` and
--- less than `high`. Also states that `low` is at most `high`, even if the list is empty.
-abbrev pub AreAscending : ℕ → List ℕ → ℕ → Type 0
-AreAscending low [] high = low ≤ high
-AreAscending low (x ∷ xs) high = (low ≤ x) × AreAscending (x + 1) xs high
+-- less than `high`. If the list is empty, states that `low` is at most `high`.
+abbrev pub AreAscendingWithin : ℕ → List ℕ → ℕ → Type 0
+AreAscendingWithin low [] high = low ≤ high
+AreAscendingWithin low (x ∷ xs) high = (low ≤ x) × AreAscendingWithin (x + 1) xs high
 
 -- Returns the names in a list of identifiers, without their roles, in the same order.
 abbrev pub names_without_roles : {N : Type 0} → List (Role × N) → List N
@@ -25,15 +25,15 @@ identifier_names t = names_without_roles (identifiers role.Declaring t)
 
 -- Returns a list that contains only the index `i` if the given kind is `Identifier`. For any other
 -- kind, returns the empty list.
-abbrev pub identifier_index : ℕ → TokenKind → List ℕ
-identifier_index i kind.Identifier = i ∷ []
-identifier_index i k = []
+abbrev pub index_if_identifier : ℕ → TokenKind → List ℕ
+index_if_identifier i kind.Identifier = i ∷ []
+index_if_identifier i k = []
 
 -- Returns the indexes of the identifiers in a list of tokens, in order. The first token of the list
 -- has the index `i`.
 abbrev pub identifier_indexes_from : ℕ → List Token → List ℕ
 identifier_indexes_from i [] = []
-identifier_indexes_from i (t ∷ ts) = identifier_index i t.kind ++ identifier_indexes_from (i + 1) ts
+identifier_indexes_from i (t ∷ ts) = index_if_identifier i t.kind ++ identifier_indexes_from (i + 1) ts
 
 -- States that the list of tokens has an identifier at the index `i`, counted from 0.
 abbrev pub IsIdentifierToken : List Token → ℕ → Type 0

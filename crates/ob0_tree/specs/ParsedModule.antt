@@ -9,7 +9,7 @@ use Rattle.ob0_tree.specs.Lexeme.{EndOfText}
 use Rattle.ob0_tree.specs.Tree.{Tree, module_text, is_module, spell}
 use Rattle.ob0_tree.specs.View.{block_of}
 use Rattle.ob0_tree.specs.Module.{ModuleOf}
-use Rattle.ob0_tree.specs.Places.{index_terminals, tree_with_names}
+use Rattle.ob0_tree.specs.Places.{indexed_terminals, tree_with_names}
 
 -- A parsed module: its text with the tokens and comments (`source`), its name, its block and its
 -- closing name. A name is given by the index of its token.
@@ -35,4 +35,4 @@ named_tree_of m = tree_with_names m.source (tree_of m)
 -- each identifier and integer in `tree_of m` is the index of its token.
 pub record IsParsed (m : ParsedModule) : Type 0 where
   pub module_of : ModuleOf m.source (named_tree_of m)
-  pub places : spell (tree_of m) ++ (EndOfText ∷ []) ≡ index_terminals m.source.tokens
+  pub places : spell (tree_of m) ++ (EndOfText ∷ []) ≡ indexed_terminals m.source.tokens

@@ -11,21 +11,21 @@ use Rattle.ob0_tree.specs.Tree.{Sort, Tree, mapped_tree}
 
 -- Returns the token with the index `i` and the given kind, as it is spelled by a tree whose leaves
 -- are token indexes. An identifier has `i` as its name, and an integer has `i` as its number.
-abbrev pub index_terminal : ℕ → TokenKind → Terminal ℕ
-index_terminal i kind.Identifier = Name i
-index_terminal i (kind.Integer value) = Number i
-index_terminal i k = WordOrSymbol k
+abbrev pub indexed_terminal : ℕ → TokenKind → Terminal ℕ
+indexed_terminal i kind.Identifier = Name i
+indexed_terminal i (kind.Integer value) = Number i
+indexed_terminal i k = WordOrSymbol k
 
 -- Returns the tokens of a list as they are spelled by a tree whose leaves are token indexes,
 -- followed by the end of the text. The first token of the list has the index `i`.
-abbrev pub index_terminals_from : ℕ → List Token → List (Terminal ℕ)
-index_terminals_from i [] = EndOfText ∷ []
-index_terminals_from i (t ∷ ts) = index_terminal i t.kind ∷ index_terminals_from (i + 1) ts
+abbrev pub indexed_terminals_from : ℕ → List Token → List (Terminal ℕ)
+indexed_terminals_from i [] = EndOfText ∷ []
+indexed_terminals_from i (t ∷ ts) = indexed_terminal i t.kind ∷ indexed_terminals_from (i + 1) ts
 
 -- Returns the tokens of a text as they are spelled by a tree whose leaves are token indexes,
 -- followed by the end of the text. The first token has the index 0.
-abbrev pub index_terminals : List Token → List (Terminal ℕ)
-index_terminals ts = index_terminals_from 0 ts
+abbrev pub indexed_terminals : List Token → List (Terminal ℕ)
+indexed_terminals ts = indexed_terminals_from 0 ts
 
 -- Returns the part of `text` that is the token's text, or the empty text if there is no token
 -- (None).
@@ -34,15 +34,15 @@ token_text_or_empty text None = []
 token_text_or_empty text (Some t) = text_in_span text t.span
 
 -- Returns the value of an integer token, given its kind, or 0 for any other kind.
-abbrev pub kind_value_or_zero : TokenKind → ℕ
-kind_value_or_zero (kind.Integer value) = value
-kind_value_or_zero _ = 0
+abbrev pub integer_value_or_zero : TokenKind → ℕ
+integer_value_or_zero (kind.Integer value) = value
+integer_value_or_zero _ = 0
 
 -- Returns the value of an integer token. Returns 0 for any other token, or if there is no token
 -- (None).
 abbrev pub token_value_or_zero : Option Token → ℕ
 token_value_or_zero None = 0
-token_value_or_zero (Some t) = kind_value_or_zero t.kind
+token_value_or_zero (Some t) = integer_value_or_zero t.kind
 
 -- Returns the text of the token with this index, or the empty text if there is no such token.
 abbrev pub token_text_at : TextWithTokens → ℕ → List ℕ

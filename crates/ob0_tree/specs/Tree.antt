@@ -12,10 +12,10 @@ use Rattle.ob0_tree.specs.declared.tree.AddOperator.{AddOperator}
 use Rattle.ob0_tree.specs.declared.tree.MultiplyOperator.{MultiplyOperator}
 use Rattle.ob0_tree.specs.declared.tree.Role.{Role}
 use Rattle.ob0_tree.specs.declared.tree.Role.TheVariants as role
-use Rattle.ob0_tree.specs.Lexeme.{Terminal, Name, Number, WordOrSymbol, relation_token, sign_tokens, add_operator_token, multiply_operator_token}
+use Rattle.ob0_tree.specs.Lexeme.{Terminal, Name, Number, WordOrSymbol, relation_token_kind, sign_tokens, add_operator_token_kind, multiply_operator_token_kind}
 
--- The kinds of items. An item is a part of a grammar production that may be repeated or omitted,
--- such as a selector or an ELSE part.
+-- The kinds of items. An item is a part of a production of the grammar that may be repeated or
+-- omitted, such as a selector or an ELSE part.
 pub data Item : Type 0 where
   selector : Item
   multiplier : Item
@@ -125,8 +125,8 @@ pub data Tree (N : Type 0) : Sort → Type 0 where
   is_module : N → Tree N block → N → Tree N module_text
 
 -- Returns a list of one token: the reserved word or symbol of the kind `k`.
-abbrev pub single_token : {N : Type 0} → TokenKind → List (Terminal N)
-single_token k = WordOrSymbol k ∷ []
+abbrev pub single_token_list : {N : Type 0} → TokenKind → List (Terminal N)
+single_token_list k = WordOrSymbol k ∷ []
 
 -- Returns the tokens that a tree spells, in text order. The cases follow the productions of the
 -- grammar.
@@ -136,19 +136,19 @@ spell (one t) = spell t
 spell end = []
 spell (more t ts) = spell t ++ spell ts
 spell (compares left compared) = spell left ++ spell compared
-spell (relates relation right) = WordOrSymbol (relation_token relation) ∷ spell right
+spell (relates relation right) = WordOrSymbol (relation_token_kind relation) ∷ spell right
 spell (sum sign first terms) = sign_tokens sign ++ (spell first ++ spell terms)
-spell (adds operator t) = WordOrSymbol (add_operator_token operator) ∷ spell t
+spell (adds operator t) = WordOrSymbol (add_operator_token_kind operator) ∷ spell t
 spell (product first factors) = spell first ++ spell factors
-spell (multiplies operator f) = WordOrSymbol (multiply_operator_token operator) ∷ spell f
+spell (multiplies operator f) = WordOrSymbol (multiply_operator_token_kind operator) ∷ spell f
 spell (designator name selectors) = Name name ∷ spell selectors
 spell (integer n) = Number n ∷ []
 spell (parenthesised e) =
-    WordOrSymbol (kind.Symbol symbol.LeftParen) ∷ (spell e ++ single_token (kind.Symbol symbol.RightParen))
+    WordOrSymbol (kind.Symbol symbol.LeftParen) ∷ (spell e ++ single_token_list (kind.Symbol symbol.RightParen))
 spell (negation f) = WordOrSymbol (kind.Symbol symbol.Not) ∷ spell f
 spell (field name) = WordOrSymbol (kind.Symbol symbol.Dot) ∷ Name name ∷ []
 spell (index e) =
-    WordOrSymbol (kind.Symbol symbol.LeftBracket) ∷ (spell e ++ single_token (kind.Symbol symbol.RightBracket))
+    WordOrSymbol (kind.Symbol symbol.LeftBracket) ∷ (spell e ++ single_token_list (kind.Symbol symbol.RightBracket))
 spell empty = []
 spell (assigns name selectors e) =
     Name name ∷ (spell selectors ++ (WordOrSymbol (kind.Symbol symbol.Becomes) ∷ spell e))
@@ -157,18 +157,18 @@ spell (branches condition s elsifs rest) =
     WordOrSymbol (kind.ReservedWord reserved.If)
     ∷ (spell condition
     ++ (WordOrSymbol (kind.ReservedWord reserved.Then)
-    ∷ (spell s ++ (spell elsifs ++ (spell rest ++ single_token (kind.ReservedWord reserved.End))))))
+    ∷ (spell s ++ (spell elsifs ++ (spell rest ++ single_token_list (kind.ReservedWord reserved.End))))))
 spell (while_loop condition s) =
     WordOrSymbol (kind.ReservedWord reserved.While)
     ∷ (spell condition
-    ++ (WordOrSymbol (kind.ReservedWord reserved.Do) ∷ (spell s ++ single_token (kind.ReservedWord reserved.End))))
+    ++ (WordOrSymbol (kind.ReservedWord reserved.Do) ∷ (spell s ++ single_token_list (kind.ReservedWord reserved.End))))
 spell (repeat_loop s condition) =
     WordOrSymbol (kind.ReservedWord reserved.Repeat)
     ∷ (spell s ++ (WordOrSymbol (kind.ReservedWord reserved.Until) ∷ spell condition))
-spell no_arguments = WordOrSymbol (kind.Symbol symbol.LeftParen) ∷ single_token (kind.Symbol symbol.RightParen)
+spell no_arguments = WordOrSymbol (kind.Symbol symbol.LeftParen) ∷ single_token_list (kind.Symbol symbol.RightParen)
 spell (some_arguments e es) =
     WordOrSymbol (kind.Symbol symbol.LeftParen)
-    ∷ (spell e ++ (spell es ++ single_token (kind.Symbol symbol.RightParen)))
+    ∷ (spell e ++ (spell es ++ single_token_list (kind.Symbol symbol.RightParen)))
 spell (then_argument e) = WordOrSymbol (kind.Symbol symbol.Comma) ∷ spell e
 spell (runs first statements) = spell first ++ spell statements
 spell (then_statement s) = WordOrSymbol (kind.Symbol symbol.Semicolon) ∷ spell s
@@ -184,26 +184,26 @@ spell (array_type size t) =
     ∷ (spell size ++ (WordOrSymbol (kind.ReservedWord reserved.Of) ∷ spell t))
 spell (record_type first others) =
     WordOrSymbol (kind.ReservedWord reserved.Record)
-    ∷ (spell first ++ (spell others ++ single_token (kind.ReservedWord reserved.End)))
+    ∷ (spell first ++ (spell others ++ single_token_list (kind.ReservedWord reserved.End)))
 spell no_fields = []
 spell (some_fields ns t) = spell ns ++ (WordOrSymbol (kind.Symbol symbol.Colon) ∷ spell t)
 spell (then_fields f) = WordOrSymbol (kind.Symbol symbol.Semicolon) ∷ spell f
-spell no_formals = WordOrSymbol (kind.Symbol symbol.LeftParen) ∷ single_token (kind.Symbol symbol.RightParen)
+spell no_formals = WordOrSymbol (kind.Symbol symbol.LeftParen) ∷ single_token_list (kind.Symbol symbol.RightParen)
 spell (some_formals first others) =
     WordOrSymbol (kind.Symbol symbol.LeftParen)
-    ∷ (spell first ++ (spell others ++ single_token (kind.Symbol symbol.RightParen)))
+    ∷ (spell first ++ (spell others ++ single_token_list (kind.Symbol symbol.RightParen)))
 spell (value_section ns t) = spell ns ++ (WordOrSymbol (kind.Symbol symbol.Colon) ∷ spell t)
 spell (variable_section ns t) =
     WordOrSymbol (kind.ReservedWord reserved.Var) ∷ (spell ns ++ (WordOrSymbol (kind.Symbol symbol.Colon) ∷ spell t))
 spell (then_section s) = WordOrSymbol (kind.Symbol symbol.Semicolon) ∷ spell s
 spell (declares_constant name e) =
-    Name name ∷ WordOrSymbol (kind.Symbol symbol.Equal) ∷ (spell e ++ single_token (kind.Symbol symbol.Semicolon))
+    Name name ∷ WordOrSymbol (kind.Symbol symbol.Equal) ∷ (spell e ++ single_token_list (kind.Symbol symbol.Semicolon))
 spell (declares_constants cs) = WordOrSymbol (kind.ReservedWord reserved.Const) ∷ spell cs
 spell (declares_type name t) =
-    Name name ∷ WordOrSymbol (kind.Symbol symbol.Equal) ∷ (spell t ++ single_token (kind.Symbol symbol.Semicolon))
+    Name name ∷ WordOrSymbol (kind.Symbol symbol.Equal) ∷ (spell t ++ single_token_list (kind.Symbol symbol.Semicolon))
 spell (declares_types ts) = WordOrSymbol (kind.ReservedWord reserved.Type) ∷ spell ts
 spell (declares_variable ns t) =
-    spell ns ++ (WordOrSymbol (kind.Symbol symbol.Colon) ∷ (spell t ++ single_token (kind.Symbol symbol.Semicolon)))
+    spell ns ++ (WordOrSymbol (kind.Symbol symbol.Colon) ∷ (spell t ++ single_token_list (kind.Symbol symbol.Semicolon)))
 spell (declares_variables vs) = WordOrSymbol (kind.ReservedWord reserved.Var) ∷ spell vs
 spell (declares_procedure name fs b closing) =
     WordOrSymbol (kind.ReservedWord reserved.Procedure)
@@ -213,7 +213,7 @@ spell (declares_procedure name fs b closing) =
     ∷ (spell b
     ++ (WordOrSymbol (kind.ReservedWord reserved.End)
     ∷ Name closing
-    ∷ single_token (kind.Symbol symbol.Semicolon)))))
+    ∷ single_token_list (kind.Symbol symbol.Semicolon)))))
 spell (declares cs ts vs ps) = spell cs ++ (spell ts ++ (spell vs ++ spell ps))
 spell (begins s) = WordOrSymbol (kind.ReservedWord reserved.Begin) ∷ spell s
 spell (forms_block ds b) = spell ds ++ spell b
@@ -222,7 +222,7 @@ spell (is_module name b closing) =
     ∷ Name name
     ∷ WordOrSymbol (kind.Symbol symbol.Semicolon)
     ∷ (spell b
-    ++ (WordOrSymbol (kind.ReservedWord reserved.End) ∷ Name closing ∷ single_token (kind.Symbol symbol.Dot)))
+    ++ (WordOrSymbol (kind.ReservedWord reserved.End) ∷ Name closing ∷ single_token_list (kind.Symbol symbol.Dot)))
 
 -- Returns the nesting depth of a tree: the greatest number of constructs that are nested in each
 -- other. Parenthesised and negated factors, indexes, IF, WHILE and REPEAT statements, array and
@@ -406,8 +406,8 @@ identifiers r (forms_block ds b) = identifiers r ds ++ identifiers r b
 identifiers r (is_module name b closing) =
     (role.ModuleName, name) ∷ (identifiers r b ++ ((role.ModuleName, closing) ∷ []))
 
--- Returns the occurrences in a tree, in text order: the names that refer to a declaration.
--- Declaring names, closing names, names of fields and the module's name aren't occurrences.
+-- Returns the occurrences in a tree, in text order: the names that are looked up. Declaring names,
+-- closing names, names of fields and the module's name aren't occurrences.
 abbrev pub occurrences : {N : Type 0} {s : Sort} → Tree N s → List N
 occurrences none = []
 occurrences (one t) = occurrences t

@@ -3,7 +3,7 @@
 
 ghost use Rattle.std.specs.Prelude.{◌≡◌};
 ghost use Rattle.ob0_tree.specs.FirstIdentifier.{first_identifier};
-ghost use Rattle.ob0_tree.specs.View.{expression_of, compound_of, simple_of, term_of, factor_of, statement_of, if_of, elsifs_of_vec, sequence_of_vec, body_of};
+ghost use Rattle.ob0_tree.specs.View.{expression_of, compound_expression_of, simple_expression_of, term_of, factor_of, statement_of, if_of, elsifs_of_vec, sequence_of_vec, body_of};
 
 use crate::tree::{
     CompoundExpression, Elsif, Expression, Factor, If, SimpleExpression, Statement, Term,
@@ -111,15 +111,15 @@ fn first_identifier_in_expression(e: &Expression) -> Option<usize>
 {
     match e {
         Expression::Factor(f) => first_identifier_in_factor(f),
-        Expression::CompoundExpression(c) => first_identifier_in_compound(c),
+        Expression::CompoundExpression(c) => first_identifier_in_compound_expression(c),
     }
 }
 
 /// Returns the token index of the first identifier in an expression that isn't a single factor, or
 /// None if there is none.
 #[cycle(expressions)]
-fn first_identifier_in_compound(c: &CompoundExpression) -> Option<usize>
-    ensures { result ≡ first_identifier (compound_of c.now) }
+fn first_identifier_in_compound_expression(c: &CompoundExpression) -> Option<usize>
+    ensures { result ≡ first_identifier (compound_expression_of c.now) }
 {
     let found = first_identifier_in_simple_expression(&c.left);
     if found.is_some() {
@@ -135,7 +135,7 @@ fn first_identifier_in_compound(c: &CompoundExpression) -> Option<usize>
 /// none.
 #[cycle(expressions)]
 fn first_identifier_in_simple_expression(s: &SimpleExpression) -> Option<usize>
-    ensures { result ≡ first_identifier (simple_of s.now) }
+    ensures { result ≡ first_identifier (simple_expression_of s.now) }
 {
     let found = first_identifier_in_term(&s.first);
     if found.is_some() {

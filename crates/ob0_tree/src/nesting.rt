@@ -8,12 +8,12 @@ ghost use Rattle.std.specs.Prelude.{◌≡◌, ◌+◌};
 ghost use Rattle.ob0_tree.specs.Tree.{nesting};
 ghost use Rattle.ob0_tree.specs.ParsedModule.{tree_of};
 ghost use Rattle.ob0_tree.specs.Depth.{capped_to_u32};
-ghost use Rattle.ob0_tree.specs.View.{expression_of, compound_of, simple_of, term_of, factor_of, designator_of, selector_of, assignment_of, call_of, statement_of, if_of, elsifs_of_vec, sequence_of_vec, type_of, record_type_of, fields_of, section_of, formals_of, constants_of, types_of, variables_of, body_of, procedure_of, block_of};
+ghost use Rattle.ob0_tree.specs.View.{expression_of, compound_expression_of, simple_expression_of, term_of, factor_of, designator_of, selector_of, assignment_of, call_of, statement_of, if_of, elsifs_of_vec, sequence_of_vec, type_of, record_type_of, optional_field_group_of, parameter_section_of, formals_of, constants_of, types_of, variables_of, body_of, procedure_of, block_of};
 
 use crate::tree::{
     Assignment, Block, Call, CompoundExpression, Constant, Designator, Elsif, Expression, Factor,
-    Fields, If, Module, ParameterSection, Procedure, RecordType, Selector, SimpleExpression,
-    Statement, Term, TypeDeclaration, VariableDeclaration, WrittenType,
+    If, Module, OptionalFieldGroup, ParameterSection, Procedure, RecordType, Selector,
+    SimpleExpression, Statement, Term, TypeDeclaration, VariableDeclaration, WrittenType,
 };
 
 /// The greatest number of constructs that may be nested in each other in a module.
@@ -48,14 +48,14 @@ fn expression_nesting(e: &Expression) -> u32
 {
     match e {
         Expression::Factor(f) => factor_nesting(f),
-        Expression::CompoundExpression(c) => compound_nesting(c),
+        Expression::CompoundExpression(c) => compound_expression_nesting(c),
     }
 }
 
 /// Returns the nesting depth of an expression that isn't a single factor, capped at 2^32 - 1.
 #[cycle(expressions)]
-fn compound_nesting(c: &CompoundExpression) -> u32
-    ensures { result ≡ capped_to_u32 (nesting (compound_of c.now)) }
+fn compound_expression_nesting(c: &CompoundExpression) -> u32
+    ensures { result ≡ capped_to_u32 (nesting (compound_expression_of c.now)) }
 {
     let left = simple_expression_nesting(&c.left);
     match &c.compared {
@@ -67,7 +67,7 @@ fn compound_nesting(c: &CompoundExpression) -> u32
 /// Returns the nesting depth of a simple expression, capped at 2^32 - 1.
 #[cycle(expressions)]
 fn simple_expression_nesting(s: &SimpleExpression) -> u32
-    ensures { result ≡ capped_to_u32 (nesting (simple_of s.now)) }
+    ensures { result ≡ capped_to_u32 (nesting (simple_expression_of s.now)) }
 {
     let mut deepest = term_nesting(&s.first);
     for addend in &s.more {
@@ -211,36 +211,36 @@ fn type_nesting(t: &WrittenType) -> u32
         WrittenType::Array(a) => one_level_deeper(expression_nesting(&a.size).max(type_nesting(
             &a.element,
         ))),
-        WrittenType::Record(r) => record_nesting(r),
+        WrittenType::Record(r) => record_type_nesting(r),
     }
 }
 
 /// Returns the nesting depth of a record type, including its own level, capped at 2^32 - 1.
 #[cycle(types)]
-fn record_nesting(r: &RecordType) -> u32
+fn record_type_nesting(r: &RecordType) -> u32
     ensures { result ≡ capped_to_u32 (nesting (record_type_of r.now)) }
 {
     let mut deepest: u32 = 0;
     for group in &r.groups {
-        deepest = deepest.max(fields_nesting(group));
+        deepest = deepest.max(optional_field_group_nesting(group));
     }
     one_level_deeper(deepest)
 }
 
-/// Returns the nesting depth of a group of fields, capped at 2^32 - 1.
+/// Returns the nesting depth of an optional group of fields, capped at 2^32 - 1.
 #[cycle(types)]
-fn fields_nesting(f: &Fields) -> u32
-    ensures { result ≡ capped_to_u32 (nesting (fields_of f.now)) }
+fn optional_field_group_nesting(f: &OptionalFieldGroup) -> u32
+    ensures { result ≡ capped_to_u32 (nesting (optional_field_group_of f.now)) }
 {
     match f {
-        Fields::Empty => 0,
-        Fields::Listed(l) => type_nesting(&l.written),
+        OptionalFieldGroup::Empty => 0,
+        OptionalFieldGroup::Listed(l) => type_nesting(&l.written),
     }
 }
 
 /// Returns the nesting depth of a section of parameters, capped at 2^32 - 1.
-fn section_nesting(s: &ParameterSection) -> u32
-    ensures { result ≡ capped_to_u32 (nesting (section_of s.now)) }
+fn parameter_section_nesting(s: &ParameterSection) -> u32
+    ensures { result ≡ capped_to_u32 (nesting (parameter_section_of s.now)) }
 {
     type_nesting(&s.written)
 }
@@ -255,7 +255,7 @@ fn formals_nesting(sections: &Option<Vec<ParameterSection>>) -> u32
     };
     let mut deepest: u32 = 0;
     for s in sections {
-        deepest = deepest.max(section_nesting(s));
+        deepest = deepest.max(parameter_section_nesting(s));
     }
     deepest
 }

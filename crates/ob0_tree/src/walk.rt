@@ -16,17 +16,17 @@ ghost use Rattle.ob0_tree.specs.declared.tree.Role.TheVariants as roles;
 ghost use Rattle.ob0_tree.specs.ParsedModule.{tree_of};
 ghost use Rattle.ob0_tree.specs.Tree.{identifiers};
 ghost use Rattle.ob0_tree.specs.Visited.{state_after_visit, state_after_identifiers};
-ghost use Rattle.ob0_tree.specs.View.{expression_of, compound_of, simple_of, term_of, factor_of, designator_of, selector_of, assignment_of, call_of, arguments_of_vec, statement_of, if_of, elsifs_of_vec, sequence_of_vec, names_of, type_of, record_type_of, fields_of, section_of, formals_of, constants_of, types_of, variables_of, body_of, procedure_of, block_of};
+ghost use Rattle.ob0_tree.specs.View.{expression_of, compound_expression_of, simple_expression_of, term_of, factor_of, designator_of, selector_of, assignment_of, call_of, arguments_of_vec, statement_of, if_of, elsifs_of_vec, sequence_of_vec, names_of, type_of, record_type_of, optional_field_group_of, parameter_section_of, formals_of, constants_of, types_of, variables_of, body_of, procedure_of, block_of};
 
 use crate::tree::{
     Assignment, Block, Call, CompoundExpression, Constant, Designator, Elsif, Expression, Factor,
-    Fields, If, Module, Names, ParameterSection, Procedure, RecordType, Role, Selector,
+    If, Module, Names, OptionalFieldGroup, ParameterSection, Procedure, RecordType, Role, Selector,
     SimpleExpression, Statement, Term, TypeDeclaration, VariableDeclaration, WrittenType,
 };
 use std::alloc::AllocError;
 
-/// A state that a walk over a module, or over a part of one, updates at each identifier. The walk
-/// visits the identifiers in text order.
+/// The state of a walk over the identifiers of a module, or of a part of one, in text order. The
+/// walk updates the state at each identifier.
 pub trait Visitor {
     /// Returns the state after the visit of an identifier. The arguments are the identifier's role,
     /// the index of its token and the state before the visit.
@@ -57,14 +57,17 @@ pub fn walk_expression<V: Visitor>(visitor: &mut V, e: &Expression) -> Result<()
 {
     match e {
         Expression::Factor(f) => walk_factor(visitor, f),
-        Expression::CompoundExpression(c) => walk_compound(visitor, c),
+        Expression::CompoundExpression(c) => walk_compound_expression(visitor, c),
     }
 }
 
 /// Visits the identifiers of an expression that isn't a single factor.
 #[cycle(expressions)]
-fn walk_compound<V: Visitor>(visitor: &mut V, c: &CompoundExpression) -> Result<(), AllocError>
-    ensures { OnOk result (visitor.new ≡ state_after_visit V.seen (compound_of c.now) visitor.old) }
+fn walk_compound_expression<V: Visitor>(
+    visitor: &mut V,
+    c: &CompoundExpression,
+) -> Result<(), AllocError>
+    ensures { OnOk result (visitor.new ≡ state_after_visit V.seen (compound_expression_of c.now) visitor.old) }
 {
     walk_simple_expression(visitor, &c.left)?;
     if let Some(compared) = &c.compared {
@@ -79,7 +82,7 @@ fn walk_simple_expression<V: Visitor>(
     visitor: &mut V,
     s: &SimpleExpression,
 ) -> Result<(), AllocError>
-    ensures { OnOk result (visitor.new ≡ state_after_visit V.seen (simple_of s.now) visitor.old) }
+    ensures { OnOk result (visitor.new ≡ state_after_visit V.seen (simple_expression_of s.now) visitor.old) }
 {
     walk_term(visitor, &s.first)?;
     for addend in &s.more {
@@ -251,29 +254,32 @@ pub fn walk_type<V: Visitor>(visitor: &mut V, t: &WrittenType) -> Result<(), All
             walk_expression(visitor, &a.size)?;
             walk_type(visitor, &a.element)
         }
-        WrittenType::Record(r) => walk_record(visitor, r),
+        WrittenType::Record(r) => walk_record_type(visitor, r),
     }
 }
 
 /// Visits the identifiers of a record type.
 #[cycle(types)]
-fn walk_record<V: Visitor>(visitor: &mut V, r: &RecordType) -> Result<(), AllocError>
+fn walk_record_type<V: Visitor>(visitor: &mut V, r: &RecordType) -> Result<(), AllocError>
     ensures { OnOk result (visitor.new ≡ state_after_visit V.seen (record_type_of r.now) visitor.old) }
 {
     for group in &r.groups {
-        walk_fields(visitor, group)?;
+        walk_optional_field_group(visitor, group)?;
     }
     Ok(())
 }
 
-/// Visits the identifiers of a group of fields.
+/// Visits the identifiers of an optional group of fields.
 #[cycle(types)]
-fn walk_fields<V: Visitor>(visitor: &mut V, f: &Fields) -> Result<(), AllocError>
-    ensures { OnOk result (visitor.new ≡ state_after_visit V.seen (fields_of f.now) visitor.old) }
+fn walk_optional_field_group<V: Visitor>(
+    visitor: &mut V,
+    f: &OptionalFieldGroup,
+) -> Result<(), AllocError>
+    ensures { OnOk result (visitor.new ≡ state_after_visit V.seen (optional_field_group_of f.now) visitor.old) }
 {
     match f {
-        Fields::Empty => Ok(()),
-        Fields::Listed(l) => {
+        OptionalFieldGroup::Empty => Ok(()),
+        OptionalFieldGroup::Listed(l) => {
             walk_names(visitor, Role::FieldName, &l.names)?;
             walk_type(visitor, &l.written)
         }
@@ -282,7 +288,7 @@ fn walk_fields<V: Visitor>(visitor: &mut V, f: &Fields) -> Result<(), AllocError
 
 /// Visits the identifiers of a section of parameters.
 fn walk_section<V: Visitor>(visitor: &mut V, s: &ParameterSection) -> Result<(), AllocError>
-    ensures { OnOk result (visitor.new ≡ state_after_visit V.seen (section_of s.now) visitor.old) }
+    ensures { OnOk result (visitor.new ≡ state_after_visit V.seen (parameter_section_of s.now) visitor.old) }
 {
     walk_names(visitor, Role::Declaring, &s.names)?;
     walk_type(visitor, &s.written)

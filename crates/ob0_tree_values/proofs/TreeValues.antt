@@ -20,7 +20,7 @@ use Rattle.ob0_tree.specs.declared.tree.Elsif.{Elsif}
 use Rattle.ob0_tree.specs.declared.tree.WrittenType.{WrittenType, Named, Array, Record}
 use Rattle.ob0_tree.specs.declared.tree.While as while_module
 use Rattle.ob0_tree.specs.declared.tree.Repeat as repeat_module
-use Rattle.ob0_tree.specs.declared.tree.Fields as fields_module
+use Rattle.ob0_tree.specs.declared.tree.OptionalFieldGroup as fields_module
 use Rattle.ob0_tree.specs.declared.tree.ParameterSection.{ParameterSection}
 use Rattle.ob0_tree.specs.declared.tree.Constant.{Constant}
 use Rattle.ob0_tree.specs.declared.tree.TypeDeclaration.{TypeDeclaration}
@@ -28,11 +28,11 @@ use Rattle.ob0_tree.specs.declared.tree.VariableDeclaration.{VariableDeclaration
 use Rattle.ob0_tree.specs.declared.tree.Procedure.{Procedure, roll-Procedure}
 use Rattle.ob0_tree.specs.declared.tree.Block.{Block, roll-Block}
 use Rattle.ob0_tree.specs.declared.tree.ModuleTree.{ModuleTree}
-use Rattle.ob0_tree.specs.Tree.{Item, selector, multiplier, addend, comparison, arguments, further_argument, further_statement, elsif_part, else_part, further_name, further_fields, formals, further_section, constant, constants, type_definition, type_definitions, variable, variables, procedure, body, Sort, item, items, maybe, expression, simple, term, factor, statement, sequence, names, written_type, fields, section, declarations, block, module_text, Tree, spell, single_token, none, one, end, more, compares, relates, sum, adds, product, multiplies, designator, integer, parenthesised, negation, field, index, empty, assigns, calls, branches, while_loop, repeat_loop, no_arguments, some_arguments, then_argument, runs, then_statement, elsif_branch, else_branch, listed, then_name, named_type, array_type, record_type, no_fields, some_fields, then_fields, no_formals, some_formals, value_section, variable_section, then_section, declares_constant, declares_constants, declares_type, declares_types, declares_variable, declares_variables, declares_procedure, declares, begins, forms_block, is_module}
+use Rattle.ob0_tree.specs.Tree.{Item, selector, multiplier, addend, comparison, arguments, further_argument, further_statement, elsif_part, else_part, further_name, further_fields, formals, further_section, constant, constants, type_definition, type_definitions, variable, variables, procedure, body, Sort, item, items, maybe, expression, simple, term, factor, statement, sequence, names, written_type, fields, section, declarations, block, module_text, Tree, spell, single_token_list, none, one, end, more, compares, relates, sum, adds, product, multiplies, designator, integer, parenthesised, negation, field, index, empty, assigns, calls, branches, while_loop, repeat_loop, no_arguments, some_arguments, then_argument, runs, then_statement, elsif_branch, else_branch, listed, then_name, named_type, array_type, record_type, no_fields, some_fields, then_fields, no_formals, some_formals, value_section, variable_section, then_section, declares_constant, declares_constants, declares_type, declares_types, declares_variable, declares_variables, declares_procedure, declares, begins, forms_block, is_module}
 use Rattle.ob0_scan.specs.declared.lexeme.TokenKind.TheVariants as kind
 use Rattle.ob0_scan.specs.declared.lexeme.Symbol.TheVariants as symbol
 use Rattle.ob0_tree.specs.Lexeme.{WordOrSymbol}
-use Rattle.ob0_tree.specs.View.{expression_of, maybe_comparison_of, comparison_of, simple_of, addend_of, term_of, multiplier_of, factor_of, selector_of, items_of, names_of, further_argument_of, arguments_of_list, arguments_of, statement_of, further_statement_of, sequence_of_list, elsif_of, else_part_of, type_of, fields_of, further_fields_of_group, record_of_list, section_of, further_section_of, formals_of_list, formals_of, constant_of, constants_of, type_declaration_of, types_of, variable_of, variables_of, body_of, block_of, procedure_of}
+use Rattle.ob0_tree.specs.View.{expression_of, maybe_comparison_of, comparison_of, simple_expression_of, addend_of, term_of, multiplier_of, factor_of, selector_of, items_of, names_of, further_argument_of, arguments_of_list, arguments_of, statement_of, further_statement_of, sequence_of_list, elsif_of, else_part_of, type_of, optional_field_group_of, further_field_group_of, record_type_of_list, parameter_section_of, further_parameter_section_of, formals_of_list, formals_of, constant_of, constants_of, type_declaration_of, types_of, variable_of, variables_of, body_of, block_of, procedure_of}
 use Rattle.ob0_tree.proofs.Viewed.{simple_made, term_made, designator_made, compound_made, comparison_made, addend_made, made_record_type, while_made, repeat_made, block_made, procedure_made, if_made}
 
 -- ---- vectors and boxes
@@ -59,7 +59,7 @@ Part further_statement = Statement
 Part elsif_part = Elsif
 Part else_part = Vec Statement Global
 Part further_name = ℕ
-Part further_fields = fields_module.Fields
+Part further_fields = fields_module.OptionalFieldGroup
 Part formals = Vec ParameterSection Global
 Part further_section = ParameterSection
 Part constant = Constant
@@ -82,9 +82,9 @@ part_of further_statement x = further_statement_of x
 part_of elsif_part x = elsif_of x
 part_of else_part xs = else_branch (sequence_of_list xs.items)
 part_of further_name x = then_name x
-part_of further_fields x = further_fields_of_group x
+part_of further_fields x = further_field_group_of x
 part_of formals xs = formals_of_list xs.items
-part_of further_section x = further_section_of x
+part_of further_section x = further_parameter_section_of x
 part_of constant x = constant_of x
 part_of constants xs = declares_constants (items_of constant_of xs.items)
 part_of type_definition x = type_declaration_of x
@@ -116,7 +116,7 @@ Value statement = Statement
 Value sequence = Vec Statement Global
 Value names = Names
 Value written_type = WrittenType
-Value fields = fields_module.Fields
+Value fields = fields_module.OptionalFieldGroup
 Value section = ParameterSection
 Value declarations = Declarations
 Value block = Block
@@ -127,15 +127,15 @@ tree_at (item i) x = part_of i x
 tree_at (items i) xs = items_of (part_of i) xs
 tree_at (maybe i) x = maybe_of i x
 tree_at expression x = expression_of x
-tree_at simple x = simple_of x
+tree_at simple x = simple_expression_of x
 tree_at term x = term_of x
 tree_at factor x = factor_of x
 tree_at statement x = statement_of x
 tree_at sequence xs = sequence_of_list xs.items
 tree_at names x = names_of x
 tree_at written_type x = type_of x
-tree_at fields x = fields_of x
-tree_at section x = section_of x
+tree_at fields x = optional_field_group_of x
+tree_at section x = parameter_section_of x
 tree_at declarations x = declares (constants_of x.constants_read) (types_of x.types_read) (variables_of x.variables_read) (items_of procedure_of x.procedures_read)
 tree_at block x = block_of x
 tree_at module_text x = is_module x.name (block_of x.block) x.closing
@@ -181,7 +181,7 @@ some_tokens (declares_constant n e) = omega (arith)
 some_tokens (declares_constants cs) = omega (arith)
 some_tokens (declares_type n t) = omega (arith)
 some_tokens (declares_types ts) = omega (arith)
-some_tokens (declares_variable ns t) = omega (arith, length-append (spell ns) (WordOrSymbol (kind.Symbol symbol.Colon) ∷ (spell t ++ single_token (kind.Symbol symbol.Semicolon))))
+some_tokens (declares_variable ns t) = omega (arith, length-append (spell ns) (WordOrSymbol (kind.Symbol symbol.Colon) ∷ (spell t ++ single_token_list (kind.Symbol symbol.Semicolon))))
 some_tokens (declares_variables vs) = omega (arith)
 some_tokens (declares_procedure n fs b c) = omega (arith)
 some_tokens (begins s) = omega (arith)

@@ -7,13 +7,13 @@ use Rattle.ob0_language_names.specs.Names.{naming_by_spelling}
 use Rattle.ob0_language_names.specs.ConsistentNames.{has_consistent_names}
 use Rattle.ob0_scope_table.specs.Resolution.{IsResolution, Resolution, is_duplicate_or_end_name}
 use Rattle.ob0_tree.specs.ParsedModule.{named_tree_of}
-use Rattle.ob0_types_check.specs.DeclarationFaults.{module_faults}
+use Rattle.ob0_types_check.specs.DeclarationFaults.{undeclared_name_and_type_faults}
 use Rattle.ob0_types_check.specs.ModuleLaws.{HasDeclarations, ModulesWithoutFaultPassTypeCheck}
 use Rattle.ob0_types_check.specs.SomeBodies.{IsReportOf}
 use Rattle.ob0_types_check.specs.WellTypedLaws.{TypedModulesHaveNoFault}
 use Rattle.ob0_types_check.specs.declared.reporting.Report.{Report}
-use Rattle.ob0_types.specs.FaultOrder.{AreFirstWhenSorted, all_faults_of}
-use Rattle.ob0_types.specs.CheckedModules.{IsChecked, IsTableIfTyped}
+use Rattle.ob0_types.specs.FaultOrder.{AreFirstFaultsWhenSorted, all_faults_of}
+use Rattle.ob0_types.specs.CheckedModules.{IsChecked, HasTableIfWellTyped}
 use Rattle.ob0_types_table.specs.KnownTables.{Tables}
 use Rattle.ob0_language_types.specs.WellTyped.{WellTyped, passes_type_check}
 
@@ -85,29 +85,29 @@ known_there none None P h n = absurd (h n)
 known_there none (Some t) P h n = refl
 
 -- A well-typed module has no reported fault of types.
-pub none_reported : TypedModulesHaveNoFault → (r : Resolution) → IsResolution r → WellTyped (named_tree_of r.module_read) → module_faults r ≡ []
+pub none_reported : TypedModulesHaveNoFault → (r : Resolution) → IsResolution r → WellTyped (named_tree_of r.module_read) → undeclared_name_and_type_faults r ≡ []
 unfolding WellTyped
 none_reported law r is w = law r is w.1
 
 -- A table in a report has the module's declarations, and the report of a well-typed module has a table.
-pub known_where_typed : (r : Resolution) (report : Report) → TypedModulesHaveNoFault → IsResolution r → IsReportOf r report → IsTableIfTyped r report.known
+pub known_where_typed : (r : Resolution) (report : Report) → TypedModulesHaveNoFault → IsResolution r → IsReportOf r report → HasTableIfWellTyped r report.known
 known_where_typed r report law is h = record {
-  holds = known_declares (module_faults r ≡ []) report.known (HasDeclarations (named_tree_of r.module_read)) h.known;
-  kept = λ typed. known_there (module_faults r ≡ []) report.known (HasDeclarations (named_tree_of r.module_read)) h.known (none_reported law r is typed);
+  holds = known_declares (undeclared_name_and_type_faults r ≡ []) report.known (HasDeclarations (named_tree_of r.module_read)) h.known;
+  kept = λ typed. known_there (undeclared_name_and_type_faults r ≡ []) report.known (HasDeclarations (named_tree_of r.module_read)) h.known (none_reported law r is typed);
 }
 
 -- The result of checking a module is right (`IsChecked`) if it has the first 100 faults of the module. The table must
 -- be present exactly if no fault of types is reported.
 pub checked_reported : (r : Resolution) (faults : List Fault) → ModulesWithoutFaultPassTypeCheck → TypedModulesHaveNoFault → IsResolution r → ((faults ≡ []) ↔ (all_faults_of r ≡ []))
-    → (known : Option Tables) → MatchOption known (module_faults r ≡ [] → ⊥) (λ t. (module_faults r ≡ []) × HasDeclarations (named_tree_of r.module_read) t) → length faults ≤ 100 → AreFirstWhenSorted (all_faults_of r) faults
+    → (known : Option Tables) → MatchOption known (undeclared_name_and_type_faults r ≡ [] → ⊥) (λ t. (undeclared_name_and_type_faults r ≡ []) × HasDeclarations (named_tree_of r.module_read) t) → length faults ≤ 100 → AreFirstFaultsWhenSorted (all_faults_of r) faults
     → IsChecked (record { names = r; faults = faults; known = known })
 unfolding WellTyped
 checked_reported r faults reported_law none_law h alike known knows few first =
     let m = named_tree_of r.module_read in
     let fits : Bool = passes_type_check naming_by_spelling m in
     let any = list_any is_duplicate_or_end_name r.faults in
-    let of_types : IsReported fits (module_faults r) = (reported_law r h, none_law r h) in
-    let whole : IsReported (fits && not any) (all_faults_of r) = reported_with fits (module_faults r) r.faults of_types in
+    let of_types : IsReported fits (undeclared_name_and_type_faults r) = (reported_law r h, none_law r h) in
+    let whole : IsReported (fits && not any) (all_faults_of r) = reported_with fits (undeclared_name_and_type_faults r) r.faults of_types in
     let reported : IsReported (fits && not any) faults = ((λ none. whole.0 (alike.0 none)), (λ right. alike.1 (whole.1 right))) in
     record {
       resolved = h;
@@ -117,8 +117,8 @@ checked_reported r faults reported_law none_law h alike known knows few first =
             (once_from (has_consistent_names m) any h.reported.declared_twice (second_right fits any right), first_right fits any right)),
         (λ w. reported.1 (both_right fits any w.1 (from_once (has_consistent_names m) any h.reported.declared_twice w.0))),
       );
-      holds = known_declares (module_faults r ≡ []) known (HasDeclarations m) knows;
-      kept = λ none. known_there (module_faults r ≡ []) known (HasDeclarations m) knows (none_law r h (first_right fits any (reported.0 none)));
+      holds = known_declares (undeclared_name_and_type_faults r ≡ []) known (HasDeclarations m) knows;
+      kept = λ none. known_there (undeclared_name_and_type_faults r ≡ []) known (HasDeclarations m) knows (none_law r h (first_right fits any (reported.0 none)));
       few = few;
       first = first;
     }

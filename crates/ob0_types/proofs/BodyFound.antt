@@ -3,11 +3,11 @@
 use Rattle.std.proofs.Common.{◌≡◌, ℕ, zero, Bool, true, false, nat_lt, if◌then◌else◌, [], ◌∷◌, sym, subst}
 use Rattle.ob0_tree.specs.Tree.{Tree, block, body, constants, declares, declares_procedure, end, forms_block, is_module, item, items, maybe, module_text, more, procedure, type_definitions, variables}
 use Rattle.ob0_scope_table.specs.TokenProperty.{EachTokenHas}
-use Rattle.ob0_scope_table.specs.BodyReplaced.{PathToBody, block_without, path_after_insertion_in_front, procedure_without, path_to_body_in_procedures, path_to_body_in_block, path_to_body_in_procedure, path_to_body_in_module, module_without_body}
+use Rattle.ob0_scope_table.specs.BodyReplaced.{PathToBody, block_without_body, path_after_insertion_in_front, procedure_without_body, path_to_body_in_procedures, path_to_body_in_block, path_to_body_in_procedure, path_to_body_in_module, module_without_body}
 use Rattle.ob0_scope_table.specs.OneBody.{closing_name}
 use Rattle.ob0_scope_table.proofs.BodyOutside.{Among}
 use Rattle.ob0_types_check.specs.EqualExceptBodies.{EachTokenOfBlockHasExceptInBodies, EachTokenOfModuleHasExceptInBodies, EachTokenOfProcedureHasExceptInBodies, EachTokenOfProceduresHasExceptInBodies, Unless}
-use Rattle.ob0_types.specs.OneBody.{body_at_path_in_procedures, body_with_token_in_block, body_with_token_in_module, body_with_token_in_procedure}
+use Rattle.ob0_types.specs.OneBody.{body_with_token_in_procedures, body_with_token_in_block, body_with_token_in_module, body_with_token_in_procedure}
 
 -- ---- if all tokens have the property
 
@@ -66,12 +66,12 @@ module _ (P : ℕ → Type 0) (low : ℕ) (wanted : ℕ → Bool) where
     block_but : (own : ℕ) (b : Tree ℕ block) → BlockOutside P low b → wanted (body_with_token_in_block low own b).closing ≡ true → EachTokenOfBlockHasExceptInBodies P wanted own b
     block_but own (forms_block (declares cs ts vs ps) statements) h is_wanted = let f = among_but own ps statements h.3 is_wanted in (h.0, h.1, h.2, f.0, f.1)
 
-    among_but : (own : ℕ) (ps : Tree ℕ (items procedure)) (statements : Tree ℕ (maybe body)) → AmongOutside P low ps statements → wanted (body_at_path_in_procedures low own ps statements).closing ≡ true
+    among_but : (own : ℕ) (ps : Tree ℕ (items procedure)) (statements : Tree ℕ (maybe body)) → AmongOutside P low ps statements → wanted (body_with_token_in_procedures low own ps statements).closing ≡ true
         → EachTokenOfProceduresHasExceptInBodies P wanted ps × Unless (wanted own) (EachTokenHas P statements)
     among_but own end statements h is_wanted = (tt, subst (λ b. Unless b (EachTokenHas P statements)) (sym is_wanted) tt)
     among_but own (more p rest) statements h is_wanted =
         (elim (nat_lt (closing_name p) low) as (λ z. Chosen z (EachTokenHas P p × AmongOutside P low rest statements) (ProcedureOutside P low p × EachTokenHas P rest × EachTokenHas P statements)
-        → wanted (if z then body_at_path_in_procedures low own rest statements else body_with_token_in_procedure low p).closing ≡ true → EachTokenOfProceduresHasExceptInBodies P wanted (more p rest) × Unless (wanted own) (EachTokenHas P statements)) [
+        → wanted (if z then body_with_token_in_procedures low own rest statements else body_with_token_in_procedure low p).closing ≡ true → EachTokenOfProceduresHasExceptInBodies P wanted (more p rest) × Unless (wanted own) (EachTokenHas P statements)) [
           | true ↦ λ h is_wanted. let f = among_but own rest statements h.1 is_wanted in ((procedure_any P wanted p h.0, f.0), f.1)
           | false ↦ λ h is_wanted. ((procedure_but p h.0 is_wanted, procedures_any P wanted rest h.1), unless_any P wanted (wanted own) h.2)
         ]) h is_wanted
@@ -86,7 +86,7 @@ module _ (P : ℕ → Type 0) (low : ℕ) (wanted : ℕ → Bool) where
 
 module _ (P : ℕ → Type 0) (low : ℕ) where
   block_along : (path : PathToBody) (cs : Tree ℕ (maybe constants)) (ts : Tree ℕ (maybe type_definitions)) (vs : Tree ℕ (maybe variables)) (ps : Tree ℕ (items procedure)) (statements : Tree ℕ (maybe body))
-      → EachTokenHas P (block_without path (forms_block (declares cs ts vs ps) statements)) → EachTokenHas P cs × EachTokenHas P ts × EachTokenHas P vs × Among P path ps statements
+      → EachTokenHas P (block_without_body path (forms_block (declares cs ts vs ps) statements)) → EachTokenHas P cs × EachTokenHas P ts × EachTokenHas P vs × Among P path ps statements
   block_along [] cs ts vs ps statements h = (h.0.0, h.0.1, h.0.2, h.0.3)
   block_along (k ∷ path) cs ts vs ps statements h = (h.0.0, h.0.1, h.0.2, (h.0.3, h.1))
 
@@ -95,7 +95,7 @@ module _ (P : ℕ → Type 0) (low : ℕ) where
   among_first (k ∷ path) p ps statements h = (h.0.0, (h.0.1, h.1))
 
   mutual
-    block_found : (b : Tree ℕ block) → EachTokenHas P (block_without (path_to_body_in_block low b) b) → BlockOutside P low b
+    block_found : (b : Tree ℕ block) → EachTokenHas P (block_without_body (path_to_body_in_block low b) b) → BlockOutside P low b
     block_found (forms_block (declares cs ts vs ps) statements) h =
         let parts = block_along (path_to_body_in_procedures low ps) cs ts vs ps statements h in
         (parts.0, parts.1, parts.2, among_found ps statements parts.3)
@@ -109,7 +109,7 @@ module _ (P : ℕ → Type 0) (low : ℕ) where
           | false ↦ λ h. (procedure_found p h.0.0, h.0.1, h.1)
         ]) h
 
-    procedure_found : (p : Tree ℕ (item procedure)) → EachTokenHas P (procedure_without (path_to_body_in_procedure low p) p) → ProcedureOutside P low p
+    procedure_found : (p : Tree ℕ (item procedure)) → EachTokenHas P (procedure_without_body (path_to_body_in_procedure low p) p) → ProcedureOutside P low p
     procedure_found (declares_procedure x fs b closing) h = (h.0, h.1, block_found b h.2, h.3)
 
   pub module_found : (m : Tree ℕ module_text) → EachTokenHas P (module_without_body (path_to_body_in_module low m) m) → ModuleOutside P low m

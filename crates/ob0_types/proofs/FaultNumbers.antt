@@ -1,6 +1,6 @@
 -- The order of codes is the order of the numbers that they are declared with. `declared_number` is written as the
--- derived order writes these numbers; with a `_` instead, the proof isn't found. The key of `first_faults` has a generated
--- name, which may change when `first_faults` changes: the check's message then shows the new name.
+-- derived order writes these numbers; with a `_` instead, the proof isn't found. The key of `first_sorted_faults` has a generated
+-- name, which may change when `first_sorted_faults` changes: the check's message then shows the new name.
 use denote.Enum.Declared.{tag_of}
 use Rattle.std.proofs.Common.{◌≡◌, ℕ, ◌+◌, ℤ, pos, Bool, true, false, cond, ◌==◌, nat_lt, List, [], ◌∷◌, refl, sym, ap, ◌∙◌, arith, true≢false, eqb-true, eq-eqb, ltb-true, ltb-false}
 use Rattle.std.specs.List.Sorted.{IsSorted, IsSortedByKey}

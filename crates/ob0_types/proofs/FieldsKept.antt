@@ -3,13 +3,13 @@ use Rattle.std.proofs.Common.{◌≡◌, IfSome, is_some, Option, Some, None, sy
 use Rattle.ob0_language_types.specs.WellTyped.{WellTyped}
 use Rattle.ob0_scope_table.specs.Resolution.{IsResolution, Resolution}
 use Rattle.ob0_tree.specs.ParsedModule.{named_tree_of}
-use Rattle.ob0_types.specs.CheckedModules.{IsTableIfTyped}
+use Rattle.ob0_types.specs.CheckedModules.{HasTableIfWellTyped}
 use Rattle.ob0_types_check.specs.ModuleLaws.{HasDeclarations}
 use Rattle.ob0_types_fields.specs.FieldLists.{AreFieldListsOf, FieldLists, field_lists_of}
 use Rattle.ob0_types_fields.proofs.ListedFields.{listed_fields}
 use Rattle.ob0_types_table.specs.KnownTables.{Tables}
 
-module _ (r : Resolution) (known : Option Tables) (is : IsResolution r) (h : IsTableIfTyped r known) where
+module _ (r : Resolution) (known : Option Tables) (is : IsResolution r) (h : HasTableIfWellTyped r known) where
   -- A module without a table of declarations isn't well-typed.
   pub none_typed : {A : Type 0} → known ≡ None → WellTyped (named_tree_of r.module_read) → A
   none_typed e typed = absurd (true≢false (sym (h.kept typed) ∙ ap is_some e))

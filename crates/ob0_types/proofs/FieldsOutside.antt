@@ -9,9 +9,9 @@ use Rattle.ob0_language_values.specs.Values.{Shape}
 use Rattle.ob0_scope_table.specs.TokenProperty.{EachTokenHas}
 use Rattle.ob0_scope_table.specs.OneBody.{closing_name}
 use Rattle.ob0_types.proofs.BodyFound.{AmongOutside, BlockOutside, Chosen, ModuleOutside, ProcedureOutside}
-use Rattle.ob0_types.specs.OneBody.{body_at_path_in_procedures, body_with_token_in_block, body_with_token_in_module, body_with_token_in_procedure}
+use Rattle.ob0_types.specs.OneBody.{body_with_token_in_procedures, body_with_token_in_block, body_with_token_in_module, body_with_token_in_procedure}
 use Rattle.ob0_types_fields.specs.declared.field_name.FieldName.{FieldName}
-use Rattle.ob0_types_fields.specs.Owned.{fields_in_block, fields_in_module, fields_in_procedure, fields_in_procedures, fields_in_sections, fields_in_tree, fields_in_types, fields_in_variables}
+use Rattle.ob0_types_fields.specs.Owned.{fields_in_block, fields_in_module, fields_in_procedure, fields_in_procedures, fields_in_parameter_sections, fields_in_tree, fields_in_types, fields_in_variables}
 use Rattle.ob0_types_fields.proofs.SameSelectedFields.{MeansSame, procedure_same, procedures_same, tree_same}
 
 module _ {Q : Type 0} (m n : Meanings ℕ Shape Q) where
@@ -62,7 +62,7 @@ module _ {Q : Type 0} (m n : Meanings ℕ Shape Q) where
           let of_types = fields_in_types k (section_types ts) in
           let of_variables = fields_in_variables (constructors_before_variables k b) (section_variables vs) in
           let j : ℕ = constructors_before_procedures k b in
-          let inner = (body_at_path_in_procedures low own ps statements).statements in
+          let inner = (body_with_token_in_procedures low own ps statements).statements in
           as_these inner
           (joined of_types of_variables (fields_in_procedures m j ps) (fields_in_tree m statements))
           (joined of_types of_variables (fields_in_procedures n j ps) (fields_in_tree n statements))
@@ -73,7 +73,7 @@ module _ {Q : Type 0} (m n : Meanings ℕ Shape Q) where
           joined a b c d = append_assoc a (b ++ c) d ∙ ap (λ l. a ++ l) (append_assoc b c d)
 
       among_around : (k own : ℕ) (ps : Tree ℕ (items procedure)) (statements : Tree ℕ (maybe body)) → AmongOutside Same low ps statements
-          → AreAround (fields_in_procedures m k ps ++ fields_in_tree m statements) (fields_in_procedures n k ps ++ fields_in_tree n statements) (body_at_path_in_procedures low own ps statements).statements
+          → AreAround (fields_in_procedures m k ps ++ fields_in_tree m statements) (fields_in_procedures n k ps ++ fields_in_tree n statements) (body_with_token_in_procedures low own ps statements).statements
       among_around k own end statements h = alone statements
       among_around k own (more p rest) statements h =
           let j : ℕ = k + procedure_constructor_count p in
@@ -82,9 +82,9 @@ module _ {Q : Type 0} (m n : Meanings ℕ Shape Q) where
           let rest_m = fields_in_procedures m j rest in
           let rest_n = fields_in_procedures n j rest in
           (elim (nat_lt (closing_name p) low) as (λ z. Chosen z (EachTokenHas Same p × AmongOutside Same low rest statements) (ProcedureOutside Same low p × EachTokenHas Same rest × EachTokenHas Same statements)
-          → AreAround ((first_m ++ rest_m) ++ fields_in_tree m statements) ((first_n ++ rest_n) ++ fields_in_tree n statements) (if z then body_at_path_in_procedures low own rest statements else body_with_token_in_procedure low p).statements) [
+          → AreAround ((first_m ++ rest_m) ++ fields_in_tree m statements) ((first_n ++ rest_n) ++ fields_in_tree n statements) (if z then body_with_token_in_procedures low own rest statements else body_with_token_in_procedure low p).statements) [
             | true ↦ λ h.
-                let inner = (body_at_path_in_procedures low own rest statements).statements in
+                let inner = (body_with_token_in_procedures low own rest statements).statements in
                 as_these inner (append_assoc first_m rest_m (fields_in_tree m statements))
                 (append_assoc first_n rest_n (fields_in_tree n statements) ∙ ap (λ l. l ++ (rest_n ++ fields_in_tree n statements)) (sym (procedure_same m n k p h.0)))
                 (in_front (rest_m ++ fields_in_tree m statements) (rest_n ++ fields_in_tree n statements) first_m inner (among_around j own rest statements h.1))
@@ -98,7 +98,7 @@ module _ {Q : Type 0} (m n : Meanings ℕ Shape Q) where
       procedure_around : (k : ℕ) (p : Tree ℕ (item procedure)) → ProcedureOutside Same low p → AreAround (fields_in_procedure m k p) (fields_in_procedure n k p) (body_with_token_in_procedure low p).statements
       procedure_around k (declares_procedure x fs b closing) h =
           let j : ℕ = constructors_before_procedure_block k (declares_procedure x fs b closing) in
-          in_front (fields_in_block m j b) (fields_in_block n j b) (fields_in_sections k (formal_sections fs)) (body_with_token_in_block low closing b).statements (block_around j closing b h.2)
+          in_front (fields_in_block m j b) (fields_in_block n j b) (fields_in_parameter_sections k (formal_sections fs)) (body_with_token_in_block low closing b).statements (block_around j closing b h.2)
 
     pub module_around : (t : Tree ℕ module_text) → ModuleOutside Same low t → AreAround (fields_in_module m t) (fields_in_module n t) (body_with_token_in_module low t).statements
     module_around (is_module x b closing) h = block_around 0 closing b h.1

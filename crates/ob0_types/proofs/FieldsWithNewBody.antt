@@ -1,33 +1,33 @@
 -- If the statements of one body were replaced, the fields of the module are its old fields, moved, with the fields of
 -- the new statements between them.
 use Rattle.std.proofs.Common.{◌≡◌, ℕ, [], ◌++◌, map, Some, sym, ap, ◌∙◌}
-use Rattle.ob0_scan.specs.declared.tokens.SameParts.{SameParts}
+use Rattle.ob0_scan.specs.declared.tokens.CommonPrefixAndSuffix.{CommonPrefixAndSuffix}
 use Rattle.ob0_tree.specs.ParsedModule.{named_tree_of, tree_of}
 use Rattle.ob0_tree.specs.Tree.{Tree, body, identifiers, maybe}
 use Rattle.ob0_tree.specs.declared.tree.Role.TheVariants as role
 use Rattle.ob0_language_types.specs.Bindings.{declared_object}
 use Rattle.ob0_language_types.specs.WellTyped.{WellTyped}
-use Rattle.ob0_scope_table.specs.BodyPlaces.{body_place_of_range}
+use Rattle.ob0_scope_table.specs.BodyPlaces.{body_bounds_of_range}
 use Rattle.ob0_tree.specs.FirstIdentifier.{token_of_first_identifier}
 use Rattle.ob0_scope_table.specs.BodyReplaced.{IsBodyReplaced, PathToBody, body_at_path, closing_name_at_path, path_to_body_in_module}
 use Rattle.ob0_scope_table.specs.Resolution.{IsResolution, Resolution}
-use Rattle.ob0_scope_table.specs.declared.one_body.BodyPlace.{BodyPlace}
+use Rattle.ob0_scope_table.specs.declared.one_body.BodyBounds.{BodyBounds}
 use Rattle.ob0_scope_table.proofs.BodyPlaces.{body_place_read}
 use Rattle.ob0_types_table.specs.KnownTables.{Tables, declared_object_in}
-use Rattle.ob0_types_fields.specs.FieldLists.{AreFieldListsOf, FieldLists, moved_field, fields_before, fields_from, old_token_index}
+use Rattle.ob0_types_fields.specs.FieldLists.{AreFieldListsOf, FieldLists, moved_field, fields_before, fields_at_or_after, old_token_index}
 use Rattle.ob0_types_fields.specs.Owned.{fields_in_tree, meanings_by_token}
 use Rattle.ob0_types_fields.proofs.FieldsElsewhere.{fields_elsewhere}
-use Rattle.ob0_types.specs.CheckedModules.{AreTypesOf}
-use Rattle.ob0_types.specs.declared.checked.ModuleTypes.{ModuleTypes}
+use Rattle.ob0_types.specs.CheckedModules.{IsCheckResultOf}
+use Rattle.ob0_types.specs.declared.checked.CheckResult.{CheckResult}
 
-module _ (old r : Resolution) (types : ModuleTypes) (path : PathToBody) (s : SameParts) (is : IsBodyReplaced old.module_read r.module_read path s) (were : AreTypesOf old types)
+module _ (old r : Resolution) (types : CheckResult) (path : PathToBody) (s : CommonPrefixAndSuffix) (is : IsBodyReplaced old.module_read r.module_read path s) (were : IsCheckResultOf old types)
     (named : IsResolution r) (typed : WellTyped (named_tree_of r.module_read)) (none : types.faults.items ≡ []) where
   -- The fields before the new statements, the fields found in them, and the moved fields after them are the module's
   -- fields.
   pub fields_with_new_body : (f : FieldLists) (t : Tables) → ((k : ℕ) → declared_object_in t k ≡ declared_object (named_tree_of r.module_read) k)
-      → (statements : Tree ℕ (maybe body)) → statements ≡ body_at_path path (tree_of r.module_read) → (place : BodyPlace) → body_place_of_range s.prefix s.new_suffix (tree_of r.module_read) ≡ Some place
+      → (statements : Tree ℕ (maybe body)) → statements ≡ body_at_path path (tree_of r.module_read) → (place : BodyBounds) → body_bounds_of_range s.prefix s.new_suffix (tree_of r.module_read) ≡ Some place
       → f.declared ≡ map (moved_field s) types.fields.declared
-      → f.all ≡ fields_before place.first types.fields.all ++ (fields_in_tree (meanings_by_token (declared_object_in t) r) statements ++ map (moved_field s) (fields_from (old_token_index s place.closing) types.fields.all))
+      → f.all ≡ fields_before place.first types.fields.all ++ (fields_in_tree (meanings_by_token (declared_object_in t) r) statements ++ map (moved_field s) (fields_at_or_after (old_token_index s place.closing) types.fields.all))
       → AreFieldListsOf r f
   fields_with_new_body f t holds statements here place found declared all =
       let at = body_place_read s.prefix s.new_suffix (tree_of r.module_read) place found in

@@ -9,38 +9,38 @@ use Rattle.ob0_language_types.specs.WellTyped.{TypeEnvironment, WellTyped, bind_
 use Rattle.ob0_tree.specs.Tree.{Tree, block, body, constants, declares, declares_procedure, end, forms_block, is_module, item, items, maybe, module_text, more, none, procedure, type_definitions, variables}
 use Rattle.ob0_tree.specs.ParsedModule.{named_tree_of, tree_of}
 use Rattle.ob0_tree.specs.Places.{tree_with_names, token_text_at, token_value_at}
-use Rattle.ob0_scan.specs.declared.tokens.SameParts.{SameParts}
-use Rattle.ob0_scope_table.specs.BodyReplaced.{PathToBody, block_without, body_at_path, body_at_path_in_block, body_at_path_in_procedure, closing_name_at_path, closing_name_at_path_in_block, closing_name_at_path_in_procedure, path_after_insertion_in_front, procedure_without, procedures_without, path_to_body_in_procedures, path_to_body_in_block, path_to_body_in_procedure, path_to_body_in_module, module_without_body}
+use Rattle.ob0_scan.specs.declared.tokens.CommonPrefixAndSuffix.{CommonPrefixAndSuffix}
+use Rattle.ob0_scope_table.specs.BodyReplaced.{PathToBody, block_without_body, body_at_path, body_at_path_in_block, body_at_path_in_procedure, closing_name_at_path, closing_name_at_path_in_block, closing_name_at_path_in_procedure, path_after_insertion_in_front, procedure_without_body, procedures_without_body, path_to_body_in_procedures, path_to_body_in_block, path_to_body_in_procedure, path_to_body_in_module, module_without_body}
 use Rattle.ob0_scope_table.specs.OneBody.{closing_name}
 use Rattle.ob0_scope_table.specs.Resolution.{Resolution}
 use Rattle.ob0_scope_table.proofs.BodyReplaced.{names_outside, without_mapped}
 use Rattle.ob0_types_check.specs.NewBody.{PassesTypeCheckWithoutBody}
 use Rattle.ob0_types_check.proofs.WithoutNames.{procedure_name-module_without_body}
-use Rattle.ob0_types.specs.NewBody.{WereTypesBeforeNewBody}
-use Rattle.ob0_types.specs.OneBody.{OneBody, body_at_path_in_procedures, body_with_token_in_block, body_with_token_in_module, body_with_token_in_procedure}
-use Rattle.ob0_types.specs.declared.checked.ModuleTypes.{ModuleTypes}
+use Rattle.ob0_types.specs.NewBody.{WasCheckResultBeforeNewBody}
+use Rattle.ob0_types.specs.OneBody.{OneBody, body_with_token_in_procedures, body_with_token_in_block, body_with_token_in_module, body_with_token_in_procedure}
+use Rattle.ob0_types.specs.declared.checked.CheckResult.{CheckResult}
 
 -- ---- a block without the statements of one body has as many words ARRAY and RECORD as the block, and the same names
 
 mutual
-  block_count : {N : Type 0} (path : PathToBody) (b : Tree N block) → block_constructor_count (block_without path b) ≡ block_constructor_count b
+  block_count : {N : Type 0} (path : PathToBody) (b : Tree N block) → block_constructor_count (block_without_body path b) ≡ block_constructor_count b
   block_count [] (forms_block (declares cs ts vs ps) statements) = refl
   block_count (k ∷ path) (forms_block (declares cs ts vs ps) statements) =
       ap (λ n. types_constructor_count (section_types ts) + (variables_constructor_count (section_variables vs) + n)) (procedures_count k path ps)
 
-  procedures_count : {N : Type 0} (k : ℕ) (path : PathToBody) (ps : Tree N (items procedure)) → procedures_constructor_count (procedures_without k path ps) ≡ procedures_constructor_count ps
+  procedures_count : {N : Type 0} (k : ℕ) (path : PathToBody) (ps : Tree N (items procedure)) → procedures_constructor_count (procedures_without_body k path ps) ≡ procedures_constructor_count ps
   procedures_count zero path end = refl
   procedures_count (suc k) path end = refl
   procedures_count zero path (more p rest) = ap (λ n. n + procedures_constructor_count rest) (procedure_count path p)
   procedures_count (suc k) path (more p rest) = ap (λ n. procedure_constructor_count p + n) (procedures_count k path rest)
 
-  pub procedure_count : {N : Type 0} (path : PathToBody) (p : Tree N (item procedure)) → procedure_constructor_count (procedure_without path p) ≡ procedure_constructor_count p
+  pub procedure_count : {N : Type 0} (path : PathToBody) (p : Tree N (item procedure)) → procedure_constructor_count (procedure_without_body path p) ≡ procedure_constructor_count p
   procedure_count path (declares_procedure x fs b closing) = ap (λ n. formals_constructor_count (formal_sections fs) + n) (block_count path b)
 
-same_formals : {N : Type 0} (path : PathToBody) (p : Tree N (item procedure)) → procedure_formals (procedure_without path p) ≡ procedure_formals p
+same_formals : {N : Type 0} (path : PathToBody) (p : Tree N (item procedure)) → procedure_formals (procedure_without_body path p) ≡ procedure_formals p
 same_formals path (declares_procedure x fs b closing) = refl
 
-same_names : {N : Type 0} (k : ℕ) (path : PathToBody) (ps : Tree N (items procedure)) → procedure_names (procedures_without k path ps) ≡ procedure_names ps
+same_names : {N : Type 0} (k : ℕ) (path : PathToBody) (ps : Tree N (items procedure)) → procedure_names (procedures_without_body k path ps) ≡ procedure_names ps
 same_names zero path end = refl
 same_names (suc k) path end = refl
 same_names zero path (more p rest) = ap (λ x. x ∷ procedure_names rest) (procedure_name-module_without_body path p)
@@ -72,35 +72,35 @@ module _ {N : Type 0} (naming : Naming N) where
   mutual
     unfolding block_is_well_typed declare_constants_and_types
 
-    block_left_out : (path : PathToBody) (env : TypeEnvironment N) (k : ℕ) (b : Tree N block) → block_is_well_typed naming env k b ≡ true → block_is_well_typed naming env k (block_without path b) ≡ true
+    block_left_out : (path : PathToBody) (env : TypeEnvironment N) (k : ℕ) (b : Tree N block) → block_is_well_typed naming env k b ≡ true → block_is_well_typed naming env k (block_without_body path b) ≡ true
     block_left_out [] env k (forms_block (declares cs ts vs ps) statements) h =
         let b : Tree N block = forms_block (declares cs ts vs ps) statements in
         some_and_weaker _ (λ inner. procedures_are_well_typed naming inner (constructors_before_procedures k b) statements ps) (λ inner. procedures_are_well_typed naming inner (constructors_before_procedures k b) none ps)
         (λ inner. own_left_out inner (constructors_before_procedures k b) statements ps) h
     block_left_out (j ∷ path) env k (forms_block (declares cs ts vs ps) statements) h =
         let b : Tree N block = forms_block (declares cs ts vs ps) statements in
-        some_and_weaker _ (λ inner. procedures_are_well_typed naming inner (constructors_before_procedures k b) statements ps) (λ inner. procedures_are_well_typed naming inner (constructors_before_procedures k b) statements (procedures_without j path ps))
+        some_and_weaker _ (λ inner. procedures_are_well_typed naming inner (constructors_before_procedures k b) statements ps) (λ inner. procedures_are_well_typed naming inner (constructors_before_procedures k b) statements (procedures_without_body j path ps))
         (λ inner. procedures_left_out j path inner (constructors_before_procedures k b) statements ps) h
 
     procedures_left_out : (j : ℕ) (path : PathToBody) (env : TypeEnvironment N) (k : ℕ) (statements : Tree N (maybe body)) (ps : Tree N (items procedure)) → procedures_are_well_typed naming env k statements ps ≡ true
-        → procedures_are_well_typed naming env k statements (procedures_without j path ps) ≡ true
+        → procedures_are_well_typed naming env k statements (procedures_without_body j path ps) ≡ true
     procedures_left_out zero path env k statements end h = h
     procedures_left_out (suc j) path env k statements end h = h
     procedures_left_out zero path env k statements (more (declares_procedure x fs b closing) rest) h =
         let p : Tree N (item procedure) = declares_procedure x fs b closing in
         some_and_weaker (typed_parameters naming env k (formal_sections fs))
         (λ qs. procedure_is_well_typed naming (bind_typed_parameters qs (bind_procedure x qs env)) k p && procedures_are_well_typed naming (bind_procedure x qs env) (k + procedure_constructor_count p) statements rest)
-        (λ qs. procedure_is_well_typed naming (bind_typed_parameters qs (bind_procedure x qs env)) k (procedure_without path p) && procedures_are_well_typed naming (bind_procedure x qs env) (k + procedure_constructor_count (procedure_without path p)) statements rest)
+        (λ qs. procedure_is_well_typed naming (bind_typed_parameters qs (bind_procedure x qs env)) k (procedure_without_body path p) && procedures_are_well_typed naming (bind_procedure x qs env) (k + procedure_constructor_count (procedure_without_body path p)) statements rest)
         (λ qs. both_weaker (procedure_is_well_typed naming (bind_typed_parameters qs (bind_procedure x qs env)) k p) (procedures_are_well_typed naming (bind_procedure x qs env) (k + procedure_constructor_count p) statements rest)
-        (procedure_is_well_typed naming (bind_typed_parameters qs (bind_procedure x qs env)) k (procedure_without path p)) (procedures_are_well_typed naming (bind_procedure x qs env) (k + procedure_constructor_count (procedure_without path p)) statements rest)
+        (procedure_is_well_typed naming (bind_typed_parameters qs (bind_procedure x qs env)) k (procedure_without_body path p)) (procedures_are_well_typed naming (bind_procedure x qs env) (k + procedure_constructor_count (procedure_without_body path p)) statements rest)
         (block_left_out path (bind_typed_parameters qs (bind_procedure x qs env)) (k + formals_constructor_count (formal_sections fs)) b)
         (λ e. ap (λ n. procedures_are_well_typed naming (bind_procedure x qs env) (k + n) statements rest) (procedure_count path p) ∙ e)) h
     procedures_left_out (suc j) path env k statements (more p rest) h =
         some_and_weaker (typed_parameters naming env k (procedure_formals p))
         (λ qs. procedure_is_well_typed naming (bind_typed_parameters qs (bind_procedure (procedure_name p) qs env)) k p && procedures_are_well_typed naming (bind_procedure (procedure_name p) qs env) (k + procedure_constructor_count p) statements rest)
-        (λ qs. procedure_is_well_typed naming (bind_typed_parameters qs (bind_procedure (procedure_name p) qs env)) k p && procedures_are_well_typed naming (bind_procedure (procedure_name p) qs env) (k + procedure_constructor_count p) statements (procedures_without j path rest))
+        (λ qs. procedure_is_well_typed naming (bind_typed_parameters qs (bind_procedure (procedure_name p) qs env)) k p && procedures_are_well_typed naming (bind_procedure (procedure_name p) qs env) (k + procedure_constructor_count p) statements (procedures_without_body j path rest))
         (λ qs. both_weaker (procedure_is_well_typed naming (bind_typed_parameters qs (bind_procedure (procedure_name p) qs env)) k p) (procedures_are_well_typed naming (bind_procedure (procedure_name p) qs env) (k + procedure_constructor_count p) statements rest)
-        (procedure_is_well_typed naming (bind_typed_parameters qs (bind_procedure (procedure_name p) qs env)) k p) (procedures_are_well_typed naming (bind_procedure (procedure_name p) qs env) (k + procedure_constructor_count p) statements (procedures_without j path rest))
+        (procedure_is_well_typed naming (bind_typed_parameters qs (bind_procedure (procedure_name p) qs env)) k p) (procedures_are_well_typed naming (bind_procedure (procedure_name p) qs env) (k + procedure_constructor_count p) statements (procedures_without_body j path rest))
         (λ e. e) (procedures_left_out j path (bind_procedure (procedure_name p) qs env) (k + procedure_constructor_count p) statements rest)) h
 
   pub fits_left_out : (path : PathToBody) (m : Tree N module_text) → passes_type_check naming m ≡ true → passes_type_check naming (module_without_body path m) ≡ true
@@ -110,21 +110,21 @@ module _ {N : Type 0} (naming : Naming N) where
 -- ---- each name is also declared once without the statements of a body
 
 mutual
-  block_once_alike : (path : PathToBody) (own : List Name) (b : Tree Name block) → block_has_consistent_names own (block_without path b) ≡ block_has_consistent_names own b
+  block_once_alike : (path : PathToBody) (own : List Name) (b : Tree Name block) → block_has_consistent_names own (block_without_body path b) ≡ block_has_consistent_names own b
   block_once_alike [] own (forms_block (declares cs ts vs ps) statements) = refl
   block_once_alike (k ∷ path) own (forms_block (declares cs ts vs ps) statements) =
       λ i. are_distinct (own ++ block_names_alike i) && (types_have_distinct_fields (section_types ts) && (variables_have_distinct_fields (section_variables vs) && procedures_once_alike k path ps i))
     where
-      block_names_alike : block_names (block_without (k ∷ path) (forms_block (declares cs ts vs ps) statements)) ≡ block_names (forms_block (declares cs ts vs ps) statements)
+      block_names_alike : block_names (block_without_body (k ∷ path) (forms_block (declares cs ts vs ps) statements)) ≡ block_names (forms_block (declares cs ts vs ps) statements)
       block_names_alike = λ i. constant_names (section_constants cs) ++ (declared_type_names (section_types ts) ++ (variable_names (section_variables vs) ++ same_names k path ps i))
 
-  procedures_once_alike : (k : ℕ) (path : PathToBody) (ps : Tree Name (items procedure)) → procedures_have_consistent_names (procedures_without k path ps) ≡ procedures_have_consistent_names ps
+  procedures_once_alike : (k : ℕ) (path : PathToBody) (ps : Tree Name (items procedure)) → procedures_have_consistent_names (procedures_without_body k path ps) ≡ procedures_have_consistent_names ps
   procedures_once_alike zero path end = refl
   procedures_once_alike (suc k) path end = refl
   procedures_once_alike zero path (more p rest) = ap (λ b. b && procedures_have_consistent_names rest) (procedure_once_alike path p)
   procedures_once_alike (suc k) path (more p rest) = ap (λ b. procedure_has_consistent_names p && b) (procedures_once_alike k path rest)
 
-  procedure_once_alike : (path : PathToBody) (p : Tree Name (item procedure)) → procedure_has_consistent_names (procedure_without path p) ≡ procedure_has_consistent_names p
+  procedure_once_alike : (path : PathToBody) (p : Tree Name (item procedure)) → procedure_has_consistent_names (procedure_without_body path p) ≡ procedure_has_consistent_names p
   procedure_once_alike path (declares_procedure x fs b closing) = ap (λ o. same_name x closing && (formals_have_distinct_fields (formal_sections fs) && o)) (block_once_alike path (formal_names (formal_sections fs)) b)
 
 pub once_left_out : (path : PathToBody) (m : Tree Name module_text) → has_consistent_names (module_without_body path m) ≡ has_consistent_names m
@@ -148,13 +148,13 @@ module _ (low : ℕ) where
     block_leads own (forms_block (declares cs ts vs ps) statements) = among_leads own cs ts vs ps statements
 
     among_leads : (own : ℕ) (cs : Tree ℕ (maybe constants)) (ts : Tree ℕ (maybe type_definitions)) (vs : Tree ℕ (maybe variables)) (ps : Tree ℕ (items procedure)) (statements : Tree ℕ (maybe body))
-        → Leads (body_at_path_in_procedures low own ps statements) (closing_name_at_path_in_block (path_to_body_in_procedures low ps) own (forms_block (declares cs ts vs ps) statements)) (body_at_path_in_block (path_to_body_in_procedures low ps) (forms_block (declares cs ts vs ps) statements))
+        → Leads (body_with_token_in_procedures low own ps statements) (closing_name_at_path_in_block (path_to_body_in_procedures low ps) own (forms_block (declares cs ts vs ps) statements)) (body_at_path_in_block (path_to_body_in_procedures low ps) (forms_block (declares cs ts vs ps) statements))
     among_leads own cs ts vs end statements = (refl, refl)
     among_leads own cs ts vs (more p rest) statements =
         let b : Tree ℕ block = forms_block (declares cs ts vs (more p rest)) statements in
-        elim (nat_lt (closing_name p) low) as (λ z. Leads (if z then body_at_path_in_procedures low own rest statements else body_with_token_in_procedure low p)
+        elim (nat_lt (closing_name p) low) as (λ z. Leads (if z then body_with_token_in_procedures low own rest statements else body_with_token_in_procedure low p)
         (closing_name_at_path_in_block (if z then path_after_insertion_in_front (path_to_body_in_procedures low rest) else zero ∷ path_to_body_in_procedure low p) own b) (body_at_path_in_block (if z then path_after_insertion_in_front (path_to_body_in_procedures low rest) else zero ∷ path_to_body_in_procedure low p) b)) [
-          | true ↦ later_leads (path_to_body_in_procedures low rest) own cs ts vs p rest statements (body_at_path_in_procedures low own rest statements) (among_leads own cs ts vs rest statements)
+          | true ↦ later_leads (path_to_body_in_procedures low rest) own cs ts vs p rest statements (body_with_token_in_procedures low own rest statements) (among_leads own cs ts vs rest statements)
           | false ↦ procedure_leads p
         ]
 
@@ -166,7 +166,7 @@ module _ (low : ℕ) where
 
 -- ---- the module
 
-module _ (r : Resolution) (types : ModuleTypes) (s : SameParts) (w : WereTypesBeforeNewBody r types s) where
+module _ (r : Resolution) (types : CheckResult) (s : CommonPrefixAndSuffix) (w : WasCheckResultBeforeNewBody r types s) where
   -- The body that the code finds is the one whose statements were replaced.
   pub found_there : Leads (body_with_token_in_module s.prefix (tree_of r.module_read)) (closing_name_at_path w.path (tree_of r.module_read)) (body_at_path w.path (tree_of r.module_read))
   found_there = subst (λ path. Leads (body_with_token_in_module s.prefix (tree_of r.module_read)) (closing_name_at_path path (tree_of r.module_read)) (body_at_path path (tree_of r.module_read))) w.replaced.new_path (body_leads s.prefix (tree_of r.module_read))

@@ -12,14 +12,14 @@ use Rattle.ob0_scope_table.specs.Resolution.{IsResolution, Resolution}
 use Rattle.ob0_scope_table.proofs.BodyOutside.{module_outside}
 use Rattle.ob0_scope_table.proofs.BodyReplaced.{text_by_word, value_by_word}
 use Rattle.ob0_scope_table.proofs.Placed.{places_ascend}
-use Rattle.ob0_types_check.specs.EqualExceptBodies.{AreEqualExceptBodies, IsSameTokenAt}
-use Rattle.ob0_types_check.specs.SomeBodies.{IncludesFaultyBodies, faulty_bodies, is_among}
-use Rattle.ob0_types.specs.OneBody.{WereTypesBeforeChange, body_with_token_in_module, with_source}
-use Rattle.ob0_types.specs.declared.checked.ModuleTypes.{ModuleTypes}
+use Rattle.ob0_types_check.specs.EqualExceptBodies.{AreEqualExceptInBodies, IsSameTokenAt}
+use Rattle.ob0_types_check.specs.SomeBodies.{IncludesChangedAndFaultyBodies, faulty_bodies, is_among}
+use Rattle.ob0_types.specs.OneBody.{WasCheckResultBeforeBodyChange, body_with_token_in_module, with_source}
+use Rattle.ob0_types.specs.declared.checked.CheckResult.{CheckResult}
 use Rattle.ob0_types.proofs.Among.{all_weaker, among_further, among_last}
 use Rattle.ob0_types.proofs.BodyFound.{ModuleOutside, module_but, module_found}
 
-module _ (r : Resolution) (types : ModuleTypes) (low : ℕ) (w : WereTypesBeforeChange r types low) where
+module _ (r : Resolution) (types : CheckResult) (low : ℕ) (w : WasCheckResultBeforeBodyChange r types low) where
   abbrev pub before : Resolution
   before = resolution_with (with_source w.old r.module_read) w.bindings
 
@@ -41,7 +41,7 @@ module _ (r : Resolution) (types : ModuleTypes) (low : ℕ) (w : WereTypesBefore
       module_found P low (tree_of r.module_read)
       (module_outside low w.high P (λ k e. holds k (alike_out k e)) 0 (length r.module_read.source.tokens) (tree_of r.module_read) (places_ascend r.module_read is.parsed) w.change.in_body)
 
-  pub were_alike : (wanted : ℕ → Bool) → IsResolution r → wanted last_body ≡ true → AreEqualExceptBodies wanted before r
+  pub were_alike : (wanted : ℕ → Bool) → IsResolution r → wanted last_body ≡ true → AreEqualExceptInBodies wanted before r
   were_alike wanted is is_wanted =
       let new = r.module_read.source in
       record {
@@ -50,7 +50,7 @@ module _ (r : Resolution) (types : ModuleTypes) (low : ℕ) (w : WereTypesBefore
         alike = module_but (IsSameTokenAt before r) low wanted (tree_of r.module_read) (alike_outside (IsSameTokenAt before r) (λ k h. h) is) is_wanted;
       }
 
-  abbrev pub were_faulty : IsResolution r → IncludesFaultyBodies (is_among (types.bodies_with_faults.items ++ last_body ∷ [])) r
+  abbrev pub were_faulty : IsResolution r → IncludesChangedAndFaultyBodies (is_among (types.bodies_with_faults.items ++ last_body ∷ [])) r
   were_faulty is =
       let bodies = types.bodies_with_faults.items ++ last_body ∷ [] in
       record {

@@ -16,15 +16,15 @@ use Rattle.ob0_tree.specs.declared.tree.ModuleTree.{ModuleTree}
 use Rattle.ob0_language_types.specs.Bindings.{declared_object}
 use Rattle.ob0_language_types.specs.WellTyped.{WellTyped}
 use Rattle.ob0_scope_table.specs.Bindings.{resolution_with}
-use Rattle.ob0_scope_table.specs.FaultTokens.{AreFaultsAtSameTokens, AreWrittenAlike, fault_at, moved_faults}
+use Rattle.ob0_scope_table.specs.FaultTokens.{AreFaultsAtSameTokens, HaveSameKindsAndSpellings, fault_with_span, moved_faults}
 use Rattle.ob0_scope_table.specs.Resolution.{IsResolution, Resolution, is_duplicate_or_end_name, ordinal_in}
-use Rattle.ob0_scope_table.specs.declared.fault_tokens.FaultByTokens.{FaultByTokens}
+use Rattle.ob0_scope_table.specs.declared.fault_tokens.FaultWithTokenIndexes.{FaultWithTokenIndexes}
 use Rattle.ob0_scope_table.specs.declared.resolved.Bindings.{Bindings}
 use Rattle.ob0_scope_table.proofs.FaultTokens.{both_same, filter_same, names_same, texts_stay, tree_named, values_stay}
 use Rattle.ob0_scope_table.proofs.Placed.{each_token}
 use Rattle.ob0_scope_table.proofs.TokenOrder.{end_order, faults_move, start_order}
 use Rattle.ob0_types_check.specs.EqualExceptBodies.{IsSameTokenAt}
-use Rattle.ob0_types_check.specs.DeclarationFaults.{module_faults}
+use Rattle.ob0_types_check.specs.DeclarationFaults.{undeclared_name_and_type_faults}
 use Rattle.ob0_types_check.specs.ModuleLaws.{HasDeclarations}
 use Rattle.ob0_types_check.specs.SomeBodies.{AllPass, faulty_bodies, is_among}
 use Rattle.ob0_types_check.proofs.SameModules.{module_same}
@@ -33,8 +33,8 @@ use Rattle.ob0_types_fields.specs.Identifiers.{field_identifiers}
 use Rattle.ob0_types_fields.specs.FieldLists.{FieldLists}
 use Rattle.ob0_types_fields.specs.Owned.{fields_with_owners, owners_in_module}
 use Rattle.ob0_types.proofs.BodyFound.{module_any}
-use Rattle.ob0_types.specs.FaultOrder.{AreFirstWhenSorted, code_number, fault_cmp, all_faults_of}
-use Rattle.ob0_types.specs.Respelled.{TypesDependOnTokens}
+use Rattle.ob0_types.specs.FaultOrder.{AreFirstFaultsWhenSorted, code_number, fault_cmp, all_faults_of}
+use Rattle.ob0_types.specs.Respelled.{CheckResultDependsOnlyOnTokens}
 
 -- ---- lists with a function applied to each element
 
@@ -61,53 +61,53 @@ made_of f xs ys all e = IsPermutation-keeps ys (IsMadeOf f xs) (record { others 
       moved = IsPermutation-trans _ _ _ h.moved (IsPermutation-swap h.others (swap h.others i j) i j (omega (arith, p, long)) (omega (arith, q, long)) refl);
     }) all
 
-no_fault : FaultByTokens
+no_fault : FaultWithTokenIndexes
 no_fault = record { code = code.TooLong; first = 0; last = 0 }
 
-item_mapped : (f : FaultByTokens → Fault) (xs : List FaultByTokens) (k : ℕ) (d : Fault) → k < length xs → get_or (map f xs) k d ≡ f (get_or xs k no_fault)
+item_mapped : (f : FaultWithTokenIndexes → Fault) (xs : List FaultWithTokenIndexes) (k : ℕ) (d : Fault) → k < length xs → get_or (map f xs) k d ≡ f (get_or xs k no_fault)
 item_mapped f xs k d less =
     let inside : k < length (map f xs) = let long = length-map xs f in omega (arith, less, long) in
     get_or_default (map f xs) k d (f no_fault) inside ∙ get_or-map f xs k no_fault
 
 -- ---- faults in order
 
-module _ (old new : TextWithTokens) (w : AreWrittenAlike old new) where
-  same_cmp : (x y : FaultByTokens) → fault_cmp (fault_at old x) (fault_at old y) ≡ fault_cmp (fault_at new x) (fault_at new y)
+module _ (old new : TextWithTokens) (w : HaveSameKindsAndSpellings old new) where
+  same_cmp : (x y : FaultWithTokenIndexes) → fault_cmp (fault_with_span old x) (fault_with_span old y) ≡ fault_cmp (fault_with_span new x) (fault_with_span new y)
   same_cmp x y = λ i. ordering_then (ordering_then (start_order old new w x.first y.first i) (end_order old new w x.last y.last i)) (nat_cmp (code_number x.code) (code_number y.code))
 
-  sorted_same : (xs : List FaultByTokens) → IsSorted fault_cmp (map (fault_at old) xs) → IsSorted fault_cmp (map (fault_at new) xs)
+  sorted_same : (xs : List FaultWithTokenIndexes) → IsSorted fault_cmp (map (fault_with_span old) xs) → IsSorted fault_cmp (map (fault_with_span new) xs)
   sorted_same xs sorted k d low high =
-      let in_old = length-map xs (fault_at old) in
-      let in_new = length-map xs (fault_at new) in
+      let in_old = length-map xs (fault_with_span old) in
+      let in_new = length-map xs (fault_with_span new) in
       let further : k + 1 < length xs = omega (arith, high, in_new) in
       let here : k < length xs = omega (arith, further) in
       let x = get_or xs (k + 1) no_fault in
       let y = get_or xs k no_fault in
-      (λ i. is_lt (fault_cmp (item_mapped (fault_at new) xs (k + 1) d further i) (item_mapped (fault_at new) xs k d here i)))
+      (λ i. is_lt (fault_cmp (item_mapped (fault_with_span new) xs (k + 1) d further i) (item_mapped (fault_with_span new) xs k d here i)))
       ∙ (ap is_lt (sym (same_cmp x y))
-      ∙ ((λ i. is_lt (fault_cmp (sym (item_mapped (fault_at old) xs (k + 1) d further) i) (sym (item_mapped (fault_at old) xs k d here) i))) ∙ sorted k d low (omega (arith, further, in_old))))
+      ∙ ((λ i. is_lt (fault_cmp (sym (item_mapped (fault_with_span old) xs (k + 1) d further) i) (sym (item_mapped (fault_with_span old) xs k d here) i))) ∙ sorted k d low (omega (arith, further, in_old))))
 
-  first_same : (found there : List Fault) (faults : List Fault) → AreFaultsAtSameTokens old new found there → AreFirstWhenSorted found faults → AreFirstWhenSorted there (moved_faults old new faults)
+  first_same : (found there : List Fault) (faults : List Fault) → AreFaultsAtSameTokens old new found there → AreFirstFaultsWhenSorted found faults → AreFirstFaultsWhenSorted there (moved_faults old new faults)
   first_same found there faults at first =
-      let m = made_of (fault_at old) at.tokens found first.all at.in_old first.joined in
-      let kept : AreFaultsAtSameTokens old new faults (take 100 (map (fault_at new) m.others)) = record {
+      let m = made_of (fault_with_span old) at.tokens found first.all at.in_old first.joined in
+      let kept : AreFaultsAtSameTokens old new faults (take 100 (map (fault_with_span new) m.others)) = record {
         tokens = take 100 m.others;
-        in_old = first.first ∙ (ap (take 100) m.is ∙ take-map (fault_at old) 100 m.others);
-        in_new = take-map (fault_at new) 100 m.others;
+        in_old = first.first ∙ (ap (take 100) m.is ∙ take-map (fault_with_span old) 100 m.others);
+        in_new = take-map (fault_with_span new) 100 m.others;
       } in
       record {
-        all = map (fault_at new) m.others;
-        joined = subst (λ l. IsPermutation l (map (fault_at new) m.others)) (sym at.in_new) (IsPermutation-map (fault_at new) at.tokens m.others m.moved);
+        all = map (fault_with_span new) m.others;
+        joined = subst (λ l. IsPermutation l (map (fault_with_span new) m.others)) (sym at.in_new) (IsPermutation-map (fault_with_span new) at.tokens m.others m.moved);
         in_order = sorted_same m.others (subst (IsSorted fault_cmp) m.is first.in_order);
-        first = faults_move old new w faults (take 100 (map (fault_at new) m.others)) kept;
+        first = faults_move old new w faults (take 100 (map (fault_with_span new) m.others)) kept;
       }
 
   moved_count : (faults : List Fault) → length (moved_faults old new faults) ≡ length faults
-  moved_count faults = length-map _ (fault_at new) ∙ length-map faults _
+  moved_count faults = length-map _ (fault_with_span new) ∙ length-map faults _
 
 -- ---- a module
 
-module _ (old new : TextWithTokens) (tree : ModuleTree) (b c : Bindings) (w : AreWrittenAlike old new) (r : IsResolution (resolution_with (parsed_module old tree) b)) (s : IsResolution (resolution_with (parsed_module new tree) c)) (ordinals : c.ordinals.items ≡ b.ordinals.items) where
+module _ (old new : TextWithTokens) (tree : ModuleTree) (b c : Bindings) (w : HaveSameKindsAndSpellings old new) (r : IsResolution (resolution_with (parsed_module old tree) b)) (s : IsResolution (resolution_with (parsed_module new tree) c)) (ordinals : c.ordinals.items ≡ b.ordinals.items) where
   abbrev before : Resolution
   before = resolution_with (parsed_module old tree) b
 
@@ -134,7 +134,7 @@ module _ (old new : TextWithTokens) (tree : ModuleTree) (b c : Bindings) (w : Ar
   found_at : AreFaultsAtSameTokens old new (all_faults_of before) (all_faults_of after)
   found_at =
       both_same old new
-      (subst (λ (x : Resolution). AreFaultsAtSameTokens old new (module_faults before) (module_faults x)) same_names
+      (subst (λ (x : Resolution). AreFaultsAtSameTokens old new (undeclared_name_and_type_faults before) (undeclared_name_and_type_faults x)) same_names
       (module_same old new w tree b.ordinals.items b.declaration_tokens.items b.occurrences.items b.faults.items c.faults.items names_at))
       (filter_same old new is_duplicate_or_end_name (λ f. refl) names_at)
 
@@ -157,8 +157,8 @@ module _ (old new : TextWithTokens) (tree : ModuleTree) (b c : Bindings) (w : Ar
         };
       })
 
-pub types_depend_on_tokens : TypesDependOnTokens
-types_depend_on_tokens old new tree b c types moved w t s ordinals m =
+pub check_result_depends_only_on_tokens : CheckResultDependsOnlyOnTokens
+check_result_depends_only_on_tokens old new tree b c types moved w t s ordinals m =
     let r = t.checked.resolved in
     let same = named old new tree b c w r s ordinals in
     let none : moved.faults.items ≡ [] → types.faults.items ≡ [] = λ e. nil_from_length types.faults.items (sym (moved_count old new w types.faults.items) ∙ ap length (sym m.faults ∙ e)) in
@@ -172,7 +172,7 @@ types_depend_on_tokens old new tree b c types moved w t s ordinals m =
         holds = subst (λ k. IfSome k (HasDeclarations (named_tree_of (parsed_module new tree)))) (sym m.known) (subst (λ n. IfSome types.known (HasDeclarations n)) (sym same) t.checked.holds);
         kept = λ e. ap is_some m.known ∙ t.checked.kept (none e);
         few = omega (arith, count, few);
-        first = subst (AreFirstWhenSorted (all_faults_of (resolution_with (parsed_module new tree) c))) (sym m.faults) (first_same old new w (all_faults_of (resolution_with (parsed_module old tree) b)) (all_faults_of (resolution_with (parsed_module new tree) c)) types.faults.items (found_at old new tree b c w r s ordinals) t.checked.first);
+        first = subst (AreFirstFaultsWhenSorted (all_faults_of (resolution_with (parsed_module new tree) c))) (sym m.faults) (first_same old new w (all_faults_of (resolution_with (parsed_module old tree) b)) (all_faults_of (resolution_with (parsed_module new tree) c)) types.faults.items (found_at old new tree b c w r s ordinals) t.checked.first);
       };
       fields = λ e.
           let f = t.fields (none e) in

@@ -9,8 +9,8 @@ use Rattle.ob0_types_check.specs.ModuleLaws.{HasDeclarations}
 use Rattle.ob0_types_check.specs.SomeBodies.{AllPass, faulty_bodies, is_among}
 use Rattle.ob0_types_table.specs.KnownTables.{Tables}
 use Rattle.ob0_language_types.specs.WellTyped.{WellTyped}
-use Rattle.ob0_types.specs.FaultOrder.{AreFirstFaults}
-use Rattle.ob0_types.specs.declared.checked.ModuleTypes.{ModuleTypes}
+use Rattle.ob0_types.specs.FaultOrder.{AreFirstFaultsOfModule}
+use Rattle.ob0_types.specs.declared.checked.CheckResult.{CheckResult}
 use Rattle.ob0_types_fields.specs.FieldLists.{AreFieldListsOf, FieldLists}
 
 -- a checked module: its bindings, its faults, and the table of its declarations if there is one
@@ -27,34 +27,34 @@ pub record IsChecked (c : CheckedModule) : Type 0 where
   pub holds : IfSome c.known (HasDeclarations (named_tree_of c.names.module_read))
   pub kept : c.faults ≡ [] → is_some c.known ≡ true
   pub few : length c.faults ≤ max_faults
-  pub first : AreFirstFaults c.names c.faults
+  pub first : AreFirstFaultsOfModule c.names c.faults
 
 -- states that the module `names` and the faults `faults`, with some table of declarations or None, form a checked
 -- module (`IsChecked`)
-abbrev pub AreCheckedFaults : Resolution → List Fault → Type 0
-AreCheckedFaults names faults =
+abbrev pub AreFaultsOfCheckedModule : Resolution → List Fault → Type 0
+AreFaultsOfCheckedModule names faults =
     (known : Option Tables) × IsChecked (record { names = names; faults = faults; known = known })
 
 -- returns the checked module that consists of a module and the result of checking it
-abbrev pub checked_module : Resolution → ModuleTypes → CheckedModule
+abbrev pub checked_module : Resolution → CheckResult → CheckedModule
 checked_module names types = record { names = names; faults = types.faults.items; known = types.known }
 
 -- States that `types` is the result of checking a module. If the module has no fault, the lists of fields have the
 -- module's fields. Each body with a fault of types is listed in `types.bodies_with_faults`.
-pub record AreTypesOf (names : Resolution) (types : ModuleTypes) : Type 0 where
+pub record IsCheckResultOf (names : Resolution) (types : CheckResult) : Type 0 where
   pub checked : IsChecked (checked_module names types)
   pub fields : types.faults.items ≡ [] → AreFieldListsOf names types.fields
   pub bodies_with_faults : AllPass (is_among types.bodies_with_faults.items) (faulty_bodies names)
 
 -- States that the table `known` has the module's declarations or is None. If the module is well-typed, the table isn't
 -- None.
-pub record IsTableIfTyped (names : Resolution) (known : Option Tables) : Type 0 where
+pub record HasTableIfWellTyped (names : Resolution) (known : Option Tables) : Type 0 where
   pub holds : IfSome known (HasDeclarations (named_tree_of names.module_read))
   pub kept : WellTyped (named_tree_of names.module_read) → is_some known ≡ true
 
 -- states that the lists `fields` have the module's fields if the module is well-typed
-abbrev pub AreFieldsIfTyped : Resolution → FieldLists → Type 0
-AreFieldsIfTyped names fields =
+abbrev pub AreFieldListsIfWellTyped : Resolution → FieldLists → Type 0
+AreFieldListsIfWellTyped names fields =
     WellTyped (named_tree_of names.module_read) → AreFieldListsOf names fields
 
 -- states that `names` has the right bindings of its module (`IsResolution`), and that this module is well-typed
@@ -64,7 +64,7 @@ pub record IsWellTyped (names : Resolution) : Type 0 where
 
 -- states that the module is well-typed, that the table `known` has its declarations, and that the lists `fields` have
 -- its fields
-pub record AreTableAndFieldsOf (names : Resolution) (known : Tables) (fields : FieldLists) : Type 0 where
+pub record IsWellTypedWithTableAndFields (names : Resolution) (known : Tables) (fields : FieldLists) : Type 0 where
   pub well_typed : IsWellTyped names
   pub declarations : HasDeclarations (named_tree_of names.module_read) known
   pub fields_are : AreFieldListsOf names fields

@@ -10,7 +10,7 @@ use Rattle.ob0_scan.specs.declared.fault.FaultCode.{FaultCode}
 use Rattle.ob0_scan.specs.declared.fault.FaultCode.TheVariants as code
 use Rattle.ob0_scan.specs.declared.fault.Fault.{Fault}
 use Rattle.ob0_scope_table.specs.Resolution.{Resolution, is_duplicate_or_end_name}
-use Rattle.ob0_types_check.specs.DeclarationFaults.{module_faults}
+use Rattle.ob0_types_check.specs.DeclarationFaults.{undeclared_name_and_type_faults}
 
 -- returns the number of a fault's code; the numbers order the codes: first lexical codes, then codes of scopes, then
 -- codes of types
@@ -45,7 +45,7 @@ fault_cmp x y = ordering_then (span_cmp x y) (nat_cmp (code_number x.code) (code
 
 -- states that `faults` has the first 100 faults of the list `all`, which has the faults of the list `found` sorted by
 -- `fault_cmp`
-pub record AreFirstWhenSorted (found faults : List Fault) : Type 0 where
+pub record AreFirstFaultsWhenSorted (found faults : List Fault) : Type 0 where
   pub all : List Fault
   pub joined : IsPermutation found all
   pub in_order : IsSorted fault_cmp all
@@ -55,8 +55,8 @@ pub record AreFirstWhenSorted (found faults : List Fault) : Type 0 where
 -- faults of types come first, then the duplicate declarations and wrong closing names. Only the first 100 faults in the
 -- order of `fault_cmp` are reported.
 abbrev pub all_faults_of : Resolution → List Fault
-all_faults_of r = module_faults r ++ filter is_duplicate_or_end_name r.faults
+all_faults_of r = undeclared_name_and_type_faults r ++ filter is_duplicate_or_end_name r.faults
 
 -- states that the list `faults` has the first 100 faults of the module, in the order of `fault_cmp`
-abbrev pub AreFirstFaults : Resolution → List Fault → Type 0
-AreFirstFaults r faults = AreFirstWhenSorted (all_faults_of r) faults
+abbrev pub AreFirstFaultsOfModule : Resolution → List Fault → Type 0
+AreFirstFaultsOfModule r faults = AreFirstFaultsWhenSorted (all_faults_of r) faults

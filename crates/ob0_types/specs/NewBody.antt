@@ -1,17 +1,17 @@
 -- The result of checking a module before the statements of one body were replaced, perhaps with a
 -- different number of tokens.
 -- Rule: docs/LANGUAGE.md, Types 8, Faults of scopes and types 1.
-use Rattle.ob0_scan.specs.declared.tokens.SameParts.{SameParts}
+use Rattle.ob0_scan.specs.declared.tokens.CommonPrefixAndSuffix.{CommonPrefixAndSuffix}
 use Rattle.ob0_scope_table.specs.BodyReplaced.{IsBodyReplaced, PathToBody}
 use Rattle.ob0_scope_table.specs.Resolution.{Resolution}
-use Rattle.ob0_types.specs.CheckedModules.{AreTypesOf}
-use Rattle.ob0_types.specs.declared.checked.ModuleTypes.{ModuleTypes}
+use Rattle.ob0_types.specs.CheckedModules.{IsCheckResultOf}
+use Rattle.ob0_types.specs.declared.checked.CheckResult.{CheckResult}
 
 -- States that `types` is the result of checking an older module, and that `r` is that module with the statements of one
 -- body replaced. All other tokens have the same spellings in both modules. `s` gives the ranges of these unchanged
 -- tokens in both modules.
-pub record WereTypesBeforeNewBody (r : Resolution) (types : ModuleTypes) (s : SameParts) : Type 0 where
+pub record WasCheckResultBeforeNewBody (r : Resolution) (types : CheckResult) (s : CommonPrefixAndSuffix) : Type 0 where
   pub old : Resolution
   pub path : PathToBody
   pub replaced : IsBodyReplaced old.module_read r.module_read path s
-  pub types_are : AreTypesOf old types
+  pub types_are : IsCheckResultOf old types

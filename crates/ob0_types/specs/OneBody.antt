@@ -9,8 +9,8 @@ use Rattle.ob0_scope_table.specs.OneBody.{IsBodyChange, closing_name, is_outside
 use Rattle.ob0_scope_table.specs.Resolution.{Resolution, ordinal_in}
 use Rattle.ob0_scope_table.specs.declared.resolved.Bindings.{Bindings}
 use Rattle.ob0_tree.specs.ParsedModule.{ParsedModule}
-use Rattle.ob0_types.specs.CheckedModules.{AreTypesOf}
-use Rattle.ob0_types.specs.declared.checked.ModuleTypes.{ModuleTypes}
+use Rattle.ob0_types.specs.CheckedModules.{IsCheckResultOf}
+use Rattle.ob0_types.specs.declared.checked.CheckResult.{CheckResult}
 use Rattle.ob0_types.specs.declared.one_body.Body.{Body}
 
 -- a body: the statements of a block and the token of the block's closing name
@@ -29,16 +29,16 @@ abbrev mutual
   -- token `low`, if one does
   pub body_with_token_in_block : ℕ → ℕ → Tree ℕ block → OneBody
   body_with_token_in_block low own (forms_block (declares cs ts vs ps) statements) =
-      body_at_path_in_procedures low own ps statements
+      body_with_token_in_procedures low own ps statements
 
   -- Returns the body of the first procedure whose closing name isn't before `low`, or of a procedure inside it. If
   -- there is no such procedure, returns the body of the surrounding block: the closing name `own` and the statements
   -- `statements`.
-  pub body_at_path_in_procedures : ℕ → ℕ → Tree ℕ (items procedure) → Tree ℕ (maybe body) → OneBody
-  body_at_path_in_procedures low own end statements = record { closing = own; statements = statements }
-  body_at_path_in_procedures low own (more p ps) statements =
+  pub body_with_token_in_procedures : ℕ → ℕ → Tree ℕ (items procedure) → Tree ℕ (maybe body) → OneBody
+  body_with_token_in_procedures low own end statements = record { closing = own; statements = statements }
+  body_with_token_in_procedures low own (more p ps) statements =
       if nat_lt (closing_name p) low
-      then body_at_path_in_procedures low own ps statements
+      then body_with_token_in_procedures low own ps statements
       else body_with_token_in_procedure low p
 
   -- returns the body of the procedure, or of a procedure inside it: the one that contains the token `low`, if one does
@@ -56,11 +56,11 @@ with_source source m =
 
 -- States that `types` is the result of checking the module before a change. The changed tokens have indexes of at least
 -- `low` and are in one body. All other tokens have the same spellings and bindings as before the change.
-pub record WereTypesBeforeChange (r : Resolution) (types : ModuleTypes) (low : ℕ) : Type 0 where
+pub record WasCheckResultBeforeBodyChange (r : Resolution) (types : CheckResult) (low : ℕ) : Type 0 where
   pub high : ℕ
   pub old : TextWithTokens
   pub bindings : Bindings
   pub change : IsBodyChange old r.module_read low high
   pub bound : (token : ℕ) → is_outside_range low high token ≡ true
       → ordinal_in r.ordinals token ≡ ordinal_in bindings.ordinals.items token
-  pub types_are : AreTypesOf (resolution_with (with_source old r.module_read) bindings) types
+  pub types_are : IsCheckResultOf (resolution_with (with_source old r.module_read) bindings) types

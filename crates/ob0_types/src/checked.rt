@@ -1,7 +1,7 @@
 //! Checks the scopes and types of a module, and returns the types, values and fields of a
 //! well-typed module.
 //!
-//! `ModuleTypes` is the complete result of checking. It borrows nothing, so it can be kept next to
+//! `CheckResult` is the complete result of checking. It borrows nothing, so it can be kept next to
 //! the module's bindings. A `Checked` joins this result to the bindings. `check` makes a `Checked`
 //! that owns the result. `Checked::from_parts` makes a `Checked` that borrows a result kept
 //! elsewhere, without allocating.
@@ -13,10 +13,10 @@
 //! has no fault.
 
 ghost use Rattle.ob0_scope_table.specs.Resolution.{is_duplicate_or_end_name};
-ghost use Rattle.ob0_types.specs.CheckedModules.{AreFieldsIfTyped, AreTypesOf, IsChecked, IsTableIfTyped, checked_module};
-ghost use Rattle.ob0_types.specs.FaultOrder.{AreFirstWhenSorted};
-ghost use Rattle.ob0_types.specs.NewBody.{WereTypesBeforeNewBody};
-ghost use Rattle.ob0_types.specs.OneBody.{WereTypesBeforeChange};
+ghost use Rattle.ob0_types.specs.CheckedModules.{AreFieldListsIfWellTyped, IsCheckResultOf, IsChecked, HasTableIfWellTyped, checked_module};
+ghost use Rattle.ob0_types.specs.FaultOrder.{AreFirstFaultsWhenSorted};
+ghost use Rattle.ob0_types.specs.NewBody.{WasCheckResultBeforeNewBody};
+ghost use Rattle.ob0_types.specs.OneBody.{WasCheckResultBeforeBodyChange};
 ghost use Rattle.ob0_types_check.specs.SomeBodies.{IsReportOf};
 ghost use Rattle.std.specs.List.{filter};
 ghost use Rattle.std.specs.Prelude.{◌≡◌, ◌≤◌, ◌↔◌, ◌++◌, [], length, IfOk, OnOk, MatchOption};
@@ -24,8 +24,8 @@ ghost use Rattle.ob0_scan.specs.TextWithTokens.{max_faults};
 
 use crate::one_body::body_containing;
 use ob0_language_values::Scalar;
-use ob0_scan::{Fault, FaultCode, MAX_FAULTS, SameParts};
-use ob0_scope_table::{PREDECLARED_COUNT, Resolved, body_place_in_module};
+use ob0_scan::{CommonPrefixAndSuffix, Fault, FaultCode, MAX_FAULTS};
+use ob0_scope_table::{PREDECLARED_COUNT, Resolved, body_bounds_in_module};
 use ob0_types_check::laws::{modules_without_fault_pass_type_check, typed_modules_have_no_fault};
 use ob0_types_check::{Report, report_faults, report_one_body, report_some_bodies};
 use ob0_types_fields::ModuleFields;
@@ -34,7 +34,7 @@ use std::alloc::{AllocError, Global};
 use std::borrow::Cow;
 use std::marker::Model;
 
-/// The greatest number of faulty bodies for which only some bodies are checked again after a
+/// The greatest number of faulty bodies with which only some bodies are checked again after a
 /// change. If the previous text had at most this many faulty bodies, only they and the changed body
 /// are checked again. If it had more, all bodies are checked, because searching a longer list for
 /// each body would cost as much as checking all bodies.
@@ -45,24 +45,24 @@ const MAX_FAULTY_BODIES_FOR_PARTIAL_CHECK: usize = 32;
 /// scopes and types. `bodies_with_faults` has the closing names of the bodies with a fault of
 /// types, as token indexes. The result borrows nothing.
 #[derive(Drop)]
-pub struct ModuleTypes {
+pub struct CheckResult {
     pub known: Option<DeclarationTable>,
     pub fields: ModuleFields,
     pub faults: Vec<Fault>,
     pub bodies_with_faults: Vec<usize>,
 }
 
-/// A module with its bindings and the result of checking it (`ModuleTypes`), for example its
+/// A module with its bindings and the result of checking it (`CheckResult`), for example its
 /// faults.
 #[derive(Drop)]
 pub struct Checked<'t> {
     resolved: &'t Resolved<'t>,
-    types: Cow<'t, ModuleTypes>,
+    types: Cow<'t, CheckResult>,
 }
 
 impl<'t> Model for Checked<'t> {
     ghost use Rattle.std.specs.Cow.{cow_value};
-    ghost use Rattle.ob0_types.specs.CheckedModules.{AreTypesOf, CheckedModule, checked_module};
+    ghost use Rattle.ob0_types.specs.CheckedModules.{IsCheckResultOf, CheckedModule, checked_module};
 
     ghost Value = { CheckedModule };
 
@@ -73,7 +73,7 @@ impl<'t> Model for Checked<'t> {
 
     ghost view = { λ c. checked_module c.resolved.now (cow_value c.types) };
 
-    ghost invariant = { λ c. AreTypesOf c.resolved.now (cow_value c.types) };
+    ghost invariant = { λ c. IsCheckResultOf c.resolved.now (cow_value c.types) };
 }
 
 /// A well-typed module with its table of declarations and its fields.
@@ -85,7 +85,7 @@ pub struct WellTyped<'t> {
 }
 
 impl<'t> Model for WellTyped<'t> {
-    ghost use Rattle.ob0_types.specs.CheckedModules.{AreTableAndFieldsOf};
+    ghost use Rattle.ob0_types.specs.CheckedModules.{IsWellTypedWithTableAndFields};
     ghost use Rattle.ob0_scope_table.specs.Resolution.{Resolution};
 
     ghost Value = { Resolution };
@@ -97,7 +97,7 @@ impl<'t> Model for WellTyped<'t> {
 
     ghost view = { λ w. w.checked.now.names };
 
-    ghost invariant = { λ w. AreTableAndFieldsOf w.checked.now.names w.known.now w.fields.now };
+    ghost invariant = { λ w. IsWellTypedWithTableAndFields w.checked.now.names w.known.now w.fields.now };
 }
 
 /// A type of a module (`of`), with the module's table of declarations (`known`), which has the
@@ -114,38 +114,41 @@ pub fn check<'t>(alloc: Global, resolved: &'t Resolved<'t>) -> Result<Checked<'t
     ensures names { IfOk result (λ c. c.names ≡ resolved.now) }
     ensures checked { IfOk result IsChecked }
 {
-    let types = types_of(alloc, resolved)?;
+    let types = check_result_of(alloc, resolved)?;
     Ok(Checked::new(resolved, types))
 }
 
 /// Returns the result of checking a module. The result borrows nothing, so that it can be kept next
 /// to the module's bindings.
-pub fn types_of<'t>(alloc: Global, resolved: &'t Resolved<'t>) -> Result<ModuleTypes, AllocError>
-    ensures { IfOk result (AreTypesOf resolved.now) }
+pub fn check_result_of<'t>(
+    alloc: Global,
+    resolved: &'t Resolved<'t>,
+) -> Result<CheckResult, AllocError>
+    ensures { IfOk result (IsCheckResultOf resolved.now) }
 {
     typed_modules_have_no_fault();
     // The proof needs this call: its contract states the module's invariant.
     let _module = resolved.module();
     let report = report_faults(alloc, resolved)?;
     let fields = fields_from_table(alloc, resolved, &report.known)?;
-    types_from_report(resolved, report, fields)
+    check_result_from_report(resolved, report, fields)
 }
 
 /// Returns the result of checking a module after tokens of one body changed. No token with an index
 /// less than `low` has changed. `before` is the result before the change. The other bodies are
 /// checked again only if they had faults, or if more than 32 bodies had faults. If the module was
 /// valid before, only the changed body is searched for fields again.
-pub fn types_after_body_change<'t>(
+pub fn check_result_after_body_change<'t>(
     alloc: Global,
     resolved: &'t Resolved<'t>,
-    before: ModuleTypes,
+    before: CheckResult,
     low: usize,
-) -> Result<ModuleTypes, AllocError>
-    requires { WereTypesBeforeChange resolved.now before low }
-    ensures { IfOk result (AreTypesOf resolved.now) }
+) -> Result<CheckResult, AllocError>
+    requires { WasCheckResultBeforeBodyChange resolved.now before low }
+    ensures { IfOk result (IsCheckResultOf resolved.now) }
 {
     if before.bodies_with_faults.len() > MAX_FAULTY_BODIES_FOR_PARTIAL_CHECK {
-        return types_of(alloc, resolved);
+        return check_result_of(alloc, resolved);
     }
     typed_modules_have_no_fault();
     let body = body_containing(resolved.module(), low);
@@ -153,7 +156,7 @@ pub fn types_after_body_change<'t>(
     bodies.push(body.closing)?;
     let report = report_some_bodies(alloc, resolved, bodies.as_slice())?;
     let fields = fields_after_body_change(alloc, resolved, &report.known, before, low)?;
-    types_from_report(resolved, report, fields)
+    check_result_from_report(resolved, report, fields)
 }
 
 /// Returns the result of checking a module after the statements of one body were replaced, perhaps
@@ -161,50 +164,50 @@ pub fn types_after_body_change<'t>(
 /// the tokens that are the same before and after it. If the module was valid before, only its
 /// declarations and the new body are checked again, and if possible only the new body is searched
 /// for fields. Otherwise the whole module is checked again.
-pub fn types_with_new_body<'t>(
+pub fn check_result_with_new_body<'t>(
     alloc: Global,
     resolved: &'t Resolved<'t>,
-    before: ModuleTypes,
-    same: SameParts,
-) -> Result<ModuleTypes, AllocError>
-    requires { WereTypesBeforeNewBody resolved.now before same }
-    ensures { IfOk result (AreTypesOf resolved.now) }
+    before: CheckResult,
+    same: CommonPrefixAndSuffix,
+) -> Result<CheckResult, AllocError>
+    requires { WasCheckResultBeforeNewBody resolved.now before same }
+    ensures { IfOk result (IsCheckResultOf resolved.now) }
 {
     if before.faults.is_empty() {
-        return types_from_new_body(alloc, resolved, before, same);
+        return check_result_from_new_body(alloc, resolved, before, same);
     }
-    types_of(alloc, resolved)
+    check_result_of(alloc, resolved)
 }
 
 /// Returns the result of checking a module after the statements of one body were replaced. The
 /// module must have been valid before.
-fn types_from_new_body<'t>(
+fn check_result_from_new_body<'t>(
     alloc: Global,
     resolved: &'t Resolved<'t>,
-    before: ModuleTypes,
-    same: SameParts,
-) -> Result<ModuleTypes, AllocError>
-    requires before { WereTypesBeforeNewBody resolved.now before same }
+    before: CheckResult,
+    same: CommonPrefixAndSuffix,
+) -> Result<CheckResult, AllocError>
+    requires before { WasCheckResultBeforeNewBody resolved.now before same }
     requires none { before.faults.items ≡ [] }
-    ensures { IfOk result (AreTypesOf resolved.now) }
+    ensures { IfOk result (IsCheckResultOf resolved.now) }
 {
     typed_modules_have_no_fault();
     let body = body_containing(resolved.module(), same.prefix);
     let report = report_one_body(alloc, resolved, body.closing)?;
     let fields = fields_with_new_body(alloc, resolved, &report.known, before, same)?;
-    types_from_report(resolved, report, fields)
+    check_result_from_report(resolved, report, fields)
 }
 
 /// Returns the result of checking a module, given the module's report. If the module is well-typed,
 /// `fields` must have the module's fields. Otherwise `fields` may have any lists.
-fn types_from_report<'t>(
+fn check_result_from_report<'t>(
     resolved: &'t Resolved<'t>,
     report: Report,
     fields: ModuleFields,
-) -> Result<ModuleTypes, AllocError>
+) -> Result<CheckResult, AllocError>
     requires report { IsReportOf resolved.now report }
-    requires fields { AreFieldsIfTyped resolved.now fields }
-    ensures { IfOk result (AreTypesOf resolved.now) }
+    requires fields { AreFieldListsIfWellTyped resolved.now fields }
+    ensures { IfOk result (IsCheckResultOf resolved.now) }
 {
     modules_without_fault_pass_type_check();
     typed_modules_have_no_fault();
@@ -215,8 +218,8 @@ fn types_from_report<'t>(
         known,
         bodies_with_faults,
     } = report;
-    let faults = first_faults(resolved, faults)?;
-    Ok(ModuleTypes {
+    let faults = first_sorted_faults(resolved, faults)?;
+    Ok(CheckResult {
         known,
         fields,
         faults,
@@ -231,8 +234,8 @@ fn fields_from_table<'t>(
     resolved: &'t Resolved<'t>,
     known: &Option<DeclarationTable>,
 ) -> Result<ModuleFields, AllocError>
-    requires { IsTableIfTyped resolved.now known.now }
-    ensures { IfOk result (AreFieldsIfTyped resolved.now) }
+    requires { HasTableIfWellTyped resolved.now known.now }
+    ensures { IfOk result (AreFieldListsIfWellTyped resolved.now) }
 {
     // The proof needs this call: its contract states the module's invariant.
     let _module = resolved.module();
@@ -252,16 +255,16 @@ fn fields_after_body_change<'t>(
     alloc: Global,
     resolved: &'t Resolved<'t>,
     known: &Option<DeclarationTable>,
-    before: ModuleTypes,
+    before: CheckResult,
     low: usize,
 ) -> Result<ModuleFields, AllocError>
-    requires before { WereTypesBeforeChange resolved.now before low }
-    requires known { IsTableIfTyped resolved.now known.now }
-    ensures { IfOk result (AreFieldsIfTyped resolved.now) }
+    requires before { WasCheckResultBeforeBodyChange resolved.now before low }
+    requires known { HasTableIfWellTyped resolved.now known.now }
+    ensures { IfOk result (AreFieldListsIfWellTyped resolved.now) }
 {
     typed_modules_have_no_fault();
     let body = body_containing(resolved.module(), low);
-    let ModuleTypes {
+    let CheckResult {
         known: _,
         fields,
         faults,
@@ -284,22 +287,22 @@ fn fields_with_new_body<'t>(
     alloc: Global,
     resolved: &'t Resolved<'t>,
     known: &Option<DeclarationTable>,
-    before: ModuleTypes,
-    same: SameParts,
+    before: CheckResult,
+    same: CommonPrefixAndSuffix,
 ) -> Result<ModuleFields, AllocError>
-    requires before { WereTypesBeforeNewBody resolved.now before same }
+    requires before { WasCheckResultBeforeNewBody resolved.now before same }
     requires none { before.faults.items ≡ [] }
-    requires known { IsTableIfTyped resolved.now known.now }
-    ensures { IfOk result (AreFieldsIfTyped resolved.now) }
+    requires known { HasTableIfWellTyped resolved.now known.now }
+    ensures { IfOk result (AreFieldListsIfWellTyped resolved.now) }
 {
-    let ModuleTypes {
+    let CheckResult {
         known: _,
         fields,
         faults: _,
         bodies_with_faults: _,
     } = before;
     let body = body_containing(resolved.module(), same.prefix);
-    let found = body_place_in_module(resolved.module(), same.prefix, same.new_suffix);
+    let found = body_bounds_in_module(resolved.module(), same.prefix, same.new_suffix);
     let Some(place) = found else {
         return fields_from_table(alloc, resolved, known);
     };
@@ -313,14 +316,14 @@ fn fields_with_new_body<'t>(
 /// Returns the first 100 faults of scopes and types, sorted by start, end and code. `of_types` has
 /// the faults of types and the undeclared names. The other faults of scopes, which are duplicate
 /// declarations and wrong closing names, are added to these.
-fn first_faults<'t>(
+fn first_sorted_faults<'t>(
     resolved: &'t Resolved<'t>,
     of_types: Vec<Fault>,
 ) -> Result<Vec<Fault>, AllocError>
     ensures none { IfOk result (λ faults. (faults.items ≡ [])
         ↔ (of_types.items ++ filter is_duplicate_or_end_name resolved.now.faults ≡ [])) }
     ensures few { IfOk result (λ faults. length faults.items ≤ max_faults) }
-    ensures first { IfOk result (λ faults. AreFirstWhenSorted
+    ensures first { IfOk result (λ faults. AreFirstFaultsWhenSorted
         (of_types.items ++ filter is_duplicate_or_end_name resolved.now.faults) faults.items) }
 {
     let mut faults = of_types;
@@ -352,11 +355,11 @@ fn is_duplicate_or_end_name(fault: &Fault) -> bool
 }
 
 impl<'t> Checked<'t> {
-    ghost use Rattle.ob0_types.specs.CheckedModules.{AreTypesOf, IsChecked, checked_module};
+    ghost use Rattle.ob0_types.specs.CheckedModules.{IsCheckResultOf, IsChecked, checked_module};
 
     /// Joins a module to the result of checking it. The `Checked` owns this result.
-    fn new(resolved: &'t Resolved<'t>, types: ModuleTypes) -> Checked<'t>
-        requires { AreTypesOf resolved.now types }
+    fn new(resolved: &'t Resolved<'t>, types: CheckResult) -> Checked<'t>
+        requires { IsCheckResultOf resolved.now types }
         ensures { result ≡ checked_module resolved.now types }
     {
         Checked {
@@ -366,8 +369,8 @@ impl<'t> Checked<'t> {
     }
 
     /// Joins a module to the result of checking it. The `Checked` borrows this result.
-    pub fn from_parts(resolved: &'t Resolved<'t>, types: &'t ModuleTypes) -> Checked<'t>
-        requires { AreTypesOf resolved.now types.now }
+    pub fn from_parts(resolved: &'t Resolved<'t>, types: &'t CheckResult) -> Checked<'t>
+        requires { IsCheckResultOf resolved.now types.now }
         ensures { result ≡ checked_module resolved.now types.now }
     {
         Checked {
@@ -377,9 +380,9 @@ impl<'t> Checked<'t> {
     }
 
     /// Returns the result of checking the module.
-    fn types(&self) -> &ModuleTypes
+    fn types(&self) -> &CheckResult
         ensures found { checked_module self.now.names result.now ≡ self.now }
-        ensures types { AreTypesOf self.now.names result.now }
+        ensures types { IsCheckResultOf self.now.names result.now }
     {
         match &self.types {
             Cow::Borrowed(types) => types,
@@ -402,7 +405,7 @@ impl<'t> Checked<'t> {
         self.types().faults.as_slice()
     }
 
-    /// Returns the module, with its table of declarations and its fields, as a well-typed module.
+    /// Returns the module as a well-typed module, with its table of declarations and its fields.
     /// Returns None if the module has a fault.
     pub fn well_typed(&self) -> Option<WellTyped<'_>>
         ensures { MatchOption result (self.now.faults ≡ [] → ⊥) (λ w. w ≡ self.now.names) }

@@ -2,7 +2,7 @@
 //! field, and the identifier that declares a field.
 
 ghost use Rattle.std.specs.Prelude.{◌≡◌, IfOk, IfSome, length};
-ghost use Rattle.ob0_tree.specs.Order.{AreIdentifierTokens, AreAscending, IsIdentifierToken};
+ghost use Rattle.ob0_tree.specs.Order.{AreIdentifierTokens, AreAscendingWithin, IsIdentifierToken};
 ghost use Rattle.ob0_types_fields.specs.Identifiers.{field_declaring_token, field_at, field_index_in_record, field_tokens};
 
 use crate::checked::WellTyped;
@@ -32,7 +32,7 @@ pub fn field_tokens(
     ensures value { IfOk result
         (λ tokens. tokens.items ≡ field_tokens well_typed.now owner name.now) }
     ensures ascend { IfOk result
-        (λ tokens. AreAscending 0 tokens.items (length well_typed.now.module_read.source.tokens)) }
+        (λ tokens. AreAscendingWithin 0 tokens.items (length well_typed.now.module_read.source.tokens)) }
     ensures are_identifiers { IfOk result
         (λ tokens. AreIdentifierTokens well_typed.now.module_read.source.tokens tokens.items) }
 {

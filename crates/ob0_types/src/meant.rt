@@ -5,7 +5,7 @@
 
 ghost use Rattle.std.specs.Prelude.{◌≡◌, IfSome};
 ghost use Rattle.ob0_tree.specs.Order.{IsIdentifierToken};
-ghost use Rattle.ob0_types.specs.IdentifierMeanings.{IsField, identifier_meaning_at};
+ghost use Rattle.ob0_types.specs.IdentifierMeanings.{MeansField, identifier_meaning_at};
 
 use crate::checked::WellTyped;
 use crate::fields::field_at;
@@ -35,7 +35,7 @@ pub fn identifier_meaning_at(
     offset: usize,
 ) -> Option<ResolvedIdentifier>
     ensures value { result ≡ identifier_meaning_at well_typed.now offset }
-    ensures are_identifiers { IfSome result (λ x. IsField x.means
+    ensures are_identifiers { IfSome result (λ x. MeansField x.means
         → IsIdentifierToken well_typed.now.module_read.source.tokens x.token) }
 {
     match name_at(well_typed.resolved(), offset) {

@@ -6,7 +6,7 @@ use Rattle.std.proofs.Math.Seq.{take-append_seam}
 use Rattle.ob0_tree.specs.Tree.{Tree, block, body, declares, declares_procedure, end, formals, forms_block, is_module, item, items, maybe, module_text, more, procedure}
 use Rattle.ob0_language_names.specs.Names.{Label, Name, Naming, naming_by_label, naming_by_spelling, declared}
 use Rattle.ob0_language_names.specs.Parts.{constant_names, formal_names, formal_sections, module_block, declared_type_names, section_constants, section_types, section_variables, variable_names}
-use Rattle.ob0_language_names.specs.Scopes.{Scope, ordinal_after_block, ordinal_after_names, ordinal_after_procedure, ordinal_after_procedures, label_from_ordinal, declare_names, first_procedure_ordinal, first_type_ordinal, first_variable_ordinal, numbered, procedures_scope, relabel_block, relabel_formals, relabel_procedures, relabel_sections, types_scope, variables_scope}
+use Rattle.ob0_language_names.specs.Scopes.{Scope, ordinal_after_block, ordinal_after_names, ordinal_after_procedure, ordinal_after_procedures, label_from_ordinal, declare_names, first_procedure_ordinal, first_type_ordinal, first_variable_ordinal, numbered, scope_before_procedures, relabel_block, relabel_formals, relabel_procedures, relabel_sections, scope_before_types, scope_before_variables}
 use Rattle.ob0_language_names.proofs.Ordinals.{le-ordinal_after_procedure}
 use Rattle.ob0_language_names.proofs.Relabelled.{formals-section, types-section, variables-section}
 use Rattle.ob0_language_types.specs.Bindings.{block_bindings, list_if_some, module_bindings, procedure_bindings, procedures_bindings, bindings_since}
@@ -119,15 +119,15 @@ bindings_since-ordered k n noted all s = record {
 }
 
 -- Splits the bindings after a block's constants, types and variables into theirs and the rest.
-opened : (noted all : TypeNoted Name) (k : ℕ) (b : Tree Name block) → typed_scope all ≡ procedures_scope k b (typed_scope noted) → Split k (first_procedure_ordinal k b) (typed_scope noted) all
+opened : (noted all : TypeNoted Name) (k : ℕ) (b : Tree Name block) → typed_scope all ≡ scope_before_procedures k b (typed_scope noted) → Split k (first_procedure_ordinal k b) (typed_scope noted) all
 opened noted all k (forms_block (declares cs ts vs ps) statements) e =
     let b : Tree Name block = forms_block (declares cs ts vs ps) statements in
     let scope : Scope Name = typed_scope noted in
-    let v = split (first_variable_ordinal k b) (variable_names (section_variables vs)) (variables_scope k b scope) all e in
-    let t = split (first_type_ordinal k b) (declared_type_names (section_types ts)) (types_scope k b scope) v.rest v.scoped in
+    let v = split (first_variable_ordinal k b) (variable_names (section_variables vs)) (scope_before_variables k b scope) all e in
+    let t = split (first_type_ordinal k b) (declared_type_names (section_types ts)) (scope_before_types k b scope) v.rest v.scoped in
     let c = split k (constant_names (section_constants cs)) scope t.rest t.scoped in
-    split-then k (first_variable_ordinal k b) (first_procedure_ordinal k b) scope (variables_scope k b scope) all v
-    (split-then k (first_type_ordinal k b) (first_variable_ordinal k b) scope (types_scope k b scope) v.rest t c)
+    split-then k (first_variable_ordinal k b) (first_procedure_ordinal k b) scope (scope_before_variables k b scope) all v
+    (split-then k (first_type_ordinal k b) (first_variable_ordinal k b) scope (scope_before_types k b scope) v.rest t c)
 
 -- If the bindings by names give a value, the bindings by labels give the same value.
 given-both : {X Y Z : Type 0} (p : X → Y) (q : X → Z) (P : X → Type 0) (r : Option Y) (s : Option Z) → Agree p q P r s → (y : Y) → r ≡ Some y → (x : X) × P x × (p x ≡ y) × (s ≡ Some (q x))
@@ -193,8 +193,8 @@ variables-same : (noted : TypeNoted Name) (j k : ℕ) (b : Tree Name block) → 
 variables-same noted j k (forms_block (declares cs ts vs ps) statements) =
     let b : Tree Name block = forms_block (declares cs ts vs ps) statements in
     let scope : Scope Name = typed_scope noted in
-    λ i. j + (ap types_constructor_count (types-section naming_by_spelling (label_from_ordinal naming_by_spelling) (types_scope k b scope) (first_type_ordinal k b) ts) ∙ types_constructor_count-relabel naming_by_spelling (label_from_ordinal naming_by_spelling) (types_scope k b scope) (first_type_ordinal k b) (section_types ts)) i
-    + (ap variables_constructor_count (variables-section naming_by_spelling (label_from_ordinal naming_by_spelling) (variables_scope k b scope) (first_variable_ordinal k b) vs) ∙ variables_constructor_count-relabel naming_by_spelling (label_from_ordinal naming_by_spelling) (variables_scope k b scope) (first_variable_ordinal k b) (section_variables vs)) i
+    λ i. j + (ap types_constructor_count (types-section naming_by_spelling (label_from_ordinal naming_by_spelling) (scope_before_types k b scope) (first_type_ordinal k b) ts) ∙ types_constructor_count-relabel naming_by_spelling (label_from_ordinal naming_by_spelling) (scope_before_types k b scope) (first_type_ordinal k b) (section_types ts)) i
+    + (ap variables_constructor_count (variables-section naming_by_spelling (label_from_ordinal naming_by_spelling) (scope_before_variables k b scope) (first_variable_ordinal k b) vs) ∙ variables_constructor_count-relabel naming_by_spelling (label_from_ordinal naming_by_spelling) (scope_before_variables k b scope) (first_variable_ordinal k b) (section_variables vs)) i
 
 -- the parts of a procedure that fits, and the facts about each
 record Procedure (noted : TypeNoted Name) (j : ℕ) (statements : Tree Name (maybe body)) (x : Name) (fs : Tree Name (maybe formals)) (b : Tree Name block) (closing : Name) (rest : Tree Name (items procedure)) : Type 0 where
@@ -228,14 +228,14 @@ mutual
       let b' : Tree Label block = relabel_block naming_by_spelling (label_from_ordinal naming_by_spelling) scope k b in
       let kp : ℕ = first_procedure_ordinal k b in
       let parts = block-rest noted j cs ts vs ps statements h in
-      let o = given-both typed_by_name typed_by_ordinal (TypedWithin kp (procedures_scope k b scope)) (declare_block naming_by_spelling (typed_by_name noted) j b) (declare_block naming_by_label (typed_by_ordinal noted) j b') (declarations_typed naming_by_spelling j k noted below b) parts.0 parts.1 in
+      let o = given-both typed_by_name typed_by_ordinal (TypedWithin kp (scope_before_procedures k b scope)) (declare_block naming_by_spelling (typed_by_name noted) j b) (declare_block naming_by_label (typed_by_ordinal noted) j b') (declarations_typed naming_by_spelling j k noted below b) parts.0 parts.1 in
       let all : TypeNoted Name = o.0 in
       let p = procedures-ordered all (constructors_before_procedures j b) kp o.1.1 statements ps ((λ i. procedures_are_well_typed naming_by_spelling (o.2 i) (constructors_before_procedures j b) statements ps) ∙ parts.2) in
       let own = bindings_since-ordered k kp noted all (opened noted all k b o.1.0) in
       let names : block_bindings naming_by_spelling (typed_by_name noted) j b ≡ procedures_bindings naming_by_spelling (typed_by_name all) (constructors_before_procedures j b) ps ++ bindings_since (typed_by_name noted) (typed_by_name all) =
       block-listed naming_by_spelling (typed_by_name noted) j cs ts vs ps statements (typed_by_name all) (parts.1 ∙ ap Some (sym o.2)) in
       let labels : block_bindings naming_by_label (typed_by_ordinal noted) j b' ≡ procedures_bindings naming_by_label (typed_by_ordinal all) (constructors_before_procedures j b) (relabel_procedures naming_by_spelling (label_from_ordinal naming_by_spelling) (typed_scope all) kp ps) ++ bindings_since (typed_by_ordinal noted) (typed_by_ordinal all) =
-      block-listed naming_by_label (typed_by_ordinal noted) j _ _ _ (relabel_procedures naming_by_spelling (label_from_ordinal naming_by_spelling) (procedures_scope k b scope) kp ps) _ (typed_by_ordinal all) o.3
+      block-listed naming_by_label (typed_by_ordinal noted) j _ _ _ (relabel_procedures naming_by_spelling (label_from_ordinal naming_by_spelling) (scope_before_procedures k b scope) kp ps) _ (typed_by_ordinal all) o.3
       ∙ (λ i. procedures_bindings naming_by_label (typed_by_ordinal all) (variables-same noted j k b i) (relabel_procedures naming_by_spelling (label_from_ordinal naming_by_spelling) (sym o.1.0 i) kp ps) ++ bindings_since (typed_by_ordinal noted) (typed_by_ordinal all)) in
       subst₂ (Ordered k (ordinal_after_block k b)) (sym names) (sym labels)
       (ordered-append k kp (ordinal_after_block k b) (procedures_bindings naming_by_spelling (typed_by_name all) (constructors_before_procedures j b) ps) (bindings_since (typed_by_name noted) (typed_by_name all)) (procedures_bindings naming_by_label (typed_by_ordinal all) (constructors_before_procedures j b) (relabel_procedures naming_by_spelling (label_from_ordinal naming_by_spelling) (typed_scope all) kp ps)) (bindings_since (typed_by_ordinal noted) (typed_by_ordinal all)) p own)

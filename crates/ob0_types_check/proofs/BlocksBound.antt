@@ -9,7 +9,7 @@ use Rattle.ob0_language_types.specs.Expressions as meant
 use Rattle.ob0_language_types.specs.WellTyped.{TypeEnvironment, TypedParameter, bind_typed_parameters}
 use Rattle.ob0_types_table.specs.declared.types.TypeId.{TypeId}
 use Rattle.ob0_language_values.specs.Values.{Shape}
-use Rattle.ob0_types_check.specs.Agreement.{IsKnownAndAgrees, is_standard_procedure, shape_in}
+use Rattle.ob0_types_check.specs.Agreement.{IsKnownAndAgreesWithObject, is_standard_procedure, shape_of_type_in}
 use Rattle.ob0_types_check.specs.Known.{Meaning}
 use Rattle.ob0_types_check.proofs.BindingsByOrdinal.{bindings_since-front}
 use Rattle.ob0_types_check.proofs.DeclaredShapes.{Longer}
@@ -20,7 +20,7 @@ use Rattle.ob0_types_check.proofs.DeclaredKnown.{NamesKnown, holds_kept}
 abbrev pub BindingsKnown : List Shape → List (Option (Meaning TypeId)) → ℕ → ℕ → TypeEnvironment Name → Type 0
 BindingsKnown shapes declared n m [] = m ≡ n
 BindingsKnown shapes declared n m (b ∷ bs) =
-    (j : ℕ) × (m ≡ suc j) × IsKnownAndAgrees (shape_in shapes) (slice_index_or declared j None) (Some b.1) × (7 ≤ j → is_standard_procedure (Some b.1) ≡ false) × BindingsKnown shapes declared n j bs
+    (j : ℕ) × (m ≡ suc j) × IsKnownAndAgreesWithObject (shape_of_type_in shapes) (slice_index_or declared j None) (Some b.1) × (7 ≤ j → is_standard_procedure (Some b.1) ≡ false) × BindingsKnown shapes declared n j bs
 
 pub bindings_both : (shapes : List Shape) (declared : List (Option (Meaning TypeId))) (n i m : ℕ) (later first : TypeEnvironment Name) → BindingsKnown shapes declared i m later → BindingsKnown shapes declared n i first → BindingsKnown shapes declared n m (later ++ first)
 bindings_both shapes declared n i m [] first h g = subst (λ z. BindingsKnown shapes declared n z first) (sym h) g
@@ -32,7 +32,7 @@ bindings_later before after old new n m i longer kept le (b ∷ bs) h =
     let less : h.0 < i = omega (arith, le, h.1) in (
       h.0,
       h.1,
-      subst (λ o. IsKnownAndAgrees (shape_in after) o (Some b.1)) (sym (kept h.0 less)) (holds_kept before after longer (slice_index_or old h.0 None) (Some b.1) h.2),
+      subst (λ o. IsKnownAndAgreesWithObject (shape_of_type_in after) o (Some b.1)) (sym (kept h.0 less)) (holds_kept before after longer (slice_index_or old h.0 None) (Some b.1) h.2),
       h.3,
       bindings_later before after old new n h.0 i longer kept (omega (arith, less)) bs h.4,
     )

@@ -13,11 +13,11 @@ use Rattle.ob0_language_types.specs.Expressions as meant
 use Rattle.ob0_language_types.specs.Typing.{constant_value, constructor_count, denoted_type}
 use Rattle.ob0_language_types.specs.WellTyped.{TypeEnvironment, bind_names, declare_typed_variables}
 use Rattle.ob0_language_values.specs.Values.{Shape, Value}
-use Rattle.ob0_types_check.specs.DeclarationFaults.{reported_constant_declaration, reported_constants, reported_types, reported_variables, reported_type_declaration, reported_variable_group}
+use Rattle.ob0_types_check.specs.DeclarationFaults.{report_on_constant_declaration, report_on_constant_declarations, report_on_type_declarations, report_on_variable_declarations, report_on_type_declaration, report_on_variable_group}
 use Rattle.ob0_types_check.specs.Known.{Reported, a_constant, a_type, a_variable}
 use Rattle.ob0_types_check.specs.KnownDeclarations.{KnownDeclarations, TypeWithState, define, define_all, facts_at}
-use Rattle.ob0_types_check.specs.TypeFaults.{reported_constant}
-use Rattle.ob0_types_check.specs.WrittenTypeFaults.{reported_type}
+use Rattle.ob0_types_check.specs.TypeFaults.{report_on_constant_expression}
+use Rattle.ob0_types_check.specs.WrittenTypeFaults.{report_on_written_type}
 use Rattle.ob0_types_check.proofs.MadeOnce.{Apart, apart_same, apart_then}
 use Rattle.ob0_types_check.proofs.PartsFitting.{PartsFit}
 use Rattle.ob0_types_check.proofs.DeclaredNames.{ConstantsPlaced, Numbering, TypesPlaced, VariablesPlaced, ordinal_after_names-map, names_in_list-mapped_tree, scope_following}
@@ -57,38 +57,38 @@ pub next_le : (n : ℕ) → n ≤ suc n
 next_le n = le_of_lt (le_refl (suc n))
 
 module _ (w : Numbering) (fit : PartsFit) where
-  pub constants_declare : (cs : Tree ℕ (items constant)) (k n : ℕ) (p : KnownDeclarations) (before : List Shape) (scope : Scope Name) (env : TypeEnvironment Name) → IsKnownAt w p before n scope env → ConstantsPlaced w scope n cs → (reported_constants p cs).faults ≡ []
-      → Declared w n (ordinal_after_names n (constant_names cs)) k k p (reported_constants p cs).known before (scope_following w n (constant_names cs) scope) (declare_constants naming_by_spelling env (tree_with_names w.source cs))
-  unfolding reported_constants reported_constant_declaration declare_constants
+  pub constants_declare : (cs : Tree ℕ (items constant)) (k n : ℕ) (p : KnownDeclarations) (before : List Shape) (scope : Scope Name) (env : TypeEnvironment Name) → IsKnownAt w p before n scope env → ConstantsPlaced w scope n cs → (report_on_constant_declarations p cs).faults ≡ []
+      → Declared w n (ordinal_after_names n (constant_names cs)) k k p (report_on_constant_declarations p cs).known before (scope_following w n (constant_names cs) scope) (declare_constants naming_by_spelling env (tree_with_names w.source cs))
+  unfolding report_on_constant_declarations report_on_constant_declaration declare_constants
   constants_declare end k n p before scope env st placed h = nothing_declared w n k k refl p before scope env st
   constants_declare (more (declares_constant x e) cs) k n p before scope env st placed h =
-      let v : Reported (Option Value) = reported_constant (facts_at p true) e in
+      let v : Reported (Option Value) = report_on_constant_expression (facts_at p true) e in
       let q : KnownDeclarations = define p (a_constant v.known) x in
-      let a = none-reported (v.faults ++ []) (reported_constants q cs).faults h in
+      let a = none-reported (v.faults ++ []) (report_on_constant_declarations q cs).faults h in
       let c = fit.constants p before (token_text_at w.source) (meanings naming_by_spelling env) e (agrees_where_seen w p true before n scope env st fit e placed.1) (none-reported v.faults [] a.0).0 in
       let given : constant_value (meanings naming_by_spelling env) (tree_with_names w.source e) ≡ Some c.value = ap (λ s. constant_value (meanings naming_by_spelling env) (mapped_tree (token_text_at w.source) (token_value_at s) e)) (sym st.source) ∙ c.given in
       let d = defined w p before n (a_constant v.known) x st.ordinals st.room st.table placed.0 in
       let next = holds_defined w p q before n scope env (a_constant v.known) (token_text_at w.source x) (meant.a_constant c.value) st d refl (c.value, c.known, refl, c.scalar) in
-      declared_then w n (suc n) (ordinal_after_names (suc n) (constant_names cs)) k k k p q (reported_constants q cs).known before before (scope_following w (suc n) (constant_names cs) ((token_text_at w.source x, n) ∷ scope))
+      declared_then w n (suc n) (ordinal_after_names (suc n) (constant_names cs)) k k k p q (report_on_constant_declarations q cs).known before before (scope_following w (suc n) (constant_names cs) ((token_text_at w.source x, n) ∷ scope))
       (constant_value (meanings naming_by_spelling env) (tree_with_names w.source e)) c.value (λ v. declare_constants naming_by_spelling ((token_text_at w.source x, meant.a_constant v) ∷ env) (tree_with_names w.source cs)) (next_le n) given (apart_same k k before refl) d.later
       (constants_declare cs k (suc n) q before ((token_text_at w.source x, n) ∷ scope) ((token_text_at w.source x, meant.a_constant c.value) ∷ env) next placed.2 a.1)
 
-  pub types_declare : (ds : Tree ℕ (items type_definition)) (k n : ℕ) (p : KnownDeclarations) (before : List Shape) (scope : Scope Name) (env : TypeEnvironment Name) → length before ≡ k → IsKnownAt w p before n scope env → TypesPlaced w scope n ds → (reported_types p ds).faults ≡ []
-      → Declared w n (ordinal_after_names n (declared_type_names ds)) k (k + types_constructor_count (tree_with_names w.source ds)) p (reported_types p ds).known before (scope_following w n (declared_type_names ds) scope) (declare_types naming_by_spelling env k (tree_with_names w.source ds))
-  unfolding reported_types reported_type_declaration declare_types
+  pub types_declare : (ds : Tree ℕ (items type_definition)) (k n : ℕ) (p : KnownDeclarations) (before : List Shape) (scope : Scope Name) (env : TypeEnvironment Name) → length before ≡ k → IsKnownAt w p before n scope env → TypesPlaced w scope n ds → (report_on_type_declarations p ds).faults ≡ []
+      → Declared w n (ordinal_after_names n (declared_type_names ds)) k (k + types_constructor_count (tree_with_names w.source ds)) p (report_on_type_declarations p ds).known before (scope_following w n (declared_type_names ds) scope) (declare_types naming_by_spelling env k (tree_with_names w.source ds))
+  unfolding report_on_type_declarations report_on_type_declaration declare_types
   types_declare end k n p before scope env at st placed h = nothing_declared w n k (k + 0) (omega arith) p before scope env st
   types_declare (more (declares_type x t) ds) k n p before scope env at st placed h =
-      let u : Reported TypeWithState = reported_type 0 p t in
+      let u : Reported TypeWithState = report_on_written_type 0 p t in
       let q : KnownDeclarations = define u.known.following (a_type u.known.of) x in
-      let a = none-reported (u.faults ++ []) (reported_types q ds).faults h in
+      let a = none-reported (u.faults ++ []) (report_on_type_declarations q ds).faults h in
       let s = type_denotes w fit n scope env 0 k t p before (omega (arith, at)) st placed.1 (none-reported u.faults [] a.0).0 in
       let following = holds_later w n n n p u.known.following before s.after scope env (le_refl n) (le_refl n) st s.later in
       let d = defined w u.known.following s.after n (a_type u.known.of) x following.ordinals following.room following.table placed.0 in
       let next = holds_defined w u.known.following q s.after n scope env (a_type u.known.of) (token_text_at w.source x) (meant.a_type s.shape) following d refl (s.shape, s.known, refl) in
       let own : ℕ = constructor_count (tree_with_names w.source t) in
       let others : ℕ = types_constructor_count (tree_with_names w.source ds) in
-      subst (λ l. Declared w n (ordinal_after_names (suc n) (declared_type_names ds)) k l p (reported_types q ds).known before (scope_following w (suc n) (declared_type_names ds) ((token_text_at w.source x, n) ∷ scope)) (declare_types naming_by_spelling env k (tree_with_names w.source (more (declares_type x t) ds)))) (more_constructors k own others)
-      (declared_then w n (suc n) (ordinal_after_names (suc n) (declared_type_names ds)) k (k + own) (k + own + others) p q (reported_types q ds).known before s.after (scope_following w (suc n) (declared_type_names ds) ((token_text_at w.source x, n) ∷ scope))
+      subst (λ l. Declared w n (ordinal_after_names (suc n) (declared_type_names ds)) k l p (report_on_type_declarations q ds).known before (scope_following w (suc n) (declared_type_names ds) ((token_text_at w.source x, n) ∷ scope)) (declare_types naming_by_spelling env k (tree_with_names w.source (more (declares_type x t) ds)))) (more_constructors k own others)
+      (declared_then w n (suc n) (ordinal_after_names (suc n) (declared_type_names ds)) k (k + own) (k + own + others) p q (report_on_type_declarations q ds).known before s.after (scope_following w (suc n) (declared_type_names ds) ((token_text_at w.source x, n) ∷ scope))
       (denoted_type (meanings naming_by_spelling env) k (tree_with_names w.source t)) s.shape (λ s. declare_types naming_by_spelling ((token_text_at w.source x, meant.a_type s) ∷ env) (k + constructor_count (tree_with_names w.source t)) (tree_with_names w.source ds)) (next_le n) s.given_is s.apart
       (later_then n n p u.known.following q before s.after s.after (le_refl n) s.later d.later)
       (types_declare ds (k + constructor_count (tree_with_names w.source t)) (suc n) q s.after ((token_text_at w.source x, n) ∷ scope) ((token_text_at w.source x, meant.a_type s.shape) ∷ env) (omega (arith, at, s.apart.counted)) next placed.2 a.1))
@@ -98,15 +98,15 @@ module _ (w : Numbering) (fit : PartsFit) where
       sym (ap (λ zs. declare_names n zs scope) (map-append (token_text_at w.source) xs ys) ∙ (declare_names-append n (map (token_text_at w.source) xs) (map (token_text_at w.source) ys) scope
       ∙ (λ i. declare_names (ordinal_after_names-map (token_text_at w.source) n xs i) (map (token_text_at w.source) ys) (declare_names n (map (token_text_at w.source) xs) scope))))
 
-  pub variables_declare : (gs : Tree ℕ (items variable)) (k n : ℕ) (p : KnownDeclarations) (before : List Shape) (scope : Scope Name) (env : TypeEnvironment Name) → length before ≡ k → IsKnownAt w p before n scope env → VariablesPlaced w scope n gs → (reported_variables p gs).faults ≡ []
-      → Declared w n (ordinal_after_names n (variable_names gs)) k (k + variables_constructor_count (tree_with_names w.source gs)) p (reported_variables p gs).known before (scope_following w n (variable_names gs) scope) (declare_typed_variables naming_by_spelling k (tree_with_names w.source gs) env)
-  unfolding reported_variables reported_variable_group declare_typed_variables
+  pub variables_declare : (gs : Tree ℕ (items variable)) (k n : ℕ) (p : KnownDeclarations) (before : List Shape) (scope : Scope Name) (env : TypeEnvironment Name) → length before ≡ k → IsKnownAt w p before n scope env → VariablesPlaced w scope n gs → (report_on_variable_declarations p gs).faults ≡ []
+      → Declared w n (ordinal_after_names n (variable_names gs)) k (k + variables_constructor_count (tree_with_names w.source gs)) p (report_on_variable_declarations p gs).known before (scope_following w n (variable_names gs) scope) (declare_typed_variables naming_by_spelling k (tree_with_names w.source gs) env)
+  unfolding report_on_variable_declarations report_on_variable_group declare_typed_variables
   variables_declare end k n p before scope env at st placed h = nothing_declared w n k (k + 0) (omega arith) p before scope env st
   variables_declare (more (declares_variable ns t) gs) k n p before scope env at st placed h =
       let xs : List ℕ = names_in_list ns in
-      let u : Reported TypeWithState = reported_type 0 p t in
+      let u : Reported TypeWithState = report_on_written_type 0 p t in
       let q : KnownDeclarations = define_all u.known.following (a_variable u.known.of) xs in
-      let a = none-reported (u.faults ++ []) (reported_variables q gs).faults h in
+      let a = none-reported (u.faults ++ []) (report_on_variable_declarations q gs).faults h in
       let s = type_denotes w fit n scope env 0 k t p before (omega (arith, at)) st placed.1 (none-reported u.faults [] a.0).0 in
       let following = holds_later w n n n p u.known.following before s.after scope env (le_refl n) (le_refl n) st s.later in
       let all = all_defined w u.known.following s.after n scope env (a_variable u.known.of) xs (meant.a_variable s.shape) following placed.0 refl (s.shape, s.known, refl) in
@@ -114,10 +114,10 @@ module _ (w : Numbering) (fit : PartsFit) where
       let rest = variables_declare gs (k + constructor_count (tree_with_names w.source t)) (ordinal_after_names n xs) q s.after (scope_following w n xs scope) (bind_names (map (token_text_at w.source) xs) (meant.a_variable s.shape) env) (omega (arith, at, s.apart.counted)) all.holds placed.2 a.1 in
       let one : ℕ = constructor_count (tree_with_names w.source t) in
       let others : ℕ = variables_constructor_count (tree_with_names w.source gs) in
-      let whole = declared_then w n (ordinal_after_names n xs) (ordinal_after_names (ordinal_after_names n xs) (variable_names gs)) k (k + one) (k + one + others) p q (reported_variables q gs).known before s.after (scope_following w (ordinal_after_names n xs) (variable_names gs) (scope_following w n xs scope))
+      let whole = declared_then w n (ordinal_after_names n xs) (ordinal_after_names (ordinal_after_names n xs) (variable_names gs)) k (k + one) (k + one + others) p q (report_on_variable_declarations q gs).known before s.after (scope_following w (ordinal_after_names n xs) (variable_names gs) (scope_following w n xs scope))
       (denoted_type (meanings naming_by_spelling env) k (tree_with_names w.source t)) s.shape (λ s. declare_typed_variables naming_by_spelling (k + constructor_count (tree_with_names w.source t)) (tree_with_names w.source gs) (bind_names (names_in_list (tree_with_names w.source ns)) (meant.a_variable s) env)) (le-ordinal_after_names n xs) s.given_is s.apart
       (later_then n n p u.known.following q before s.after s.after (le_refl n) s.later all.later)
-      (subst (λ ys. Declared w (ordinal_after_names n xs) (ordinal_after_names (ordinal_after_names n xs) (variable_names gs)) (k + one) (k + one + others) q (reported_variables q gs).known s.after (scope_following w (ordinal_after_names n xs) (variable_names gs) (scope_following w n xs scope)) (declare_typed_variables naming_by_spelling (k + constructor_count (tree_with_names w.source t)) (tree_with_names w.source gs) (bind_names ys (meant.a_variable s.shape) env))) (sym own) rest) in
-      subst (λ l. Declared w n (ordinal_after_names n (xs ++ variable_names gs)) k l p (reported_variables q gs).known before (scope_following w n (xs ++ variable_names gs) scope) (option_and_then (λ s. declare_typed_variables naming_by_spelling (k + constructor_count (tree_with_names w.source t)) (tree_with_names w.source gs) (bind_names (names_in_list (tree_with_names w.source ns)) (meant.a_variable s) env)) (denoted_type (meanings naming_by_spelling env) k (tree_with_names w.source t)))) (more_constructors k one others)
-      (subst₂ (λ m z. Declared w n m k (k + one + others) p (reported_variables q gs).known before z (option_and_then (λ s. declare_typed_variables naming_by_spelling (k + constructor_count (tree_with_names w.source t)) (tree_with_names w.source gs) (bind_names (names_in_list (tree_with_names w.source ns)) (meant.a_variable s) env)) (denoted_type (meanings naming_by_spelling env) k (tree_with_names w.source t))))
+      (subst (λ ys. Declared w (ordinal_after_names n xs) (ordinal_after_names (ordinal_after_names n xs) (variable_names gs)) (k + one) (k + one + others) q (report_on_variable_declarations q gs).known s.after (scope_following w (ordinal_after_names n xs) (variable_names gs) (scope_following w n xs scope)) (declare_typed_variables naming_by_spelling (k + constructor_count (tree_with_names w.source t)) (tree_with_names w.source gs) (bind_names ys (meant.a_variable s.shape) env))) (sym own) rest) in
+      subst (λ l. Declared w n (ordinal_after_names n (xs ++ variable_names gs)) k l p (report_on_variable_declarations q gs).known before (scope_following w n (xs ++ variable_names gs) scope) (option_and_then (λ s. declare_typed_variables naming_by_spelling (k + constructor_count (tree_with_names w.source t)) (tree_with_names w.source gs) (bind_names (names_in_list (tree_with_names w.source ns)) (meant.a_variable s) env)) (denoted_type (meanings naming_by_spelling env) k (tree_with_names w.source t)))) (more_constructors k one others)
+      (subst₂ (λ m z. Declared w n m k (k + one + others) p (report_on_variable_declarations q gs).known before z (option_and_then (λ s. declare_typed_variables naming_by_spelling (k + constructor_count (tree_with_names w.source t)) (tree_with_names w.source gs) (bind_names (names_in_list (tree_with_names w.source ns)) (meant.a_variable s) env)) (denoted_type (meanings naming_by_spelling env) k (tree_with_names w.source t))))
       (sym (ordinal_after_names-append n xs (variable_names gs))) (following-append n xs (variable_names gs) scope) whole)

@@ -17,7 +17,7 @@ use Rattle.ob0_language_types.specs.Environments.{meanings, outermost_environmen
 use Rattle.ob0_language_types.specs.Expressions as meant
 use Rattle.ob0_language_types.specs.WellTyped.{Signature, TypeEnvironment, TypedParameter, bind_typed_parameters, block_is_well_typed, body_is_well_typed, by_place, by_value, declare_typed_variables, passes_type_check, bind_procedure, option_satisfies, procedure_is_well_typed, procedures_are_well_typed, sequence_is_well_typed, typed_parameters}
 use Rattle.ob0_language_values.specs.Values.{Shape, boolean_shape, integer_shape, truth}
-use Rattle.ob0_types_check.specs.DeclarationFaults.{KnownHeading, state_after_heading, reported_block, reported_body, reported_constants, module_faults, reported_procedure, reported_procedures, reported_sections, reported_types, reported_variables}
+use Rattle.ob0_types_check.specs.DeclarationFaults.{KnownHeading, declarations_after_heading, report_on_block, report_on_body, report_on_constant_declarations, undeclared_name_and_type_faults, report_on_procedure, report_on_procedures, report_on_parameter_sections, report_on_type_declarations, report_on_variable_declarations}
 use Rattle.ob0_types_check.specs.Known.{Meaning, Reported, a_procedure}
 use Rattle.ob0_types_table.specs.declared.types.TypeId.{TypeId}
 use Rattle.ob0_types_check.specs.KnownDeclarations.{KnownDeclarations, state_at_start, predeclared_meanings}
@@ -55,7 +55,7 @@ pub record ProcedureFits (w : Numbering) (n : ℕ) (p q : KnownDeclarations) (be
 
 -- returns the state after a procedure's heading, in which its name and parameters are known
 abbrev pub heading_known : KnownDeclarations → ℕ → Tree ℕ (maybe formals) → KnownDeclarations
-heading_known p x fs = state_after_heading x (reported_sections (record { formals = []; following = p }) (formal_sections fs)).known
+heading_known p x fs = declarations_after_heading x (report_on_parameter_sections (record { formals = []; following = p }) (formal_sections fs)).known
 
 pub record HeadingKnown (w : Numbering) (n : ℕ) (p : KnownDeclarations) (before : List Shape) (scope : Scope Name) (env : TypeEnvironment Name) (k x : ℕ) (fs : Tree ℕ (maybe formals)) : Type 0 where
   pub parameters : List (TypedParameter Name)
@@ -70,8 +70,8 @@ pub record HeadingKnown (w : Numbering) (n : ℕ) (p : KnownDeclarations) (befor
 block_end : (k t v p : ℕ) → k + t + v + p ≡ k + (t + (v + p))
 block_end k t v p = omega arith
 
-pub body_known : (p : KnownDeclarations) (statements : Tree ℕ (maybe body)) → (reported_body p statements).known ≡ p
-unfolding reported_body
+pub body_known : (p : KnownDeclarations) (statements : Tree ℕ (maybe body)) → (report_on_body p statements).known ≡ p
+unfolding report_on_body
 body_known p none = refl
 body_known p (one (begins statements)) = refl
 
@@ -79,8 +79,8 @@ above : (j n : ℕ) → n < j → j ≢ n
 above j n less e = absurd (omega (arith, e, less))
 
 module _ (w : Numbering) (fit : PartsFit) where
-  pub body_reported : (statements : Tree ℕ (maybe body)) (n : ℕ) (p : KnownDeclarations) (before : List Shape) (scope : Scope Name) (env : TypeEnvironment Name) → IsKnownAt w p before n scope env → AreSeen w scope statements → (reported_body p statements).faults ≡ [] → body_is_well_typed naming_by_spelling env (tree_with_names w.source statements) ≡ true
-  unfolding reported_body body_is_well_typed
+  pub body_reported : (statements : Tree ℕ (maybe body)) (n : ℕ) (p : KnownDeclarations) (before : List Shape) (scope : Scope Name) (env : TypeEnvironment Name) → IsKnownAt w p before n scope env → AreSeen w scope statements → (report_on_body p statements).faults ≡ [] → body_is_well_typed naming_by_spelling env (tree_with_names w.source statements) ≡ true
+  unfolding report_on_body body_is_well_typed
   body_reported none n p before scope env st seen h = refl
   body_reported (one (begins s)) n p before scope env st seen h =
       ap (λ z. sequence_is_well_typed (meanings naming_by_spelling env) (mapped_tree (token_text_at w.source) (token_value_at z) s)) (sym st.source)
@@ -91,10 +91,10 @@ module _ (w : Numbering) (fit : PartsFit) where
       → ConstantsPlaced w scope n (section_constants cs)
       → TypesPlaced w (following_constants w scope n (forms_block (declares cs ts vs ps) statements)) (first_type_ordinal n (forms_block (declares cs ts vs ps) statements)) (section_types ts)
       → VariablesPlaced w (following_types w scope n (forms_block (declares cs ts vs ps) statements)) (first_variable_ordinal n (forms_block (declares cs ts vs ps) statements)) (section_variables vs)
-      → (reported_constants p (section_constants cs)).faults ≡ []
-      → (reported_types (reported_constants p (section_constants cs)).known (section_types ts)).faults ≡ []
-      → (reported_variables (reported_types (reported_constants p (section_constants cs)).known (section_types ts)).known (section_variables vs)).faults ≡ []
-      → Declared w n (first_procedure_ordinal n (forms_block (declares cs ts vs ps) statements)) k (constructors_before_procedures k (tree_with_names w.source (forms_block (declares cs ts vs ps) statements))) p (reported_variables (reported_types (reported_constants p (section_constants cs)).known (section_types ts)).known (section_variables vs)).known before (following_variables w scope n (forms_block (declares cs ts vs ps) statements))
+      → (report_on_constant_declarations p (section_constants cs)).faults ≡ []
+      → (report_on_type_declarations (report_on_constant_declarations p (section_constants cs)).known (section_types ts)).faults ≡ []
+      → (report_on_variable_declarations (report_on_type_declarations (report_on_constant_declarations p (section_constants cs)).known (section_types ts)).known (section_variables vs)).faults ≡ []
+      → Declared w n (first_procedure_ordinal n (forms_block (declares cs ts vs ps) statements)) k (constructors_before_procedures k (tree_with_names w.source (forms_block (declares cs ts vs ps) statements))) p (report_on_variable_declarations (report_on_type_declarations (report_on_constant_declarations p (section_constants cs)).known (section_types ts)).known (section_variables vs)).known before (following_variables w scope n (forms_block (declares cs ts vs ps) statements))
       (option_and_then (declare_typed_variables naming_by_spelling (constructors_before_variables k (tree_with_names w.source (forms_block (declares cs ts vs ps) statements))) (section_variables (tree_with_names w.source vs))) (declare_constants_and_types naming_by_spelling env k (tree_with_names w.source (forms_block (declares cs ts vs ps) statements))))
   unfolding declare_constants_and_types
   declarations_reported cs ts vs ps statements k n p before scope env at st placed₀ placed₁ placed₂ none₀ none₁ none₂ =
@@ -102,9 +102,9 @@ module _ (w : Numbering) (fit : PartsFit) where
       let value : ℕ → ℕ = token_value_at w.source in
       let b : Tree ℕ block = forms_block (declares cs ts vs ps) statements in
       let nb : Tree Name block = tree_with_names w.source b in
-      let p₁ : KnownDeclarations = (reported_constants p (section_constants cs)).known in
-      let p₂ : KnownDeclarations = (reported_types p₁ (section_types ts)).known in
-      let p₃ : KnownDeclarations = (reported_variables p₂ (section_variables vs)).known in
+      let p₁ : KnownDeclarations = (report_on_constant_declarations p (section_constants cs)).known in
+      let p₂ : KnownDeclarations = (report_on_type_declarations p₁ (section_types ts)).known in
+      let p₃ : KnownDeclarations = (report_on_variable_declarations p₂ (section_variables vs)).known in
       let dc = constants_declare w fit (section_constants cs) k n p before scope env st placed₀ none₀ in
       let dt = types_declare w fit (section_types ts) k (first_type_ordinal n b) p₁ dc.after (following_constants w scope n b) dc.env (omega (arith, at, dc.apart.counted)) dc.holds placed₁ none₁ in
       let le₁ : n ≤ first_type_ordinal n b = le-ordinal_after_names n (constant_names (section_constants cs)) in
@@ -120,7 +120,7 @@ module _ (w : Numbering) (fit : PartsFit) where
   -- A block fits if its declarations give an environment in which its procedures and statements fit.
   block_then : (p v q : KnownDeclarations) (before : List Shape) (n m i k j l : ℕ) (scope : Scope Name) (env : TypeEnvironment Name) (given : Option (TypeEnvironment Name)) (statements : Tree ℕ (maybe body)) (test : TypeEnvironment Name → Bool) (bindings : TypeEnvironment Name → TypeEnvironment Name) → n ≤ m → (d : Declared w n m k j p v before scope given)
       → BindingsKnown d.after v.declared n m (bindings_since env d.env) → FitsLater m i j l v q d.after (test d.env) (bindings d.env)
-      → FitsLater n i k l p (reported_body q statements).known before (option_satisfies given test) (list_if_some given (λ inner. bindings inner ++ bindings_since env inner))
+      → FitsLater n i k l p (report_on_body q statements).known before (option_satisfies given test) (list_if_some given (λ inner. bindings inner ++ bindings_since env inner))
   block_then p v q before n m i k j l scope env given statements test bindings le d own f =
       subst (λ z. FitsLater n i k l p z before (option_satisfies given test) (list_if_some given (λ inner. bindings inner ++ bindings_since env inner))) (sym (body_known q statements)) (record {
         right = ap (λ o. option_satisfies o test) d.given_is ∙ f.right;
@@ -134,11 +134,11 @@ module _ (w : Numbering) (fit : PartsFit) where
   -- The parameters in a procedure's heading have types, and agree with the state after the heading, if no fault is
   -- reported for them.
   pub heading_reported : (x : ℕ) (fs : Tree ℕ (maybe formals)) (k n : ℕ) (p : KnownDeclarations) (before : List Shape) (scope : Scope Name) (env : TypeEnvironment Name) → length before ≡ k → IsKnownAt w p before n scope env → IsPlaced w n x → SectionsPlaced w scope (suc n) (formal_sections fs)
-      → (reported_sections (record { formals = []; following = p }) (formal_sections fs)).faults ≡ [] → HeadingKnown w n p before scope env k x fs
+      → (report_on_parameter_sections (record { formals = []; following = p }) (formal_sections fs)).faults ≡ [] → HeadingKnown w n p before scope env k x fs
   heading_reported x fs k n p before scope env at st placed sections unreported =
       let text : ℕ → Name = token_text_at w.source in
       let start : KnownHeading = record { formals = []; following = p } in
-      let g : KnownHeading = (reported_sections start (formal_sections fs)).known in
+      let g : KnownHeading = (report_on_parameter_sections start (formal_sections fs)).known in
       let q₁ : KnownDeclarations = heading_known p x fs in
       let weak = holds_later w n n (suc n) p p before before scope env (le_refl n) (next_le n) st (later_same n p before st.table) in
       let ps = sections_declare w fit (formal_sections fs) k (suc n) start before scope env at weak sections unreported in
@@ -185,19 +185,19 @@ module _ (w : Numbering) (fit : PartsFit) where
       procedures-listed naming_by_spelling env k (token_text_at w.source x) (tree_with_names w.source fs) (tree_with_names w.source b) (token_text_at w.source closing) (tree_with_names w.source rest) parameters typed right
 
   mutual
-    unfolding reported_block block_is_well_typed block_bindings
+    unfolding report_on_block block_is_well_typed block_bindings
 
-    pub block_reported : (b : Tree ℕ block) (k n : ℕ) (p : KnownDeclarations) (before : List Shape) (scope : Scope Name) (env : TypeEnvironment Name) → length before ≡ k → IsKnownAt w p before n scope env → BlockPlaced w scope n b → (reported_block p b).faults ≡ []
-        → FitsLater n (ordinal_after_block n b) k (k + block_constructor_count (tree_with_names w.source b)) p (reported_block p b).known before (block_is_well_typed naming_by_spelling env k (tree_with_names w.source b)) (block_bindings naming_by_spelling env k (tree_with_names w.source b))
+    pub block_reported : (b : Tree ℕ block) (k n : ℕ) (p : KnownDeclarations) (before : List Shape) (scope : Scope Name) (env : TypeEnvironment Name) → length before ≡ k → IsKnownAt w p before n scope env → BlockPlaced w scope n b → (report_on_block p b).faults ≡ []
+        → FitsLater n (ordinal_after_block n b) k (k + block_constructor_count (tree_with_names w.source b)) p (report_on_block p b).known before (block_is_well_typed naming_by_spelling env k (tree_with_names w.source b)) (block_bindings naming_by_spelling env k (tree_with_names w.source b))
     block_reported (forms_block (declares cs ts vs ps) statements) k n p before scope env at st placed h =
         let b : Tree ℕ block = forms_block (declares cs ts vs ps) statements in
         let nb : Tree Name block = tree_with_names w.source b in
         let text : ℕ → Name = token_text_at w.source in
-        let t₁ : Reported KnownDeclarations = reported_constants p (section_constants cs) in
-        let t₂ : Reported KnownDeclarations = reported_types t₁.known (section_types ts) in
-        let t₃ : Reported KnownDeclarations = reported_variables t₂.known (section_variables vs) in
-        let t₄ : Reported KnownDeclarations = reported_procedures t₃.known ps in
-        let t₅ : Reported KnownDeclarations = reported_body t₄.known statements in
+        let t₁ : Reported KnownDeclarations = report_on_constant_declarations p (section_constants cs) in
+        let t₂ : Reported KnownDeclarations = report_on_type_declarations t₁.known (section_types ts) in
+        let t₃ : Reported KnownDeclarations = report_on_variable_declarations t₂.known (section_variables vs) in
+        let t₄ : Reported KnownDeclarations = report_on_procedures t₃.known ps in
+        let t₅ : Reported KnownDeclarations = report_on_body t₄.known statements in
         let a₁ = none-reported t₁.faults (t₂.faults ++ (t₃.faults ++ (t₄.faults ++ t₅.faults))) h in
         let a₂ = none-reported t₂.faults (t₃.faults ++ (t₄.faults ++ t₅.faults)) a₁.1 in
         let a₃ = none-reported t₃.faults (t₄.faults ++ t₅.faults) a₂.1 in
@@ -209,18 +209,18 @@ module _ (w : Numbering) (fit : PartsFit) where
         let own = sections_bind d.after t₃.known.declared (first_procedure_ordinal n b) n (first_type_ordinal n b) (first_variable_ordinal n b) (first_procedure_ordinal n b) (map text (constant_names (section_constants cs))) (map text (declared_type_names (section_types ts))) (map text (variable_names (section_variables vs))) scope env d.env
         (ordinal_after_names-map text n (constant_names (section_constants cs))) (ordinal_after_names-map text (first_type_ordinal n b) (declared_type_names (section_types ts))) (ordinal_after_names-map text (first_variable_ordinal n b) (variable_names (section_variables vs)))
         (as_long before p.declared n scope env st.names) d.holds.names in
-        subst (λ j. FitsLater n (ordinal_after_block n b) k j p (reported_block p (forms_block (declares cs ts vs ps) statements)).known before (block_is_well_typed naming_by_spelling env k (tree_with_names w.source (forms_block (declares cs ts vs ps) statements))) (block_bindings naming_by_spelling env k (tree_with_names w.source (forms_block (declares cs ts vs ps) statements))))
+        subst (λ j. FitsLater n (ordinal_after_block n b) k j p (report_on_block p (forms_block (declares cs ts vs ps) statements)).known before (block_is_well_typed naming_by_spelling env k (tree_with_names w.source (forms_block (declares cs ts vs ps) statements))) (block_bindings naming_by_spelling env k (tree_with_names w.source (forms_block (declares cs ts vs ps) statements))))
         (block_end k (types_constructor_count (section_types (tree_with_names w.source ts))) (variables_constructor_count (section_variables (tree_with_names w.source vs))) (procedures_constructor_count (tree_with_names w.source ps)))
         (block_then p t₃.known t₄.known before n (first_procedure_ordinal n b) (ordinal_after_block n b) k (constructors_before_procedures k nb) l (following_variables w scope n b) env (option_and_then (declare_typed_variables naming_by_spelling (constructors_before_variables k nb) (section_variables (tree_with_names w.source vs))) (declare_constants_and_types naming_by_spelling env k nb)) statements
         (λ inner. procedures_are_well_typed naming_by_spelling inner (constructors_before_procedures k nb) (tree_with_names w.source statements) (tree_with_names w.source ps)) (λ inner. procedures_bindings naming_by_spelling inner (constructors_before_procedures k nb) (tree_with_names w.source ps)) le d own rest)
 
-    procedures_reported : (ps : Tree ℕ (items procedure)) (statements : Tree ℕ (maybe body)) (k n : ℕ) (p : KnownDeclarations) (before : List Shape) (scope : Scope Name) (env : TypeEnvironment Name) → length before ≡ k → IsKnownAt w p before n scope env → ProceduresPlaced w scope n statements ps → (reported_procedures p ps).faults ≡ []
-        → (reported_body (reported_procedures p ps).known statements).faults ≡ [] → FitsLater n (ordinal_after_procedures n ps) k (k + procedures_constructor_count (tree_with_names w.source ps)) p (reported_procedures p ps).known before (procedures_are_well_typed naming_by_spelling env k (tree_with_names w.source statements) (tree_with_names w.source ps)) (procedures_bindings naming_by_spelling env k (tree_with_names w.source ps))
+    procedures_reported : (ps : Tree ℕ (items procedure)) (statements : Tree ℕ (maybe body)) (k n : ℕ) (p : KnownDeclarations) (before : List Shape) (scope : Scope Name) (env : TypeEnvironment Name) → length before ≡ k → IsKnownAt w p before n scope env → ProceduresPlaced w scope n statements ps → (report_on_procedures p ps).faults ≡ []
+        → (report_on_body (report_on_procedures p ps).known statements).faults ≡ [] → FitsLater n (ordinal_after_procedures n ps) k (k + procedures_constructor_count (tree_with_names w.source ps)) p (report_on_procedures p ps).known before (procedures_are_well_typed naming_by_spelling env k (tree_with_names w.source statements) (tree_with_names w.source ps)) (procedures_bindings naming_by_spelling env k (tree_with_names w.source ps))
     procedures_reported end statements k n p before scope env at st placed h last = record { right = body_reported statements n p before scope env st placed last; after = before; apart = apart_same k (k + 0) before (omega arith); later = later_same n p before st.table; bound = refl }
     procedures_reported (more d rest) statements k n p before scope env at st placed h last =
         let nd : Tree Name (item procedure) = tree_with_names w.source d in
-        let q : KnownDeclarations = (reported_procedure p d).known in
-        let a = none-reported (reported_procedure p d).faults (reported_procedures q rest).faults h in
+        let q : KnownDeclarations = (report_on_procedure p d).known in
+        let a = none-reported (report_on_procedure p d).faults (report_on_procedures q rest).faults h in
         let f = procedure_reported d k n p before scope env at st placed.0 a.0 in
         let others = procedures_reported rest statements (k + procedure_constructor_count nd) (ordinal_after_procedure (suc n) d) q f.after (following_procedure w scope n d) (bind_procedure (procedure_name nd) f.parameters env) (omega (arith, at, f.apart.counted)) f.holds placed.1 a.1 last in
         record {
@@ -229,20 +229,20 @@ module _ (w : Numbering) (fit : PartsFit) where
           after = others.after;
           apart = apart_to k (k + procedure_constructor_count nd + procedures_constructor_count (tree_with_names w.source rest)) (k + (procedure_constructor_count nd + procedures_constructor_count (tree_with_names w.source rest))) before others.after (more_constructors k (procedure_constructor_count nd) (procedures_constructor_count (tree_with_names w.source rest)))
               (apart_then k (k + procedure_constructor_count nd) (k + procedure_constructor_count nd + procedures_constructor_count (tree_with_names w.source rest)) before f.after others.after f.apart others.apart);
-          later = later_then n (ordinal_after_procedure (suc n) d) p q (reported_procedures q rest).known before f.after others.after (le_trans (next_le n) (le-ordinal_after_procedure (suc n) d)) f.later others.later;
-          bound = subst (BindingsKnown others.after (reported_procedures q rest).known.declared n (ordinal_after_procedures n (more d rest))) (sym (procedures_bound d rest k env f.parameters f.typed f.right))
-              (bindings_both others.after (reported_procedures q rest).known.declared n (ordinal_after_procedure (suc n) d) (ordinal_after_procedures n (more d rest)) (procedures_bindings naming_by_spelling (bind_procedure (procedure_name nd) f.parameters env) (k + procedure_constructor_count nd) (tree_with_names w.source rest)) (procedure_bindings naming_by_spelling env k nd) others.bound
-              (bindings_later f.after others.after q.declared (reported_procedures q rest).known.declared n (ordinal_after_procedure (suc n) d) (ordinal_after_procedure (suc n) d) others.later.longer others.later.kept (le_refl (ordinal_after_procedure (suc n) d)) (procedure_bindings naming_by_spelling env k nd) f.bound));
+          later = later_then n (ordinal_after_procedure (suc n) d) p q (report_on_procedures q rest).known before f.after others.after (le_trans (next_le n) (le-ordinal_after_procedure (suc n) d)) f.later others.later;
+          bound = subst (BindingsKnown others.after (report_on_procedures q rest).known.declared n (ordinal_after_procedures n (more d rest))) (sym (procedures_bound d rest k env f.parameters f.typed f.right))
+              (bindings_both others.after (report_on_procedures q rest).known.declared n (ordinal_after_procedure (suc n) d) (ordinal_after_procedures n (more d rest)) (procedures_bindings naming_by_spelling (bind_procedure (procedure_name nd) f.parameters env) (k + procedure_constructor_count nd) (tree_with_names w.source rest)) (procedure_bindings naming_by_spelling env k nd) others.bound
+              (bindings_later f.after others.after q.declared (report_on_procedures q rest).known.declared n (ordinal_after_procedure (suc n) d) (ordinal_after_procedure (suc n) d) others.later.longer others.later.kept (le_refl (ordinal_after_procedure (suc n) d)) (procedure_bindings naming_by_spelling env k nd) f.bound));
         }
 
-    pub procedure_reported : (d : Tree ℕ (item procedure)) (k n : ℕ) (p : KnownDeclarations) (before : List Shape) (scope : Scope Name) (env : TypeEnvironment Name) → length before ≡ k → IsKnownAt w p before n scope env → ProcedurePlaced w scope n d → (reported_procedure p d).faults ≡ []
-        → ProcedureFits w n p (reported_procedure p d).known before scope env k d
+    pub procedure_reported : (d : Tree ℕ (item procedure)) (k n : ℕ) (p : KnownDeclarations) (before : List Shape) (scope : Scope Name) (env : TypeEnvironment Name) → length before ≡ k → IsKnownAt w p before n scope env → ProcedurePlaced w scope n d → (report_on_procedure p d).faults ≡ []
+        → ProcedureFits w n p (report_on_procedure p d).known before scope env k d
     procedure_reported (declares_procedure x fs b closing) k n p before scope env at st placed h =
         let d : Tree ℕ (item procedure) = declares_procedure x fs b closing in
         let text : ℕ → Name = token_text_at w.source in
         let q₁ : KnownDeclarations = heading_known p x fs in
-        let q : KnownDeclarations = (reported_block q₁ b).known in
-        let a = none-reported (reported_sections (record { formals = []; following = p }) (formal_sections fs)).faults (reported_block q₁ b).faults h in
+        let q : KnownDeclarations = (report_on_block q₁ b).known in
+        let a = none-reported (report_on_parameter_sections (record { formals = []; following = p }) (formal_sections fs)).faults (report_on_block q₁ b).faults h in
         let e = heading_reported x fs k n p before scope env at st placed.0 placed.1 a.0 in
         let first : ℕ = k + formals_constructor_count (formal_sections (tree_with_names w.source fs)) in
         let own : ℕ = block_constructor_count (tree_with_names w.source b) in
@@ -316,8 +316,8 @@ first_holds r = record {
 }
 
 pub modules_without_fault_pass_type_check-holds : ModulesWithoutFaultPassTypeCheck
-unfolding module_faults passes_type_check
+unfolding undeclared_name_and_type_faults passes_type_check
 modules_without_fault_pass_type_check-holds r is h =
     let m = r.module_read in
-    let a = none-reported (filter is_undeclared_fault r.faults) (reported_block (state_at_start r) (module_block (tree_of m))).faults h in
+    let a = none-reported (filter is_undeclared_fault r.faults) (report_on_block (state_at_start r) (module_block (tree_of m))).faults h in
     (block_reported (numbering_of r) parts_fit (module_block (tree_of m)) 0 7 (state_at_start r) [] (predeclared_scope naming_by_spelling) (outermost_environment naming_by_spelling) refl (first_holds r) (module_placed r is a.0) a.1).right

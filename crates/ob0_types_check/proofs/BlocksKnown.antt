@@ -18,10 +18,10 @@ use Rattle.ob0_language_types.proofs.Bound.{newest_object-if}
 use Rattle.ob0_language_types.proofs.TypesByOrdinal.{TypeNoted, typed_by_name, typed_by_ordinal, typed_outermost, typed_scope}
 use Rattle.ob0_types_table.specs.declared.types.TypeId.{TypeId}
 use Rattle.ob0_language_values.specs.Values.{Shape}
-use Rattle.ob0_types_check.specs.Agreement.{DeclarationAgrees, IsKnownAndAgrees, is_standard_procedure, shape_in}
-use Rattle.ob0_types_check.specs.DeclarationFaults.{reported_block, module_faults}
+use Rattle.ob0_types_check.specs.Agreement.{DeclarationAgreesWithObject, IsKnownAndAgreesWithObject, is_standard_procedure, shape_of_type_in}
+use Rattle.ob0_types_check.specs.DeclarationFaults.{report_on_block, undeclared_name_and_type_faults}
 use Rattle.ob0_types_check.specs.Known.{Meaning}
-use Rattle.ob0_types_check.specs.ModuleLaws.{WalkWithoutFaultFindsMeanings}
+use Rattle.ob0_types_check.specs.ModuleLaws.{WalkWithoutFaultFindsCorrectMeanings}
 use Rattle.ob0_types_check.specs.KnownDeclarations.{KnownDeclarations, state_at_start}
 use Rattle.ob0_types_check.proofs.BindingsByOrdinal.{InOrder, Ordered, module-block, module-ordered}
 use Rattle.ob0_types_check.proofs.BlocksBound.{BindingsKnown, bindings_both, bindings_later, names_bind}
@@ -33,7 +33,7 @@ use Rattle.ob0_types_check.proofs.Unreported.{none-reported}
 
 -- holds if the meaning of an ordinal agrees with the object that the ordinal is bound to
 abbrev IsKnownAs : List Shape → List (Option (Meaning TypeId)) → ℕ → Option (meant.Object Shape Signature) → Type 0
-IsKnownAs shapes known k o = IsKnownAndAgrees (shape_in shapes) (slice_index_or known k None) o × (7 ≤ k → is_standard_procedure o ≡ false)
+IsKnownAs shapes known k o = IsKnownAndAgreesWithObject (shape_of_type_in shapes) (slice_index_or known k None) o × (7 ≤ k → is_standard_procedure o ≡ false)
 
 module _ (shapes : List Shape) (known : List (Option (Meaning TypeId))) where
   known_at : (noted : TypeNoted Name) (m : ℕ) → InOrder 0 m noted → BindingsKnown shapes known 0 m (typed_by_name noted) → (k : ℕ) → k < m → IsKnownAs shapes known k (object_of_ordinal (typed_by_ordinal noted) k)
@@ -54,7 +54,7 @@ none_at (b ∷ noted) m order k le =
     ∙ (ap (λ t. cond t (Some b.object) (object_of_ordinal (typed_by_ordinal noted) k)) (ne_eqb k b.ordinal (λ e. omega (arith, e, le, order.0)))
     ∙ none_at noted b.ordinal order.1 k (omega (arith, le, order.0)))
 
-holds_agree : (shape : TypeId → Option Shape) (m : Option (Meaning TypeId)) (o : Option (meant.Object Shape Signature)) → IsKnownAndAgrees shape m o → DeclarationAgrees shape m o
+holds_agree : (shape : TypeId → Option Shape) (m : Option (Meaning TypeId)) (o : Option (meant.Object Shape Signature)) → IsKnownAndAgreesWithObject shape m o → DeclarationAgreesWithObject shape m o
 holds_agree shape None o h = absurd h
 holds_agree shape (Some m) o h = h
 
@@ -73,10 +73,10 @@ module _ (shapes : List Shape) (known : List (Option (Meaning TypeId))) (m : ℕ
   past : (k : ℕ) → m ≤ k → (object_of_ordinal labels k ≡ None) × (slice_index_or known k None ≡ None)
   past k le = (ap (λ z. object_of_ordinal z k) all.by_label ∙ none_at all.noted m all.in_order k le, get_or_past known k None (subst (λ n. n ≤ k) (sym room) le))
 
-  every_agrees : (k : ℕ) → DeclarationAgrees (shape_in shapes) (slice_index_or known k None) (object_of_ordinal labels k)
+  every_agrees : (k : ℕ) → DeclarationAgreesWithObject (shape_of_type_in shapes) (slice_index_or known k None) (object_of_ordinal labels k)
   every_agrees k =
-      either k m (λ less. holds_agree (shape_in shapes) (slice_index_or known k None) (object_of_ordinal labels k) (below k less).0)
-      (λ le. subst (λ z. DeclarationAgrees (shape_in shapes) z (object_of_ordinal labels k)) (sym (past k le).1) (past k le).0)
+      either k m (λ less. holds_agree (shape_of_type_in shapes) (slice_index_or known k None) (object_of_ordinal labels k) (below k less).0)
+      (λ le. subst (λ z. DeclarationAgreesWithObject (shape_of_type_in shapes) z (object_of_ordinal labels k)) (sym (past k le).1) (past k le).0)
 
   every_own : (k : ℕ) → 7 ≤ k → is_standard_procedure (object_of_ordinal labels k) ≡ false
   every_own k own = either k m (λ less. (below k less).1 own) (λ le. ap is_standard_procedure (past k le).0)
@@ -100,14 +100,14 @@ predeclared_bound : (m : Tree Name module_text) → passes_type_check naming_by_
 predeclared_bound (is_module x b closing) h k less =
     first_bound 7 (ordinal_after_block 7 b) (block_bindings naming_by_spelling (outermost_environment naming_by_spelling) 0 b) (block_bindings naming_by_label (outermost_environment naming_by_label) 0 (relabel_block naming_by_spelling (label_from_ordinal naming_by_spelling) (typed_scope (typed_outermost naming_by_spelling)) 7 b)) (outermost_environment naming_by_label) (module-block x b closing h) k less
 
-pub walk_without_fault_finds_meanings-holds : WalkWithoutFaultFindsMeanings
-unfolding module_faults passes_type_check
-walk_without_fault_finds_meanings-holds r is h =
+pub walk_without_fault_finds_correct_meanings-holds : WalkWithoutFaultFindsCorrectMeanings
+unfolding undeclared_name_and_type_faults passes_type_check
+walk_without_fault_finds_correct_meanings-holds r is h =
     let m = r.module_read in
     let b : Tree ℕ block = module_block (tree_of m) in
     let last : ℕ = ordinal_after_block 7 b in
-    let q : KnownDeclarations = (reported_block (state_at_start r) b).known in
-    let a = none-reported (filter is_undeclared_fault r.faults) (reported_block (state_at_start r) b).faults h in
+    let q : KnownDeclarations = (report_on_block (state_at_start r) b).known in
+    let a = none-reported (filter is_undeclared_fault r.faults) (report_on_block (state_at_start r) b).faults h in
     let st = first_holds r in
     let f = block_reported (numbering_of r) parts_fit b 0 7 (state_at_start r) [] (predeclared_scope naming_by_spelling) (outermost_environment naming_by_spelling) refl st (module_placed r is a.0) a.1 in
     let first : BindingsKnown f.after q.declared 0 7 (outermost_environment naming_by_spelling) =

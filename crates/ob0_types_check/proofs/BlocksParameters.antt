@@ -17,11 +17,11 @@ use Rattle.ob0_language_types.specs.Expressions as meant
 use Rattle.ob0_language_types.specs.Typing.{constructor_count, denoted_type}
 use Rattle.ob0_language_types.specs.WellTyped.{Mode, Signature, TypeEnvironment, TypedParameter, bind_names, bind_typed_parameters, by_place, by_value, typed_parameters}
 use Rattle.ob0_language_values.specs.Values.{Shape}
-use Rattle.ob0_types_check.specs.DeclarationFaults.{KnownHeading, reported_parameters, reported_section, reported_sections, with_parameters}
+use Rattle.ob0_types_check.specs.DeclarationFaults.{KnownHeading, report_on_parameters, report_on_parameter_section, report_on_parameter_sections, with_parameters}
 use Rattle.ob0_types_check.specs.Known.{KnownParameter, Meaning, Reported, a_variable}
 use Rattle.ob0_types_check.specs.KnownDeclarations.{KnownDeclarations, TypeWithState, define, define_all}
-use Rattle.ob0_types_check.specs.WrittenTypeFaults.{reported_type}
-use Rattle.ob0_types_check.specs.Agreement.{FormalsAgree, IsKnownAndAgrees, shape_in}
+use Rattle.ob0_types_check.specs.WrittenTypeFaults.{report_on_written_type}
+use Rattle.ob0_types_check.specs.Agreement.{FormalsAgreeWithSignature, IsKnownAndAgreesWithObject, shape_of_type_in}
 use Rattle.ob0_types_check.proofs.BlocksDeclared.{more_constructors}
 use Rattle.ob0_types_check.proofs.MadeOnce.{Apart, apart_same, apart_then}
 use Rattle.ob0_types_check.proofs.PartsFitting.{PartsFit}
@@ -37,7 +37,7 @@ ParametersKnown shapes declared k [] [] = Unit {0}
 ParametersKnown shapes declared k [] (p ∷ ps) = ⊥
 ParametersKnown shapes declared k (x ∷ xs) [] = ⊥
 ParametersKnown shapes declared k (x ∷ xs) (p ∷ ps) =
-    (p.name ≡ x) × IsKnownAndAgrees (shape_in shapes) (slice_index_or declared k None) (Some (meant.a_variable p.formal.shape)) × ParametersKnown shapes declared (suc k) xs ps
+    (p.name ≡ x) × IsKnownAndAgreesWithObject (shape_of_type_in shapes) (slice_index_or declared k None) (Some (meant.a_variable p.formal.shape)) × ParametersKnown shapes declared (suc k) xs ps
 
 pub parameters_kept : (before after : List Shape) (old new : List (Option (Meaning TypeId))) (k m : ℕ) → Longer before after → ((j : ℕ) → k ≤ j → j < m → slice_index_or new j None ≡ slice_index_or old j None) → (xs : List Name) (ps : List (TypedParameter Name)) → ordinal_after_names k xs ≤ m
     → ParametersKnown before old k xs ps → ParametersKnown after new k xs ps
@@ -46,7 +46,7 @@ parameters_kept before after old new k m longer kept [] (p ∷ ps) le h = absurd
 parameters_kept before after old new k m longer kept (x ∷ xs) [] le h = absurd h
 parameters_kept before after old new k m longer kept (x ∷ xs) (p ∷ ps) le h = (
   h.0,
-  subst (λ o. IsKnownAndAgrees (shape_in after) o (Some (meant.a_variable p.formal.shape))) (sym (kept k (le_refl k) (le_trans (le-ordinal_after_names (suc k) xs) le))) (holds_kept before after longer (slice_index_or old k None) (Some (meant.a_variable p.formal.shape)) h.1),
+  subst (λ o. IsKnownAndAgreesWithObject (shape_of_type_in after) o (Some (meant.a_variable p.formal.shape))) (sym (kept k (le_refl k) (le_trans (le-ordinal_after_names (suc k) xs) le))) (holds_kept before after longer (slice_index_or old k None) (Some (meant.a_variable p.formal.shape)) h.1),
   parameters_kept before after old new (suc k) m longer (λ j from to. kept j (le_of_lt from) to) xs ps le h.2,
 )
 
@@ -66,7 +66,7 @@ parameters_both shapes declared k [] ys (p ∷ ps) qs h next = absurd h
 parameters_both shapes declared k (x ∷ xs) ys [] qs h next = absurd h
 parameters_both shapes declared k (x ∷ xs) ys (p ∷ ps) qs h next = (h.0, h.1, parameters_both shapes declared (suc k) xs ys ps qs h.2 next)
 
-formals_both : (shape : TypeId → Option Shape) (fs gs : List (KnownParameter TypeId)) (s t : Signature) → FormalsAgree shape fs s → FormalsAgree shape gs t → FormalsAgree shape (fs ++ gs) (s ++ t)
+formals_both : (shape : TypeId → Option Shape) (fs gs : List (KnownParameter TypeId)) (s t : Signature) → FormalsAgreeWithSignature shape fs s → FormalsAgreeWithSignature shape gs t → FormalsAgreeWithSignature shape (fs ++ gs) (s ++ t)
 formals_both shape [] gs [] t h next = next
 formals_both shape [] gs (a ∷ s) t h next = absurd h
 formals_both shape (f ∷ fs) gs [] t h next = absurd h
@@ -79,11 +79,11 @@ typed_as mode s x = record { name = x; formal = record { mode = mode; shape = s 
 abbrev pub formals_of : List (TypedParameter Name) → Signature
 formals_of ps = map (λ p. p.formal) ps
 
-formals_same : (shape : TypeId → Option Shape) (text : ℕ → Name) (by : Bool) (t : TypeId) (s : Shape) → shape t ≡ Some s → (xs : List ℕ) → FormalsAgree shape (map (λ x. record { by_place = by; of = t }) xs) (formals_of (map (typed_as (mode_of by) s) (map text xs)))
+formals_same : (shape : TypeId → Option Shape) (text : ℕ → Name) (by : Bool) (t : TypeId) (s : Shape) → shape t ≡ Some s → (xs : List ℕ) → FormalsAgreeWithSignature shape (map (λ x. record { by_place = by; of = t }) xs) (formals_of (map (typed_as (mode_of by) s) (map text xs)))
 formals_same shape text by t s e [] = tt
 formals_same shape text by t s e (x ∷ xs) = (refl, e, formals_same shape text by t s e xs)
 
-own_known : (w : Numbering) (p : KnownDeclarations) (shapes : List Shape) (n : ℕ) (scope : Scope Name) (env : TypeEnvironment Name) (mode : Mode) (t : TypeId) (s : Shape) (xs : List ℕ) → shape_in shapes t ≡ Some s → IsKnownAt w p shapes n scope env → NamesPlaced w n xs
+own_known : (w : Numbering) (p : KnownDeclarations) (shapes : List Shape) (n : ℕ) (scope : Scope Name) (env : TypeEnvironment Name) (mode : Mode) (t : TypeId) (s : Shape) (xs : List ℕ) → shape_of_type_in shapes t ≡ Some s → IsKnownAt w p shapes n scope env → NamesPlaced w n xs
     → ParametersKnown shapes (define_all p (a_variable t) xs).declared n (map (token_text_at w.source) xs) (map (typed_as mode s) (map (token_text_at w.source) xs))
 own_known w p shapes n scope env mode t s [] is st placed = tt
 own_known w p shapes n scope env mode t s (x ∷ xs) is st placed =
@@ -94,7 +94,7 @@ own_known w p shapes n scope env mode t s (x ∷ xs) is st placed =
     let rest = all_defined w q shapes (suc n) ((token_text_at w.source x, n) ∷ scope) ((token_text_at w.source x, o) ∷ env) (a_variable t) xs o next placed.1 refl (s, is, refl) in
     let slot : slice_index_or (define_all q (a_variable t) xs).declared n None ≡ Some (a_variable t) = rest.later.kept n (le_refl (suc n)) ∙ d.here in (
       refl,
-      subst (λ z. IsKnownAndAgrees (shape_in shapes) z (Some o)) (sym slot) (s, is, refl),
+      subst (λ z. IsKnownAndAgreesWithObject (shape_of_type_in shapes) z (Some o)) (sym slot) (s, is, refl),
       own_known w q shapes (suc n) ((token_text_at w.source x, n) ∷ scope) ((token_text_at w.source x, o) ∷ env) mode t s xs is next placed.1,
     )
 
@@ -107,7 +107,7 @@ pub record Parameters (n k l : ℕ) (h g : KnownHeading) (before : List Shape) (
   pub apart : Apart k l before after
   pub later : Later n h.following g.following before after
   pub own : ParametersKnown after g.following.declared n xs parameters
-  pub formals : (signature : Signature) → FormalsAgree (shape_in before) h.formals signature → FormalsAgree (shape_in after) g.formals (signature ++ formals_of parameters)
+  pub formals : (signature : Signature) → FormalsAgreeWithSignature (shape_of_type_in before) h.formals signature → FormalsAgreeWithSignature (shape_of_type_in after) g.formals (signature ++ formals_of parameters)
 
 -- holds if a section of parameters has a type and its parameters agree with the state after it
 pub record OneType (w : Numbering) (n m k l : ℕ) (h g : KnownHeading) (before : List Shape) (scope : Scope Name) (env : TypeEnvironment Name) (mode : Mode) (xs : List Name) (given : Option Shape) : Type 0 where
@@ -118,13 +118,13 @@ pub record OneType (w : Numbering) (n m k l : ℕ) (h g : KnownHeading) (before 
   pub later : Later n h.following g.following before after
   pub holds : IsKnownAt w g.following after m scope (bind_names xs (meant.a_variable shape) env)
   pub own : ParametersKnown after g.following.declared n xs (map (typed_as mode shape) xs)
-  pub formals : (signature : Signature) → FormalsAgree (shape_in before) h.formals signature → FormalsAgree (shape_in after) g.formals (signature ++ formals_of (map (typed_as mode shape) xs))
+  pub formals : (signature : Signature) → FormalsAgreeWithSignature (shape_of_type_in before) h.formals signature → FormalsAgreeWithSignature (shape_of_type_in after) g.formals (signature ++ formals_of (map (typed_as mode shape) xs))
 
 module _ (w : Numbering) (fit : PartsFit) where
-  pub one_type : (by : Bool) (xs : List ℕ) (t : Tree ℕ written_type) (k n : ℕ) (h : KnownHeading) (before : List Shape) (scope : Scope Name) (env : TypeEnvironment Name) → length before ≡ k → IsKnownAt w h.following before n scope env → NamesPlaced w n xs → AreSeen w scope t → (reported_type 0 h.following t).faults ≡ []
-      → OneType w n (ordinal_after_names n xs) k (k + constructor_count (tree_with_names w.source t)) h (with_parameters h by xs (reported_type 0 h.following t).known) before (scope_following w n xs scope) env (mode_of by) (map (token_text_at w.source) xs) (denoted_type (meanings naming_by_spelling env) k (tree_with_names w.source t))
+  pub one_type : (by : Bool) (xs : List ℕ) (t : Tree ℕ written_type) (k n : ℕ) (h : KnownHeading) (before : List Shape) (scope : Scope Name) (env : TypeEnvironment Name) → length before ≡ k → IsKnownAt w h.following before n scope env → NamesPlaced w n xs → AreSeen w scope t → (report_on_written_type 0 h.following t).faults ≡ []
+      → OneType w n (ordinal_after_names n xs) k (k + constructor_count (tree_with_names w.source t)) h (with_parameters h by xs (report_on_written_type 0 h.following t).known) before (scope_following w n xs scope) env (mode_of by) (map (token_text_at w.source) xs) (denoted_type (meanings naming_by_spelling env) k (tree_with_names w.source t))
   one_type by xs t k n h before scope env at st placed seen none =
-      let u : TypeWithState = (reported_type 0 h.following t).known in
+      let u : TypeWithState = (report_on_written_type 0 h.following t).known in
       let s = type_denotes w fit n scope env 0 k t h.following before (omega (arith, at)) st seen none in
       let following = holds_later w n n n h.following u.following before s.after scope env (le_refl n) (le_refl n) st s.later in
       let all = all_defined w u.following s.after n scope env (a_variable u.of) xs (meant.a_variable s.shape) following placed refl (s.shape, s.known, refl) in
@@ -136,8 +136,8 @@ module _ (w : Numbering) (fit : PartsFit) where
         later = later_then n n h.following u.following (define_all u.following (a_variable u.of) xs) before s.after s.after (le_refl n) s.later all.later;
         holds = all.holds;
         own = own_known w u.following s.after n scope env (mode_of by) u.of s.shape xs s.known following placed;
-        formals = λ signature agree. formals_both (shape_in s.after) h.formals (map (λ x. record { by_place = by; of = u.of }) xs) signature (formals_of (map (typed_as (mode_of by) s.shape) (map (token_text_at w.source) xs)))
-            (formals_kept before s.after s.later.longer h.formals signature agree) (formals_same (shape_in s.after) (token_text_at w.source) by u.of s.shape s.known xs);
+        formals = λ signature agree. formals_both (shape_of_type_in s.after) h.formals (map (λ x. record { by_place = by; of = u.of }) xs) signature (formals_of (map (typed_as (mode_of by) s.shape) (map (token_text_at w.source) xs)))
+            (formals_kept before s.after s.later.longer h.formals signature agree) (formals_same (shape_of_type_in s.after) (token_text_at w.source) by u.of s.shape s.known xs);
       }
 
   -- If a section's parameters and the further sections' parameters have types, all of them together do.
@@ -159,13 +159,13 @@ module _ (w : Numbering) (fit : PartsFit) where
         own = parameters_both rest.after l.following.declared n (map (token_text_at w.source) xs) ys own rest.parameters
             (parameters_kept one.after rest.after g.following.declared l.following.declared n last rest.later.longer (λ j from to. rest.later.kept j (subst (λ m. j < m) same to)) (map (token_text_at w.source) xs) own (le_refl last) one.own)
             (subst (λ m. ParametersKnown rest.after l.following.declared m ys rest.parameters) (sym same) rest.own);
-        formals = λ signature agree. subst (FormalsAgree (shape_in rest.after) l.formals) (append_assoc signature (formals_of own) (formals_of rest.parameters) ∙ ap (λ z. signature ++ z) (sym (map-append (λ p. p.formal) own rest.parameters)))
+        formals = λ signature agree. subst (FormalsAgreeWithSignature (shape_of_type_in rest.after) l.formals) (append_assoc signature (formals_of own) (formals_of rest.parameters) ∙ ap (λ z. signature ++ z) (sym (map-append (λ p. p.formal) own rest.parameters)))
             (rest.formals (signature ++ formals_of own) (one.formals signature agree));
       }
 
-  pub sections_declare : (fs : Tree ℕ (items further_section)) (k n : ℕ) (h : KnownHeading) (before : List Shape) (scope : Scope Name) (env : TypeEnvironment Name) → length before ≡ k → IsKnownAt w h.following before n scope env → SectionsPlaced w scope n fs → (reported_sections h fs).faults ≡ []
-      → Parameters n k (k + formals_constructor_count (tree_with_names w.source fs)) h (reported_sections h fs).known before (map (token_text_at w.source) (formal_names fs)) (typed_parameters naming_by_spelling env k (tree_with_names w.source fs))
-  unfolding reported_sections reported_section reported_parameters typed_parameters
+  pub sections_declare : (fs : Tree ℕ (items further_section)) (k n : ℕ) (h : KnownHeading) (before : List Shape) (scope : Scope Name) (env : TypeEnvironment Name) → length before ≡ k → IsKnownAt w h.following before n scope env → SectionsPlaced w scope n fs → (report_on_parameter_sections h fs).faults ≡ []
+      → Parameters n k (k + formals_constructor_count (tree_with_names w.source fs)) h (report_on_parameter_sections h fs).known before (map (token_text_at w.source) (formal_names fs)) (typed_parameters naming_by_spelling env k (tree_with_names w.source fs))
+  unfolding report_on_parameter_sections report_on_parameter_section report_on_parameters typed_parameters
   sections_declare end k n h before scope env at st placed none = record {
     parameters = [];
     given_is = refl;
@@ -173,29 +173,29 @@ module _ (w : Numbering) (fit : PartsFit) where
     apart = apart_same k (k + 0) before (omega arith);
     later = later_same n h.following before st.table;
     own = tt;
-    formals = λ signature agree. subst (FormalsAgree (shape_in before) h.formals) (sym (append-nil signature)) agree;
+    formals = λ signature agree. subst (FormalsAgreeWithSignature (shape_of_type_in before) h.formals) (sym (append-nil signature)) agree;
   }
   sections_declare (more (then_section (value_section ns t)) fs) k n h before scope env at st placed none =
       let xs : List ℕ = names_in_list ns in
-      let u : Reported TypeWithState = reported_type 0 h.following t in
+      let u : Reported TypeWithState = report_on_written_type 0 h.following t in
       let g : KnownHeading = with_parameters h false xs u.known in
-      let a = none-reported (u.faults ++ []) (reported_sections g fs).faults none in
+      let a = none-reported (u.faults ++ []) (report_on_parameter_sections g fs).faults none in
       let one = one_type false xs t k n h before scope env at st placed.0 placed.1 (none-reported u.faults [] a.0).0 in
       let rest = sections_declare fs (k + constructor_count (tree_with_names w.source t)) (ordinal_after_names n xs) g one.after (scope_following w n xs scope) (bind_names (map (token_text_at w.source) xs) (meant.a_variable one.shape) env) (omega (arith, at, one.apart.counted)) one.holds placed.2 a.1 in
       let own : ℕ = constructor_count (tree_with_names w.source t) in
       let others : ℕ = formals_constructor_count (tree_with_names w.source fs) in
-      subst₂ (λ l ys. Parameters n k l h (reported_sections g fs).known before ys (typed_parameters naming_by_spelling env k (tree_with_names w.source (more (then_section (value_section ns t)) fs)))) (more_constructors k own others) (sym (map-append (token_text_at w.source) xs (formal_names fs)))
-      (parameters_then by_value xs (names_in_list (tree_with_names w.source ns)) (map (token_text_at w.source) (formal_names fs)) n k (k + own) (k + own + others) h g (reported_sections g fs).known before scope env (denoted_type (meanings naming_by_spelling env) k (tree_with_names w.source t))
+      subst₂ (λ l ys. Parameters n k l h (report_on_parameter_sections g fs).known before ys (typed_parameters naming_by_spelling env k (tree_with_names w.source (more (then_section (value_section ns t)) fs)))) (more_constructors k own others) (sym (map-append (token_text_at w.source) xs (formal_names fs)))
+      (parameters_then by_value xs (names_in_list (tree_with_names w.source ns)) (map (token_text_at w.source) (formal_names fs)) n k (k + own) (k + own + others) h g (report_on_parameter_sections g fs).known before scope env (denoted_type (meanings naming_by_spelling env) k (tree_with_names w.source t))
       (λ e. typed_parameters naming_by_spelling e (k + constructor_count (tree_with_names w.source t)) (tree_with_names w.source fs)) (names_in_list-mapped_tree (token_text_at w.source) (token_value_at w.source) ns) one rest)
   sections_declare (more (then_section (variable_section ns t)) fs) k n h before scope env at st placed none =
       let xs : List ℕ = names_in_list ns in
-      let u : Reported TypeWithState = reported_type 0 h.following t in
+      let u : Reported TypeWithState = report_on_written_type 0 h.following t in
       let g : KnownHeading = with_parameters h true xs u.known in
-      let a = none-reported (u.faults ++ []) (reported_sections g fs).faults none in
+      let a = none-reported (u.faults ++ []) (report_on_parameter_sections g fs).faults none in
       let one = one_type true xs t k n h before scope env at st placed.0 placed.1 (none-reported u.faults [] a.0).0 in
       let rest = sections_declare fs (k + constructor_count (tree_with_names w.source t)) (ordinal_after_names n xs) g one.after (scope_following w n xs scope) (bind_names (map (token_text_at w.source) xs) (meant.a_variable one.shape) env) (omega (arith, at, one.apart.counted)) one.holds placed.2 a.1 in
       let own : ℕ = constructor_count (tree_with_names w.source t) in
       let others : ℕ = formals_constructor_count (tree_with_names w.source fs) in
-      subst₂ (λ l ys. Parameters n k l h (reported_sections g fs).known before ys (typed_parameters naming_by_spelling env k (tree_with_names w.source (more (then_section (variable_section ns t)) fs)))) (more_constructors k own others) (sym (map-append (token_text_at w.source) xs (formal_names fs)))
-      (parameters_then by_place xs (names_in_list (tree_with_names w.source ns)) (map (token_text_at w.source) (formal_names fs)) n k (k + own) (k + own + others) h g (reported_sections g fs).known before scope env (denoted_type (meanings naming_by_spelling env) k (tree_with_names w.source t))
+      subst₂ (λ l ys. Parameters n k l h (report_on_parameter_sections g fs).known before ys (typed_parameters naming_by_spelling env k (tree_with_names w.source (more (then_section (variable_section ns t)) fs)))) (more_constructors k own others) (sym (map-append (token_text_at w.source) xs (formal_names fs)))
+      (parameters_then by_place xs (names_in_list (tree_with_names w.source ns)) (map (token_text_at w.source) (formal_names fs)) n k (k + own) (k + own + others) h g (report_on_parameter_sections g fs).known before scope env (denoted_type (meanings naming_by_spelling env) k (tree_with_names w.source t))
       (λ e. typed_parameters naming_by_spelling e (k + constructor_count (tree_with_names w.source t)) (tree_with_names w.source fs)) (names_in_list-mapped_tree (token_text_at w.source) (token_value_at w.source) ns) one rest)

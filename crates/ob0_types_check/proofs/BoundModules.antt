@@ -8,7 +8,7 @@ use Rattle.ob0_tree.specs.ParsedModule.{named_tree_of, tree_of}
 use Rattle.ob0_tree.specs.Tree.{Tree, begins, block, body, constant, constants, declares, declares_constant, declares_constants, declares_procedure, declares_type, declares_types, declares_variable, declares_variables, end, formals, further_section, forms_block, is_module, item, items, maybe, module_text, more, no_formals, none, occurrences, one, procedure, section, some_formals, then_section, type_definition, type_definitions, value_section, variable, variable_section, variables}
 use Rattle.ob0_language_names.specs.Names.{Label, Naming, naming_by_label, as_written, declared}
 use Rattle.ob0_language_names.specs.Occurrences.{bindings}
-use Rattle.ob0_language_names.specs.Parts.{formal_sections, names_in_list, procedure_formals, procedure_name, section_constants, section_names, section_type, section_types, section_variables}
+use Rattle.ob0_language_names.specs.Parts.{formal_sections, names_in_list, procedure_formals, procedure_name, section_constants, parameter_section_names, parameter_section_type, section_types, section_variables}
 use Rattle.ob0_scope_table.specs.Resolution.{is_unbound, span_at, undeclared_faults_by_labels}
 use Rattle.ob0_language_names.specs.Scopes.{numbered}
 use Rattle.ob0_language_types.specs.Declarations.{constructors_before_variables, constructors_before_procedures, declare_constants, declare_constants_and_types, declare_types, formals_constructor_count, procedure_constructor_count}
@@ -47,7 +47,7 @@ module _ {N : Type 0} (P : N → Type 0) (naming : Naming N) (bound : (env : Typ
       each-of-both P (occurrences u) (occurrences gs) (type-bound P (meanings naming env) (bound env) k u s hs)
       (variables-bound gs (k + constructor_count u) (bind_names (names_in_list ns) (a_variable s) env) after later)
 
-  section-bound : (f : Tree N section) → Each P (occurrences (section_type f)) → Each P (occurrences f)
+  section-bound : (f : Tree N section) → Each P (occurrences (parameter_section_type f)) → Each P (occurrences f)
   section-bound (value_section ns t) h = h
   section-bound (variable_section ns t) h = h
 
@@ -55,12 +55,12 @@ module _ {N : Type 0} (P : N → Type 0) (naming : Naming N) (bound : (env : Typ
   unfolding typed_parameters
   sections-bound end k env ps h = tt
   sections-bound (more (then_section f) fs) k env ps h =
-      let inner : Shape → TypeEnvironment N = λ s. bind_names (section_names f) (a_variable s) env in
-      let own : Shape → List (TypedParameter N) = λ s. map (λ x. record { name = x; formal = record { mode = section_mode f; shape = s } }) (section_names f) in
-      let (s, hs, later) = and-then (λ s. option_and_then (λ rest. Some (own s ++ rest)) (typed_parameters naming (inner s) (k + constructor_count (section_type f)) fs)) (denoted_type (meanings naming env) k (section_type f)) ps h in
-      let (rest, hr, last) = and-then (λ rest. Some (own s ++ rest)) (typed_parameters naming (inner s) (k + constructor_count (section_type f)) fs) ps later in
-      each-of-both P (occurrences f) (occurrences fs) (section-bound f (type-bound P (meanings naming env) (bound env) k (section_type f) s hs))
-      (sections-bound fs (k + constructor_count (section_type f)) (inner s) rest hr)
+      let inner : Shape → TypeEnvironment N = λ s. bind_names (parameter_section_names f) (a_variable s) env in
+      let own : Shape → List (TypedParameter N) = λ s. map (λ x. record { name = x; formal = record { mode = section_mode f; shape = s } }) (parameter_section_names f) in
+      let (s, hs, later) = and-then (λ s. option_and_then (λ rest. Some (own s ++ rest)) (typed_parameters naming (inner s) (k + constructor_count (parameter_section_type f)) fs)) (denoted_type (meanings naming env) k (parameter_section_type f)) ps h in
+      let (rest, hr, last) = and-then (λ rest. Some (own s ++ rest)) (typed_parameters naming (inner s) (k + constructor_count (parameter_section_type f)) fs) ps later in
+      each-of-both P (occurrences f) (occurrences fs) (section-bound f (type-bound P (meanings naming env) (bound env) k (parameter_section_type f) s hs))
+      (sections-bound fs (k + constructor_count (parameter_section_type f)) (inner s) rest hr)
 
   -- If each name of a section has a property, so does each name of the section as an optional part.
   constant-section : (cs : Tree N (maybe constants)) → Each P (occurrences (section_constants cs)) → Each P (occurrences cs)

@@ -4,9 +4,9 @@ use Rattle.std.proofs.Common.{◌≡◌, ℕ, suc, ◌+◌, true, true≢false, 
 use Rattle.std.proofs.lemmas.Bool.{and_parts}
 use Rattle.ob0_language_names.specs.Parts.{names_in_list}
 use Rattle.ob0_tree.specs.Tree.{Tree, addend, adds, arguments, array_type, assigns, branches, calls, compares, designator, else_branch, else_part, elsif_branch, elsif_part, empty, end, expression, factor, field, fields, further_argument, further_fields, further_statement, index, integer, items, maybe, more, multiplier, multiplies, named_type, negation, no_arguments, no_fields, none, occurrences, one, parenthesised, product, record_type, relates, repeat_loop, runs, selector, sequence, simple, some_arguments, some_fields, statement, sum, term, then_argument, then_fields, then_statement, while_loop, written_type}
-use Rattle.ob0_language_types.specs.Arguments.{arguments_listed, further_arguments}
+use Rattle.ob0_language_types.specs.Arguments.{call_arguments, further_arguments}
 use Rattle.ob0_language_types.specs.Expressions.{Meanings, Object, a_constant, a_procedure, a_standard, a_type, a_variable, evaluate}
-use Rattle.ob0_language_types.specs.Typing.{addition_type, array_length, negation_type, constant_of, constant_value, constant_meanings, denoted_type, denoted_group_fields, denoted_further_fields, lone_designator, element_type, field_type, outcome_value, group_constructor_count, multiplication_type, type_of_variable_or_constant, relation_type, sign_type, type_after_selectors, type_of, type_of_addends, type_of_factor, type_of_multipliers, type_of_name, type_of_simple, type_of_term, prepend_fields, type_within_limits}
+use Rattle.ob0_language_types.specs.Typing.{addition_type, array_length, negation_type, constant_of, constant_value, constant_meanings, denoted_type, denoted_group_fields, denoted_further_fields, lone_designator, element_type, field_type, outcome_value, group_constructor_count, multiplication_type, type_of_variable_or_constant, relation_type, sign_type, type_after_selectors, type_of, type_of_addends, type_of_factor, type_of_multipliers, type_of_type_object, type_of_simple, type_of_term, prepend_fields, type_within_limits}
 use Rattle.ob0_language_types.specs.WellTyped.{FormalParameter, Mode, Signature, TypeMeanings, same_known_shape, argument_matches, arguments_match, by_place, by_value, call_is_well_typed, condition_is_boolean, else_is_well_typed, elsifs_are_well_typed, sequence_is_well_typed, signature_of, statement_is_well_typed, further_statements_are_well_typed, variable_type}
 use Rattle.ob0_language_types.proofs.Conditions.{same_known_shape-true}
 use Rattle.ob0_language_values.specs.Values.{FieldShapes, Shape, Value, array_shape, boolean_shape, record_shape}
@@ -93,7 +93,7 @@ module _ {N V Q : Type 0} (P : N → Type 0) (meaning : Meanings N V Q) (bound :
     unfolding denoted_type
 
     pub type-bound : (k : ℕ) (t : Tree N written_type) (s : Shape) → denoted_type meaning k t ≡ Some s → Each P (occurrences t)
-    type-bound k (named_type x) s h = let (o, ho) = name-of type_of_name refl (meaning.object_for x) s h in (bound x o ho, tt)
+    type-bound k (named_type x) s h = let (o, ho) = name-of type_of_type_object refl (meaning.object_for x) s h in (bound x o ho, tt)
     type-bound k (array_type e t) s h =
         let (v, hv, later) = and-then (λ v. option_and_then (λ n. option_and_then (λ s. type_within_limits (array_shape k n s)) (denoted_type meaning (suc k) t)) (array_length v)) (constant_value meaning e) s h in
         let (n, hn, last) = and-then (λ n. option_and_then (λ s. type_within_limits (array_shape k n s)) (denoted_type meaning (suc k) t)) (array_length v) s later in
@@ -170,20 +170,20 @@ module _ {N : Type 0} (P : N → Type 0) (meaning : TypeMeanings N) (bound : (x 
   further-listed end h = tt
   further-listed (more (then_argument e) es) h = each-of-both P (occurrences e) (occurrences es) h.0 (further-listed es h.1)
 
-  all-listed : (es : Tree N (maybe arguments)) → EachBound (arguments_listed es) → Each P (occurrences es)
+  all-listed : (es : Tree N (maybe arguments)) → EachBound (call_arguments es) → Each P (occurrences es)
   all-listed none h = tt
   all-listed (one no_arguments) h = tt
   all-listed (one (some_arguments e es)) h = each-of-both P (occurrences e) (occurrences es) h.0 (further-listed es h.1)
 
-  call-bound : (x : N) (es : Tree N (maybe arguments)) → call_is_well_typed meaning (signature_of (meaning.object_for x)) (arguments_listed es) ≡ true → Each P (occurrences (calls x es))
+  call-bound : (x : N) (es : Tree N (maybe arguments)) → call_is_well_typed meaning (signature_of (meaning.object_for x)) (call_arguments es) ≡ true → Each P (occurrences (calls x es))
   unfolding call_is_well_typed
   call-bound x es h = by-signature (signature_of (meaning.object_for x)) refl h
     where
-      by-signature : (s : Option Signature) → signature_of (meaning.object_for x) ≡ s → call_is_well_typed meaning s (arguments_listed es) ≡ true → Each P (occurrences (calls x es))
+      by-signature : (s : Option Signature) → signature_of (meaning.object_for x) ≡ s → call_is_well_typed meaning s (call_arguments es) ≡ true → Each P (occurrences (calls x es))
       by-signature None e h = absurd (true≢false (sym h))
       by-signature (Some signature) e h =
           let (o, ho) = name-of signature_of refl (meaning.object_for x) signature e in
-          (bound x o ho, all-listed es (arguments-bound signature (arguments_listed es) h))
+          (bound x o ho, all-listed es (arguments-bound signature (call_arguments es) h))
 
   mutual
     unfolding statement_is_well_typed

@@ -23,24 +23,24 @@ use Rattle.ob0_language_types.specs.WellTyped.{Signature, TypeEnvironment, bind_
 use Rattle.ob0_language_values.specs.Values.{Shape}
 use Rattle.ob0_types_check.specs.Known.{KnownParameter, Meaning, a_constant, a_procedure, a_type, a_variable}
 use Rattle.ob0_types_check.specs.KnownDeclarations.{KnownDeclarations, define, define_all, facts_at, with_meaning}
-use Rattle.ob0_types_check.specs.Agreement.{TypesAndMeaningsAgree, FormalsAgree, MeaningAgrees, IsKnownAndAgrees, TableAgrees, TokensAgree, is_standard_procedure, shape_in}
+use Rattle.ob0_types_check.specs.Agreement.{TypesAndMeaningsAgree, FormalsAgreeWithSignature, MeaningAgreesWithObject, IsKnownAndAgreesWithObject, TableAgreesWithShapes, TokensAgreeWithLabels, is_standard_procedure, shape_of_type_in}
 use Rattle.ob0_types_check.proofs.PartsFitting.{PartsFit}
 use Rattle.ob0_types_check.proofs.DeclaredNames.{AreSeen, Each, IsPlaced, IsSeen, NamesPlaced, Numbering, scope_following}
 use Rattle.ob0_types_check.proofs.DeclaredShapes.{Longer, longer_same, longer_then}
 
-pub formals_kept : (before after : List Shape) → Longer before after → (fs : List (KnownParameter TypeId)) (gs : Signature) → FormalsAgree (shape_in before) fs gs → FormalsAgree (shape_in after) fs gs
+pub formals_kept : (before after : List Shape) → Longer before after → (fs : List (KnownParameter TypeId)) (gs : Signature) → FormalsAgreeWithSignature (shape_of_type_in before) fs gs → FormalsAgreeWithSignature (shape_of_type_in after) fs gs
 formals_kept before after longer [] [] h = tt
 formals_kept before after longer [] (g ∷ gs) h = absurd h
 formals_kept before after longer (f ∷ fs) [] h = absurd h
 formals_kept before after longer (f ∷ fs) (g ∷ gs) h = (h.0, longer f.of g.shape h.1, formals_kept before after longer fs gs h.2)
 
-meaning_kept : (before after : List Shape) → Longer before after → (m : Meaning TypeId) (o : Option (meant.Object Shape Signature)) → MeaningAgrees (shape_in before) m o → MeaningAgrees (shape_in after) m o
+meaning_kept : (before after : List Shape) → Longer before after → (m : Meaning TypeId) (o : Option (meant.Object Shape Signature)) → MeaningAgreesWithObject (shape_of_type_in before) m o → MeaningAgreesWithObject (shape_of_type_in after) m o
 meaning_kept before after longer (a_type t) o (s, e, h) = (s, longer t s e, h)
 meaning_kept before after longer (a_constant c) o h = h
 meaning_kept before after longer (a_variable t) o (s, e, h) = (s, longer t s e, h)
 meaning_kept before after longer (a_procedure fs) o (signature, e, h) = (signature, e, formals_kept before after longer fs signature h)
 
-pub holds_kept : (before after : List Shape) → Longer before after → (m : Option (Meaning TypeId)) (o : Option (meant.Object Shape Signature)) → IsKnownAndAgrees (shape_in before) m o → IsKnownAndAgrees (shape_in after) m o
+pub holds_kept : (before after : List Shape) → Longer before after → (m : Option (Meaning TypeId)) (o : Option (meant.Object Shape Signature)) → IsKnownAndAgreesWithObject (shape_of_type_in before) m o → IsKnownAndAgreesWithObject (shape_of_type_in after) m o
 holds_kept before after longer None o h = absurd h
 holds_kept before after longer (Some m) o h = meaning_kept before after longer m o h
 
@@ -51,7 +51,7 @@ NamesKnown shapes declared n [] [] = Unit {0}
 NamesKnown shapes declared n [] (c ∷ env) = ⊥
 NamesKnown shapes declared n (b ∷ scope) [] = ⊥
 NamesKnown shapes declared n (b ∷ scope) (c ∷ env) =
-    (b.1 < n) × (c.0 ≡ b.0) × IsKnownAndAgrees (shape_in shapes) (slice_index_or declared b.1 None) (Some c.1) × (7 ≤ b.1 → is_standard_procedure (Some c.1) ≡ false) × NamesKnown shapes declared n scope env
+    (b.1 < n) × (c.0 ≡ b.0) × IsKnownAndAgreesWithObject (shape_of_type_in shapes) (slice_index_or declared b.1 None) (Some c.1) × (7 ≤ b.1 → is_standard_procedure (Some c.1) ≡ false) × NamesKnown shapes declared n scope env
 
 pub names_later : (before after : List Shape) (old new : List (Option (Meaning TypeId))) (n m : ℕ) → Longer before after → ((k : ℕ) → k < n → slice_index_or new k None ≡ slice_index_or old k None) → n ≤ m → (scope : Scope Name) (env : TypeEnvironment Name) → NamesKnown before old n scope env → NamesKnown after new m scope env
 names_later before after old new n m longer kept le [] [] h = tt
@@ -60,22 +60,22 @@ names_later before after old new n m longer kept le (b ∷ scope) [] h = absurd 
 names_later before after old new n m longer kept le (b ∷ scope) (c ∷ env) h = (
   le_trans h.0 le,
   h.1,
-  subst (λ o. IsKnownAndAgrees (shape_in after) o (Some c.1)) (sym (kept b.1 h.0)) (holds_kept before after longer (slice_index_or old b.1 None) (Some c.1) h.2),
+  subst (λ o. IsKnownAndAgreesWithObject (shape_of_type_in after) o (Some c.1)) (sym (kept b.1 h.0)) (holds_kept before after longer (slice_index_or old b.1 None) (Some c.1) h.2),
   h.3,
   names_later before after old new n m longer kept le scope env h.4,
 )
 
 -- holds if the meaning of the ordinal agrees with the first object of the environment
 abbrev FoundAlike : List Shape → List (Option (Meaning TypeId)) → TypeEnvironment Name → ℕ → Type 0
-FoundAlike shapes declared env k = IsKnownAndAgrees (shape_in shapes) (slice_index_or declared k None) (newest_object env)
+FoundAlike shapes declared env k = IsKnownAndAgreesWithObject (shape_of_type_in shapes) (slice_index_or declared k None) (newest_object env)
 
-first_found : (shapes : List Shape) (declared : List (Option (Meaning TypeId))) (j k : ℕ) (c : Name × meant.Object Shape Signature) (env below : TypeEnvironment Name) (v : Bool) (o : Option ℕ) → IsKnownAndAgrees (shape_in shapes) (slice_index_or declared j None) (Some c.1)
+first_found : (shapes : List Shape) (declared : List (Option (Meaning TypeId))) (j k : ℕ) (c : Name × meant.Object Shape Signature) (env below : TypeEnvironment Name) (v : Bool) (o : Option ℕ) → IsKnownAndAgreesWithObject (shape_of_type_in shapes) (slice_index_or declared j None) (Some c.1)
     → (o ≡ Some k → FoundAlike shapes declared below k) → (elim v [ true ↦ Some j | false ↦ o ]) ≡ Some k → FoundAlike shapes declared (elim v [ true ↦ c ∷ env | false ↦ below ]) k
-first_found shapes declared j k c env below true o h next e = subst (λ i. IsKnownAndAgrees (shape_in shapes) (slice_index_or declared i None) (Some c.1)) (ap (λ u. elim u [ None ↦ j | Some i ↦ i ]) e) h
+first_found shapes declared j k c env below true o h next e = subst (λ i. IsKnownAndAgreesWithObject (shape_of_type_in shapes) (slice_index_or declared i None) (Some c.1)) (ap (λ u. elim u [ None ↦ j | Some i ↦ i ]) e) h
 first_found shapes declared j k c env below false o h next e = next e
 
 name_found : (shapes : List Shape) (declared : List (Option (Meaning TypeId))) (n : ℕ) (scope : Scope Name) (env : TypeEnvironment Name) → NamesKnown shapes declared n scope env → (x : Name) (k : ℕ) → ordinal_of naming_by_spelling scope x ≡ Some k
-    → IsKnownAndAgrees (shape_in shapes) (slice_index_or declared k None) (newest_object (environment_from_binding naming_by_spelling env x))
+    → IsKnownAndAgreesWithObject (shape_of_type_in shapes) (slice_index_or declared k None) (newest_object (environment_from_binding naming_by_spelling env x))
 name_found shapes declared n [] [] h x k e = absurd (cc)
 name_found shapes declared n [] (c ∷ env) h x k e = absurd h
 name_found shapes declared n (b ∷ scope) [] h x k e = absurd h
@@ -88,7 +88,7 @@ pub record IsKnownAt (w : Numbering) (p : KnownDeclarations) (shapes : List Shap
   pub source : p.source ≡ w.source
   pub ordinals : p.ordinals ≡ w.ordinals
   pub room : length p.declared ≡ w.room
-  pub table : TableAgrees p.made shapes
+  pub table : TableAgreesWithShapes p.made shapes
   pub names : NamesKnown shapes p.declared n scope env
 
 -- holds if `q` is a later state: declarations below the ordinal `n` are unchanged, and types keep their shapes
@@ -98,9 +98,9 @@ pub record Later (n : ℕ) (p q : KnownDeclarations) (before after : List Shape)
   pub room : length q.declared ≡ length p.declared
   pub kept : (k : ℕ) → k < n → slice_index_or q.declared k None ≡ slice_index_or p.declared k None
   pub longer : Longer before after
-  pub table : TableAgrees q.made after
+  pub table : TableAgreesWithShapes q.made after
 
-pub later_same : (n : ℕ) (p : KnownDeclarations) (shapes : List Shape) → TableAgrees p.made shapes → Later n p p shapes shapes
+pub later_same : (n : ℕ) (p : KnownDeclarations) (shapes : List Shape) → TableAgreesWithShapes p.made shapes → Later n p p shapes shapes
 later_same n p shapes table = record { source = refl; ordinals = refl; room = refl; kept = λ k less. refl; longer = longer_same shapes; table = table }
 
 pub later_then : (n m : ℕ) (p q r : KnownDeclarations) (a b c : List Shape) → n ≤ m → Later n p q a b → Later m q r b c → Later n p r a c
@@ -140,7 +140,7 @@ pub record Defined (w : Numbering) (p q : KnownDeclarations) (shapes : List Shap
   pub here : slice_index_or q.declared n None ≡ Some m
   pub others : (k : ℕ) → k ≢ n → slice_index_or q.declared k None ≡ slice_index_or p.declared k None
 
-pub defined : (w : Numbering) (p : KnownDeclarations) (shapes : List Shape) (n : ℕ) (m : Meaning TypeId) (x : ℕ) → p.ordinals ≡ w.ordinals → length p.declared ≡ w.room → TableAgrees p.made shapes → IsPlaced w n x → Defined w p (define p m x) shapes n m
+pub defined : (w : Numbering) (p : KnownDeclarations) (shapes : List Shape) (n : ℕ) (m : Meaning TypeId) (x : ℕ) → p.ordinals ≡ w.ordinals → length p.declared ≡ w.room → TableAgreesWithShapes p.made shapes → IsPlaced w n x → Defined w p (define p m x) shapes n m
 defined w p shapes n m x ordinals room table placed =
     let q : KnownDeclarations = record { source = p.source; ordinals = p.ordinals; declared = slice_set p.declared n (Some m); made = p.made } in
     let at : ordinal_in p.ordinals x ≡ Some n = ap (λ o. ordinal_in o x) ordinals ∙ placed.0 in
@@ -158,7 +158,7 @@ defined w p shapes n m x ordinals room table placed =
       others = λ k other. other_kept p.declared (Some m) n k other;
     })
 
-pub holds_defined : (w : Numbering) (p q : KnownDeclarations) (shapes : List Shape) (n : ℕ) (scope : Scope Name) (env : TypeEnvironment Name) (m : Meaning TypeId) (x : Name) (o : meant.Object Shape Signature) → IsKnownAt w p shapes n scope env → Defined w p q shapes n m → is_standard_procedure (Some o) ≡ false → MeaningAgrees (shape_in shapes) m (Some o)
+pub holds_defined : (w : Numbering) (p q : KnownDeclarations) (shapes : List Shape) (n : ℕ) (scope : Scope Name) (env : TypeEnvironment Name) (m : Meaning TypeId) (x : Name) (o : meant.Object Shape Signature) → IsKnownAt w p shapes n scope env → Defined w p q shapes n m → is_standard_procedure (Some o) ≡ false → MeaningAgreesWithObject (shape_of_type_in shapes) m (Some o)
     → IsKnownAt w q shapes (suc n) ((x, n) ∷ scope) ((x, o) ∷ env)
 holds_defined w p q shapes n scope env m x o h d own agrees =
     let less : n < suc n = le_refl (suc n) in
@@ -168,17 +168,17 @@ holds_defined w p q shapes n scope env m x o h d own agrees =
       ordinals = rest.ordinals;
       room = rest.room;
       table = rest.table;
-      names = (less, refl, subst (λ z. IsKnownAndAgrees (shape_in shapes) z (Some o)) (sym d.here) agrees, λ le. own, rest.names);
+      names = (less, refl, subst (λ z. IsKnownAndAgreesWithObject (shape_of_type_in shapes) z (Some o)) (sym d.here) agrees, λ le. own, rest.names);
     }
 
 -- In an expression or statements whose names are all visible in the scope, the facts agree with all names.
 module _ (w : Numbering) (p : KnownDeclarations) (only_constants : Bool) (shapes : List Shape) (n : ℕ) (scope : Scope Name) (env : TypeEnvironment Name) (h : IsKnownAt w p shapes n scope env) where
-  pub seen_holds : (x : ℕ) → IsSeen w scope x → IsKnownAndAgrees (shape_in shapes) ((facts_at p only_constants).object_for x) ((meanings naming_by_spelling env).object_for (token_text_at w.source x))
+  pub seen_holds : (x : ℕ) → IsSeen w scope x → IsKnownAndAgreesWithObject (shape_of_type_in shapes) ((facts_at p only_constants).object_for x) ((meanings naming_by_spelling env).object_for (token_text_at w.source x))
   seen_holds x (k, at, there) =
-      subst (λ o. IsKnownAndAgrees (shape_in shapes) (option_and_then (λ j. slice_index_or p.declared j None) o) (newest_object (environment_from_binding naming_by_spelling env (token_text_at w.source x)))) (sym (ap (λ os. ordinal_in os x) h.ordinals ∙ at))
+      subst (λ o. IsKnownAndAgreesWithObject (shape_of_type_in shapes) (option_and_then (λ j. slice_index_or p.declared j None) o) (newest_object (environment_from_binding naming_by_spelling env (token_text_at w.source x)))) (sym (ap (λ os. ordinal_in os x) h.ordinals ∙ at))
       (name_found shapes p.declared n scope env h.names (token_text_at w.source x) k there)
 
-  tokens_agree : (xs : List (Role × ℕ)) → Each (IsSeen w scope) (looked_up_only xs) → TokensAgree (facts_at p only_constants) (shape_in shapes) (token_text_at w.source) (meanings naming_by_spelling env) xs
+  tokens_agree : (xs : List (Role × ℕ)) → Each (IsSeen w scope) (looked_up_only xs) → TokensAgreeWithLabels (facts_at p only_constants) (shape_of_type_in shapes) (token_text_at w.source) (meanings naming_by_spelling env) xs
   tokens_agree [] seen = tt
   tokens_agree ((role.LookedUp, x) ∷ xs) seen = (seen_holds x seen.0, tokens_agree xs seen.1)
   tokens_agree ((role.Declaring, x) ∷ xs) seen = (tt, tokens_agree xs seen)
@@ -186,7 +186,7 @@ module _ (w : Numbering) (p : KnownDeclarations) (only_constants : Bool) (shapes
   tokens_agree ((role.FieldName, x) ∷ xs) seen = (ap (λ s. token_text_at s x) (sym h.source), tokens_agree xs seen)
   tokens_agree ((role.ModuleName, x) ∷ xs) seen = (tt, tokens_agree xs seen)
 
-  pub agrees_where_seen : {s : Sort} → PartsFit → (t : Tree ℕ s) → AreSeen w scope t → TypesAndMeaningsAgree (facts_at p only_constants) (shape_in shapes) (token_text_at w.source) (meanings naming_by_spelling env) t
+  pub agrees_where_seen : {s : Sort} → PartsFit → (t : Tree ℕ s) → AreSeen w scope t → TypesAndMeaningsAgree (facts_at p only_constants) (shape_of_type_in shapes) (token_text_at w.source) (meanings naming_by_spelling env) t
   agrees_where_seen fit t seen = record {
     types = fit.tables p.made shapes h.table;
     tokens = tokens_agree (identifiers role.Declaring t) (subst (Each (IsSeen w scope)) (sym (looked_up-occurrences role.Declaring (λ x xs. refl) t)) seen);
@@ -198,7 +198,7 @@ pub record AllDefined (w : Numbering) (p q : KnownDeclarations) (shapes : List S
   pub later : Later n p q shapes shapes
   pub holds : IsKnownAt w q shapes m scope env
 
-pub all_defined : (w : Numbering) (p : KnownDeclarations) (shapes : List Shape) (n : ℕ) (scope : Scope Name) (env : TypeEnvironment Name) (m : Meaning TypeId) (xs : List ℕ) (o : meant.Object Shape Signature) → IsKnownAt w p shapes n scope env → NamesPlaced w n xs → is_standard_procedure (Some o) ≡ false → MeaningAgrees (shape_in shapes) m (Some o)
+pub all_defined : (w : Numbering) (p : KnownDeclarations) (shapes : List Shape) (n : ℕ) (scope : Scope Name) (env : TypeEnvironment Name) (m : Meaning TypeId) (xs : List ℕ) (o : meant.Object Shape Signature) → IsKnownAt w p shapes n scope env → NamesPlaced w n xs → is_standard_procedure (Some o) ≡ false → MeaningAgreesWithObject (shape_of_type_in shapes) m (Some o)
     → AllDefined w p (define_all p m xs) shapes n (ordinal_after_names n xs) (scope_following w n xs scope) (bind_names (map (token_text_at w.source) xs) o env)
 all_defined w p shapes n scope env m [] o h placed own agrees = record { later = later_same n p shapes h.table; holds = h }
 all_defined w p shapes n scope env m (x ∷ xs) o h placed own agrees =

@@ -9,7 +9,7 @@ use Rattle.ob0_tree.specs.ParsedModule.{tree_of}
 use Rattle.ob0_tree.specs.Places.{token_text_at}
 use Rattle.ob0_tree.specs.Tree.{Tree, block, constant, constants, declares, declares_constant, declares_constants, declares_procedure, declares_type, declares_types, declares_variable, declares_variables, end, formals, further_name, further_section, forms_block, identifiers, item, items, listed, maybe, more, names, no_formals, none, occurrences, one, procedure, section, some_formals, then_name, then_section, type_definition, type_definitions, value_section, variable, variable_section, variables}
 use Rattle.ob0_language_names.specs.Names.{naming_by_spelling}
-use Rattle.ob0_language_names.specs.Parts.{constant_names, formal_names, formal_sections, further_names, module_block, declared_type_names, names_in_list, section_constants, section_names, section_types, section_variables, variable_names}
+use Rattle.ob0_language_names.specs.Parts.{constant_names, formal_names, formal_sections, further_names, module_block, declared_type_names, names_in_list, section_constants, parameter_section_names, section_types, section_variables, variable_names}
 use Rattle.ob0_scope_table.specs.Resolution.{IsResolution, Resolution, declaring_names, is_undeclared_fault, is_unbound, label_at, ordinal_in, span_at, undeclared_faults_by_labels}
 use Rattle.ob0_language_names.specs.Scopes.{ordinal_after_block, ordinal_after_names, ordinal_after_procedure, ordinal_after_procedures, label_from_ordinal, predeclared_scope}
 use Rattle.ob0_scope_table.proofs.Bound.{bindings_by_table}
@@ -57,20 +57,20 @@ counts_variables k (more (declares_variable ns t) gs) =
     let j : ℕ = ordinal_after_names k (names_in_list ns) in
     to (sym (ordinal_after_names-append k (names_in_list ns) (variable_names gs))) (both (both (counts_names k ns) (plain j (declares_nothing tt t))) (counts_variables j gs))
 
-counts_section : (k : ℕ) (f : Tree ℕ section) → Counts k (identifiers role.Declaring f) (ordinal_after_names k (section_names f))
+counts_section : (k : ℕ) (f : Tree ℕ section) → Counts k (identifiers role.Declaring f) (ordinal_after_names k (parameter_section_names f))
 counts_section k (value_section ns t) = both (counts_names k ns) (plain (ordinal_after_names k (names_in_list ns)) (declares_nothing tt t))
 counts_section k (variable_section ns t) = both (counts_names k ns) (plain (ordinal_after_names k (names_in_list ns)) (declares_nothing tt t))
 
 counts_sections : (k : ℕ) (fs : Tree ℕ (items further_section)) → Counts k (identifiers role.Declaring fs) (ordinal_after_names k (formal_names fs))
 counts_sections k end = record { counts = omega arith }
 counts_sections k (more (then_section f) fs) =
-    to (sym (ordinal_after_names-append k (section_names f) (formal_names fs))) (both (counts_section k f) (counts_sections (ordinal_after_names k (section_names f)) fs))
+    to (sym (ordinal_after_names-append k (parameter_section_names f) (formal_names fs))) (both (counts_section k f) (counts_sections (ordinal_after_names k (parameter_section_names f)) fs))
 
 counts_formals : (k : ℕ) (fs : Tree ℕ (maybe formals)) → Counts k (identifiers role.Declaring fs) (ordinal_after_names k (formal_names (formal_sections fs)))
 counts_formals k none = record { counts = omega arith }
 counts_formals k (one no_formals) = record { counts = omega arith }
 counts_formals k (one (some_formals f fs)) =
-    to (sym (ordinal_after_names-append k (section_names f) (formal_names fs))) (both (counts_section k f) (counts_sections (ordinal_after_names k (section_names f)) fs))
+    to (sym (ordinal_after_names-append k (parameter_section_names f) (formal_names fs))) (both (counts_section k f) (counts_sections (ordinal_after_names k (parameter_section_names f)) fs))
 
 counts_constant_section : (k : ℕ) (cs : Tree ℕ (maybe constants)) → Counts k (identifiers role.Declaring cs) (ordinal_after_names k (constant_names (section_constants cs)))
 counts_constant_section k none = record { counts = omega arith }

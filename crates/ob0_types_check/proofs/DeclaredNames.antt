@@ -8,14 +8,14 @@ use Rattle.ob0_scan.specs.TextWithTokens.{TextWithTokens}
 use Rattle.ob0_tree.specs.Places.{tree_with_names, token_text_at, token_value_at}
 use Rattle.ob0_tree.specs.Tree.{Item, Sort, Tree, block, body, constant, constants, declares, declares_constant, declares_constants, declares_procedure, declares_type, declares_types, declares_variable, declares_variables, end, expression, formals, further_name, further_section, forms_block, item, items, listed, mapped_tree, maybe, more, names, no_formals, none, occurrences, one, procedure, section, some_formals, then_name, then_section, type_definition, type_definitions, value_section, variable, variable_section, variables, written_type}
 use Rattle.ob0_language_names.specs.Names.{Name, naming_by_spelling}
-use Rattle.ob0_language_names.specs.Parts.{block_constants, block_procedures, block_statements, block_types, block_variables, constant_names, formal_names, formal_sections, further_names, declared_type_names, names_in_list, procedure_block, procedure_formals, procedure_name, section_constants, section_names, section_type, section_types, section_variables, variable_names}
+use Rattle.ob0_language_names.specs.Parts.{block_constants, block_procedures, block_statements, block_types, block_variables, constant_names, formal_names, formal_sections, further_names, declared_type_names, names_in_list, procedure_block, procedure_formals, procedure_name, section_constants, parameter_section_names, parameter_section_type, section_types, section_variables, variable_names}
 use Rattle.ob0_scope_table.specs.Resolution.{ordinal_and_spelling_at, ordinal_in, ordinal_and_spelling}
-use Rattle.ob0_language_names.specs.Scopes.{Scope, ordinal_after_block, ordinal_after_names, ordinal_after_procedure, ordinal_after_procedures, declare_names, declare_procedure_names, first_procedure_ordinal, first_type_ordinal, first_variable_ordinal, label_names, label_of, ordinal_of, procedures_scope, relabel_block, relabel_constants, relabel_procedure, relabel_procedures, relabel_sections, relabel_types, relabel_uses, relabel_variables, types_scope, variables_scope}
+use Rattle.ob0_language_names.specs.Scopes.{Scope, ordinal_after_block, ordinal_after_names, ordinal_after_procedure, ordinal_after_procedures, declare_names, declare_procedure_names, first_procedure_ordinal, first_type_ordinal, first_variable_ordinal, labels_of_declared_names, label_of, ordinal_of, scope_before_procedures, relabel_block, relabel_constants, relabel_procedure, relabel_procedures, relabel_sections, relabel_types, relabel_uses, relabel_variables, scope_before_types, scope_before_variables}
 use Rattle.ob0_language_names.proofs.OccurrenceNames.{occurrences-map_names}
 use Rattle.ob0_language_names.proofs.OccurrencesMapped.{occurrences-mapped_tree}
 use Rattle.ob0_language_names.proofs.Ordinals.{ordinal_after_names-append, le-ordinal_after_block, le-ordinal_after_names, le-ordinal_after_procedures}
 use Rattle.ob0_language_names.proofs.Peeling.{heads}
-use Rattle.ob0_language_names.proofs.Relabelled.{constants-section, formals-section, names-relabel, section_names-relabel, section_type-relabel, types-section, variables-section}
+use Rattle.ob0_language_names.proofs.Relabelled.{constants-section, formals-section, names-relabel, parameter_section_names-relabel, parameter_section_type-relabel, types-section, variables-section}
 
 -- holds if each element of a list has the property `P`
 abbrev pub Each : {A : Type 0} → (A → Type 0) → List A → Type 0
@@ -80,13 +80,13 @@ further_names-mapped_tree f g (more (then_name x) ns) = λ i. f x ∷ further_na
 pub names_in_list-mapped_tree : {N M : Type 0} (f : N → M) (g : ℕ → ℕ) (ns : Tree N names) → names_in_list (mapped_tree f g ns) ≡ map f (names_in_list ns)
 names_in_list-mapped_tree f g (listed x ns) = λ i. f x ∷ further_names-mapped_tree f g ns i
 
-pub section_names-mapped_tree : {N M : Type 0} (f : N → M) (g : ℕ → ℕ) (s : Tree N section) → section_names (mapped_tree f g s) ≡ map f (section_names s)
-section_names-mapped_tree f g (value_section ns t) = names_in_list-mapped_tree f g ns
-section_names-mapped_tree f g (variable_section ns t) = names_in_list-mapped_tree f g ns
+pub parameter_section_names-mapped_tree : {N M : Type 0} (f : N → M) (g : ℕ → ℕ) (s : Tree N section) → parameter_section_names (mapped_tree f g s) ≡ map f (parameter_section_names s)
+parameter_section_names-mapped_tree f g (value_section ns t) = names_in_list-mapped_tree f g ns
+parameter_section_names-mapped_tree f g (variable_section ns t) = names_in_list-mapped_tree f g ns
 
-pub section_type-mapped_tree : {N M : Type 0} (f : N → M) (g : ℕ → ℕ) (s : Tree N section) → section_type (mapped_tree f g s) ≡ mapped_tree f g (section_type s)
-section_type-mapped_tree f g (value_section ns t) = refl
-section_type-mapped_tree f g (variable_section ns t) = refl
+pub parameter_section_type-mapped_tree : {N M : Type 0} (f : N → M) (g : ℕ → ℕ) (s : Tree N section) → parameter_section_type (mapped_tree f g s) ≡ mapped_tree f g (parameter_section_type s)
+parameter_section_type-mapped_tree f g (value_section ns t) = refl
+parameter_section_type-mapped_tree f g (variable_section ns t) = refl
 
 pub constants-mapped_tree : {N M : Type 0} (f : N → M) (g : ℕ → ℕ) (cs : Tree N (maybe constants)) → section_constants (mapped_tree f g cs) ≡ mapped_tree f g (section_constants cs)
 constants-mapped_tree f g none = refl
@@ -124,7 +124,7 @@ variable_names-mapped_tree f g (more (declares_variable ns t) gs) =
 pub formal_names-mapped_tree : {N M : Type 0} (f : N → M) (g : ℕ → ℕ) (fs : Tree N (items further_section)) → formal_names (mapped_tree f g fs) ≡ map f (formal_names fs)
 formal_names-mapped_tree f g end = refl
 formal_names-mapped_tree f g (more (then_section s) fs) =
-    joined f (section_names s) (formal_names fs) (section_names (mapped_tree f g s)) (formal_names (mapped_tree f g fs)) (section_names-mapped_tree f g s) (formal_names-mapped_tree f g fs)
+    joined f (parameter_section_names s) (formal_names fs) (parameter_section_names (mapped_tree f g s)) (formal_names (mapped_tree f g fs)) (parameter_section_names-mapped_tree f g s) (formal_names-mapped_tree f g fs)
 
 -- The names in optional sections of a mapped tree are the mapped names.
 constants-names : {N M : Type 0} (f : N → M) (g : ℕ → ℕ) (cs : Tree N (maybe constants)) → constant_names (section_constants (mapped_tree f g cs)) ≡ map f (constant_names (section_constants cs))
@@ -209,7 +209,7 @@ VariablesPlaced n scope k (more (declares_variable ns t) gs) =
 abbrev pub SectionsPlaced : Numbering → Scope Name → ℕ → Tree ℕ (items further_section) → Type 0
 SectionsPlaced n scope k end = Unit {0}
 SectionsPlaced n scope k (more (then_section f) fs) =
-    NamesPlaced n k (section_names f) × AreSeen n scope (section_type f) × SectionsPlaced n (scope_following n k (section_names f) scope) (ordinal_after_names k (section_names f)) fs
+    NamesPlaced n k (parameter_section_names f) × AreSeen n scope (parameter_section_type f) × SectionsPlaced n (scope_following n k (parameter_section_names f) scope) (ordinal_after_names k (parameter_section_names f)) fs
 
 -- returns the scope after the constants of a block, given its tree of tokens; the next ones return the scopes after its
 -- other sections
@@ -264,7 +264,7 @@ module _ (n : Numbering) where
       each_with (λ x. look (text x) ≡ bound x) (IsBound n) (IsSeen n scope) (seen scope) (occurrences t)
       (each_same (λ x. look (text x)) bound (occurrences t) (sym left ∙ (ap occurrences e ∙ occurrences-mapped_tree bound (token_value_at n.source) t))) all
 
-  names_placed : (k : ℕ) (xs : List ℕ) → label_names ordinal_and_spelling k (map (token_text_at n.source) xs) ≡ map (ordinal_and_spelling_at n.source n.ordinals) xs → ordinal_after_names k xs ≤ n.room → NamesPlaced n k xs
+  names_placed : (k : ℕ) (xs : List ℕ) → labels_of_declared_names ordinal_and_spelling k (map (token_text_at n.source) xs) ≡ map (ordinal_and_spelling_at n.source n.ordinals) xs → ordinal_after_names k xs ≤ n.room → NamesPlaced n k xs
   names_placed k [] e room = tt
   names_placed k (x ∷ xs) e room = let h = heads e in ((ap (λ p. p.0) (sym h.0), le_trans (le-ordinal_after_names (suc k) xs) room), names_placed (suc k) xs h.1 room)
 
@@ -296,8 +296,8 @@ module _ (n : Numbering) where
       let parts = each_part (IsBound n) (occurrences t) (occurrences gs) all in
       let own : names_in_list (tree_with_names n.source ns) ≡ map text (names_in_list ns) = names_in_list-mapped_tree text (token_value_at n.source) ns in
       let following : ordinal_after_names (ordinal_after_names k (names_in_list ns)) (variable_names gs) ≤ n.room = subst (λ j. j ≤ n.room) (ordinal_after_names-append k (names_in_list ns) (variable_names gs)) room in
-      let labels : label_names ordinal_and_spelling k (map text (names_in_list ns)) ≡ map (ordinal_and_spelling_at n.source n.ordinals) (names_in_list ns) =
-      sym (names-relabel ordinal_and_spelling k (tree_with_names n.source ns) ∙ ap (label_names ordinal_and_spelling k) own) ∙ (ap variables_left first ∙ names_in_list-mapped_tree (ordinal_and_spelling_at n.source n.ordinals) (token_value_at n.source) ns) in
+      let labels : labels_of_declared_names ordinal_and_spelling k (map text (names_in_list ns)) ≡ map (ordinal_and_spelling_at n.source n.ordinals) (names_in_list ns) =
+      sym (names-relabel ordinal_and_spelling k (tree_with_names n.source ns) ∙ ap (labels_of_declared_names ordinal_and_spelling k) own) ∙ (ap variables_left first ∙ names_in_list-mapped_tree (ordinal_and_spelling_at n.source n.ordinals) (token_value_at n.source) ns) in
       let rest : relabel_variables naming_by_spelling ordinal_and_spelling (scope_following n k (names_in_list ns) scope) (ordinal_after_names k (names_in_list ns)) (tree_with_names n.source gs) ≡ bound_by gs =
       sym (λ i. relabel_variables naming_by_spelling ordinal_and_spelling (declare_names k (own i) scope) (after-mapped_tree text k k (names_in_list ns) (names_in_list (tree_with_names n.source ns)) own refl i) (tree_with_names n.source gs)) ∙ ap rest_of e in (
         names_placed k (names_in_list ns) labels (le_trans (le-ordinal_after_names (ordinal_after_names k (names_in_list ns)) (variable_names gs)) following),
@@ -305,7 +305,7 @@ module _ (n : Numbering) where
         variables_placed (scope_following n k (names_in_list ns) scope) (ordinal_after_names k (names_in_list ns)) gs rest parts.1 following,
       )
 
-  section_occurrences : (f : Tree ℕ section) → occurrences f ≡ occurrences (section_type f)
+  section_occurrences : (f : Tree ℕ section) → occurrences f ≡ occurrences (parameter_section_type f)
   section_occurrences (value_section ns t) = refl
   section_occurrences (variable_section ns t) = refl
 
@@ -315,17 +315,17 @@ module _ (n : Numbering) where
       let text : ℕ → Name = token_text_at n.source in
       let first = ap (λ t. section_in (first_of (bound_by (then_section f)) t)) e in
       let parts = each_part (IsBound n) (occurrences f) (occurrences fs) all in
-      let own : section_names (tree_with_names n.source f) ≡ map text (section_names f) = section_names-mapped_tree text (token_value_at n.source) f in
-      let following : ordinal_after_names (ordinal_after_names k (section_names f)) (formal_names fs) ≤ n.room = subst (λ j. j ≤ n.room) (ordinal_after_names-append k (section_names f) (formal_names fs)) room in
-      let labels : label_names ordinal_and_spelling k (map text (section_names f)) ≡ map (ordinal_and_spelling_at n.source n.ordinals) (section_names f) =
-      sym (section_names-relabel naming_by_spelling ordinal_and_spelling scope k (tree_with_names n.source f) ∙ ap (label_names ordinal_and_spelling k) own) ∙ (ap section_names first ∙ section_names-mapped_tree (ordinal_and_spelling_at n.source n.ordinals) (token_value_at n.source) f) in
-      let sided : relabel_uses naming_by_spelling ordinal_and_spelling scope (tree_with_names n.source (section_type f)) ≡ bound_by (section_type f) =
-      sym (section_type-relabel naming_by_spelling ordinal_and_spelling scope k (tree_with_names n.source f) ∙ ap (relabel_uses naming_by_spelling ordinal_and_spelling scope) (section_type-mapped_tree text (token_value_at n.source) f)) ∙ (ap section_type first ∙ section_type-mapped_tree (ordinal_and_spelling_at n.source n.ordinals) (token_value_at n.source) f) in
-      let rest : relabel_sections naming_by_spelling ordinal_and_spelling (scope_following n k (section_names f) scope) (ordinal_after_names k (section_names f)) (tree_with_names n.source fs) ≡ bound_by fs =
-      sym (λ i. relabel_sections naming_by_spelling ordinal_and_spelling (declare_names k (own i) scope) (after-mapped_tree text k k (section_names f) (section_names (tree_with_names n.source f)) own refl i) (tree_with_names n.source fs)) ∙ ap rest_of e in (
-        names_placed k (section_names f) labels (le_trans (le-ordinal_after_names (ordinal_after_names k (section_names f)) (formal_names fs)) following),
-        uses_seen scope (section_type f) sided (subst (Each (IsBound n)) (section_occurrences f) parts.0),
-        sections_placed (scope_following n k (section_names f) scope) (ordinal_after_names k (section_names f)) fs rest parts.1 following,
+      let own : parameter_section_names (tree_with_names n.source f) ≡ map text (parameter_section_names f) = parameter_section_names-mapped_tree text (token_value_at n.source) f in
+      let following : ordinal_after_names (ordinal_after_names k (parameter_section_names f)) (formal_names fs) ≤ n.room = subst (λ j. j ≤ n.room) (ordinal_after_names-append k (parameter_section_names f) (formal_names fs)) room in
+      let labels : labels_of_declared_names ordinal_and_spelling k (map text (parameter_section_names f)) ≡ map (ordinal_and_spelling_at n.source n.ordinals) (parameter_section_names f) =
+      sym (parameter_section_names-relabel naming_by_spelling ordinal_and_spelling scope k (tree_with_names n.source f) ∙ ap (labels_of_declared_names ordinal_and_spelling k) own) ∙ (ap parameter_section_names first ∙ parameter_section_names-mapped_tree (ordinal_and_spelling_at n.source n.ordinals) (token_value_at n.source) f) in
+      let sided : relabel_uses naming_by_spelling ordinal_and_spelling scope (tree_with_names n.source (parameter_section_type f)) ≡ bound_by (parameter_section_type f) =
+      sym (parameter_section_type-relabel naming_by_spelling ordinal_and_spelling scope k (tree_with_names n.source f) ∙ ap (relabel_uses naming_by_spelling ordinal_and_spelling scope) (parameter_section_type-mapped_tree text (token_value_at n.source) f)) ∙ (ap parameter_section_type first ∙ parameter_section_type-mapped_tree (ordinal_and_spelling_at n.source n.ordinals) (token_value_at n.source) f) in
+      let rest : relabel_sections naming_by_spelling ordinal_and_spelling (scope_following n k (parameter_section_names f) scope) (ordinal_after_names k (parameter_section_names f)) (tree_with_names n.source fs) ≡ bound_by fs =
+      sym (λ i. relabel_sections naming_by_spelling ordinal_and_spelling (declare_names k (own i) scope) (after-mapped_tree text k k (parameter_section_names f) (parameter_section_names (tree_with_names n.source f)) own refl i) (tree_with_names n.source fs)) ∙ ap rest_of e in (
+        names_placed k (parameter_section_names f) labels (le_trans (le-ordinal_after_names (ordinal_after_names k (parameter_section_names f)) (formal_names fs)) following),
+        uses_seen scope (parameter_section_type f) sided (subst (Each (IsBound n)) (section_occurrences f) parts.0),
+        sections_placed (scope_following n k (parameter_section_names f) scope) (ordinal_after_names k (parameter_section_names f)) fs rest parts.1 following,
       )
 
   constants_occurrences : (cs : Tree ℕ (maybe constants)) → occurrences cs ≡ occurrences (section_constants cs)
@@ -359,18 +359,18 @@ module _ (n : Numbering) where
         let k₁ : first_type_ordinal k (tree_with_names n.source b) ≡ first_type_ordinal k b = after-mapped_tree text k k (constant_names (section_constants cs)) (constant_names (section_constants (tree_with_names n.source cs))) (constants-names text value cs) refl in
         let k₂ : first_variable_ordinal k (tree_with_names n.source b) ≡ first_variable_ordinal k b = after-mapped_tree text (first_type_ordinal k (tree_with_names n.source b)) (first_type_ordinal k b) (declared_type_names (section_types ts)) (declared_type_names (section_types (tree_with_names n.source ts))) (types-names text value ts) k₁ in
         let k₃ : first_procedure_ordinal k (tree_with_names n.source b) ≡ first_procedure_ordinal k b = after-mapped_tree text (first_variable_ordinal k (tree_with_names n.source b)) (first_variable_ordinal k b) (variable_names (section_variables vs)) (variable_names (section_variables (tree_with_names n.source vs))) (variables-names text value vs) k₂ in
-        let s₁ : types_scope k (tree_with_names n.source b) scope ≡ following_constants n scope k b = λ i. declare_names k (constants-names text value cs i) scope in
-        let s₂ : variables_scope k (tree_with_names n.source b) scope ≡ following_types n scope k b = λ i. declare_names (k₁ i) (types-names text value ts i) (s₁ i) in
-        let s₃ : procedures_scope k (tree_with_names n.source b) scope ≡ following_variables n scope k b = λ i. declare_names (k₂ i) (variables-names text value vs i) (s₂ i) in
+        let s₁ : scope_before_types k (tree_with_names n.source b) scope ≡ following_constants n scope k b = λ i. declare_names k (constants-names text value cs i) scope in
+        let s₂ : scope_before_variables k (tree_with_names n.source b) scope ≡ following_types n scope k b = λ i. declare_names (k₁ i) (types-names text value ts i) (s₁ i) in
+        let s₃ : scope_before_procedures k (tree_with_names n.source b) scope ≡ following_variables n scope k b = λ i. declare_names (k₂ i) (variables-names text value vs i) (s₂ i) in
         let room₃ : first_procedure_ordinal k b ≤ n.room = le_trans (le-ordinal_after_procedures (first_procedure_ordinal k b) ps) room in
         let room₂ : first_variable_ordinal k b ≤ n.room = le_trans (le-ordinal_after_names (first_variable_ordinal k b) (variable_names (section_variables vs))) room₃ in
         let room₁ : first_type_ordinal k b ≤ n.room = le_trans (le-ordinal_after_names (first_type_ordinal k b) (declared_type_names (section_types ts))) room₂ in
         let of_constants : relabel_constants naming_by_spelling ordinal_and_spelling scope k (tree_with_names n.source (section_constants cs)) ≡ bound_by (section_constants cs) =
         sym (constants-section naming_by_spelling ordinal_and_spelling scope k (tree_with_names n.source cs) ∙ ap (relabel_constants naming_by_spelling ordinal_and_spelling scope k) (constants-mapped_tree text value cs)) ∙ (ap block_constants e ∙ constants-mapped_tree bound value cs) in
         let of_types : relabel_types naming_by_spelling ordinal_and_spelling (following_constants n scope k b) (first_type_ordinal k b) (tree_with_names n.source (section_types ts)) ≡ bound_by (section_types ts) =
-        sym (types-section naming_by_spelling ordinal_and_spelling (types_scope k (tree_with_names n.source b) scope) (first_type_ordinal k (tree_with_names n.source b)) (tree_with_names n.source ts) ∙ (λ i. relabel_types naming_by_spelling ordinal_and_spelling (s₁ i) (k₁ i) (types-mapped_tree text value ts i))) ∙ (ap block_types e ∙ types-mapped_tree bound value ts) in
+        sym (types-section naming_by_spelling ordinal_and_spelling (scope_before_types k (tree_with_names n.source b) scope) (first_type_ordinal k (tree_with_names n.source b)) (tree_with_names n.source ts) ∙ (λ i. relabel_types naming_by_spelling ordinal_and_spelling (s₁ i) (k₁ i) (types-mapped_tree text value ts i))) ∙ (ap block_types e ∙ types-mapped_tree bound value ts) in
         let of_variables : relabel_variables naming_by_spelling ordinal_and_spelling (following_types n scope k b) (first_variable_ordinal k b) (tree_with_names n.source (section_variables vs)) ≡ bound_by (section_variables vs) =
-        sym (variables-section naming_by_spelling ordinal_and_spelling (variables_scope k (tree_with_names n.source b) scope) (first_variable_ordinal k (tree_with_names n.source b)) (tree_with_names n.source vs) ∙ (λ i. relabel_variables naming_by_spelling ordinal_and_spelling (s₂ i) (k₂ i) (variables-mapped_tree text value vs i))) ∙ (ap block_variables e ∙ variables-mapped_tree bound value vs) in
+        sym (variables-section naming_by_spelling ordinal_and_spelling (scope_before_variables k (tree_with_names n.source b) scope) (first_variable_ordinal k (tree_with_names n.source b)) (tree_with_names n.source vs) ∙ (λ i. relabel_variables naming_by_spelling ordinal_and_spelling (s₂ i) (k₂ i) (variables-mapped_tree text value vs i))) ∙ (ap block_variables e ∙ variables-mapped_tree bound value vs) in
         let of_procedures : relabel_procedures naming_by_spelling ordinal_and_spelling (following_variables n scope k b) (first_procedure_ordinal k b) (tree_with_names n.source ps) ≡ bound_by ps =
         sym (λ i. relabel_procedures naming_by_spelling ordinal_and_spelling (s₃ i) (k₃ i) (tree_with_names n.source ps)) ∙ ap block_procedures e in
         let of_statements : relabel_uses naming_by_spelling ordinal_and_spelling (declare_procedure_names (first_procedure_ordinal k b) (tree_with_names n.source ps) (following_variables n scope k b)) (tree_with_names n.source statements) ≡ bound_by statements =

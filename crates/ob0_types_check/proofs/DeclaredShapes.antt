@@ -11,11 +11,11 @@ use Rattle.ob0_language_types.specs.Typing.{depth, field_depth, field_scalars, s
 use Rattle.ob0_language_values.specs.Values.{FieldShapes, Shape, array_shape, boolean_shape, integer_shape, next_field_shape, no_field_shape, record_shape}
 use Rattle.ob0_types_check.specs.KnownDeclarations.{CompositeType, PartTypes, Size, KnownField, is_within_limits, of_elements, of_fields, scalar_size, size_of_type_so_far, composite_size}
 use Rattle.ob0_types_check.specs.WrittenTypeFaults.{KnownFields, array_size, record_size, with_known_field, with_known_fields}
-use Rattle.ob0_types_check.specs.Agreement.{EntriesAgree, FieldsAgree, CompositeAgrees, PartsAgree, TableAgrees, as_array, as_record, shape_in}
+use Rattle.ob0_types_check.specs.Agreement.{EntriesAgreeWithShapes, FieldsAgreeWithShapes, CompositeAgreesWithShape, PartsAgreeWithShape, TableAgreesWithShapes, as_array, as_record, shape_of_type_in}
 
 -- holds if each type that has a shape in `before` has the same shape in `after`
 abbrev pub Longer : List Shape → List Shape → Type 0
-Longer before after = (t : TypeId) (s : Shape) → shape_in before t ≡ Some s → shape_in after t ≡ Some s
+Longer before after = (t : TypeId) (s : Shape) → shape_of_type_in before t ≡ Some s → shape_of_type_in after t ≡ Some s
 
 pub longer_same : (shapes : List Shape) → Longer shapes shapes
 longer_same shapes t s e = e
@@ -35,37 +35,37 @@ longer_more shapes later (type.Array i) s e = got_before shapes later i as_array
 longer_more shapes later (type.Record i) s e = got_before shapes later i as_record s e
 longer_more shapes later type.Unknown s e = absurd (cc)
 
-pub fields_kept : (before after : List Shape) → Longer before after → (fields : List KnownField) (fs : FieldShapes) → FieldsAgree (shape_in before) fields fs → FieldsAgree (shape_in after) fields fs
+pub fields_kept : (before after : List Shape) → Longer before after → (fields : List KnownField) (fs : FieldShapes) → FieldsAgreeWithShapes (shape_of_type_in before) fields fs → FieldsAgreeWithShapes (shape_of_type_in after) fields fs
 fields_kept before after longer [] no_field_shape h = tt
 fields_kept before after longer [] (next_field_shape x s fs) h = absurd h
 fields_kept before after longer (f ∷ fields) no_field_shape h = absurd h
 fields_kept before after longer (f ∷ fields) (next_field_shape x s fs) h = (h.0, longer f.of s h.1, fields_kept before after longer fields fs h.2)
 
-parts_kept : (before after : List Shape) → Longer before after → (k : ℕ) (p : PartTypes) (s : Shape) → PartsAgree (shape_in before) k p s → PartsAgree (shape_in after) k p s
+parts_kept : (before after : List Shape) → Longer before after → (k : ℕ) (p : PartTypes) (s : Shape) → PartsAgreeWithShape (shape_of_type_in before) k p s → PartsAgreeWithShape (shape_of_type_in after) k p s
 parts_kept before after longer k (of_elements n t) s (u, e, h) = (u, e, longer t u h)
 parts_kept before after longer k (of_fields fields) s (fs, e, h) = (fs, e, fields_kept before after longer fields fs h)
 
-pub made_kept : (before after : List Shape) → Longer before after → (m : CompositeType) (s : Shape) → CompositeAgrees (shape_in before) m s → CompositeAgrees (shape_in after) m s
+pub made_kept : (before after : List Shape) → Longer before after → (m : CompositeType) (s : Shape) → CompositeAgreesWithShape (shape_of_type_in before) m s → CompositeAgreesWithShape (shape_of_type_in after) m s
 made_kept before after longer m s h = record { parts = parts_kept before after longer m.ordinal m.parts s h.parts; scalars = h.scalars; depth = h.depth }
 
-each_more : (known : List Shape) (ms : List CompositeType) (ss : List Shape) (m : CompositeType) (s : Shape) → EntriesAgree known ms ss → CompositeAgrees (shape_in (known ++ ss)) m s → EntriesAgree known (ms ++ m ∷ []) (ss ++ s ∷ [])
-each_more known [] [] m s h one = (subst (λ z. CompositeAgrees (shape_in z) m s) (append-nil known) one, tt)
+each_more : (known : List Shape) (ms : List CompositeType) (ss : List Shape) (m : CompositeType) (s : Shape) → EntriesAgreeWithShapes known ms ss → CompositeAgreesWithShape (shape_of_type_in (known ++ ss)) m s → EntriesAgreeWithShapes known (ms ++ m ∷ []) (ss ++ s ∷ [])
+each_more known [] [] m s h one = (subst (λ z. CompositeAgreesWithShape (shape_of_type_in z) m s) (append-nil known) one, tt)
 each_more known [] (x ∷ ss) m s h one = absurd h
 each_more known (x ∷ ms) [] m s h one = absurd h
-each_more known (x ∷ ms) (y ∷ ss) m s h one = (h.0, each_more (known ++ y ∷ []) ms ss m s h.1 (subst (λ z. CompositeAgrees (shape_in z) m s) (sym (append_assoc known (y ∷ []) ss)) one))
+each_more known (x ∷ ms) (y ∷ ss) m s h one = (h.0, each_more (known ++ y ∷ []) ms ss m s h.1 (subst (λ z. CompositeAgreesWithShape (shape_of_type_in z) m s) (sym (append_assoc known (y ∷ []) ss)) one))
 
 -- If a table agrees with its shapes, it still does when an entry and its shape are appended.
-pub table_more : (ms : List CompositeType) (shapes : List Shape) (m : CompositeType) (s : Shape) → TableAgrees ms shapes → CompositeAgrees (shape_in shapes) m s → TableAgrees (ms ++ m ∷ []) (shapes ++ s ∷ [])
+pub table_more : (ms : List CompositeType) (shapes : List Shape) (m : CompositeType) (s : Shape) → TableAgreesWithShapes ms shapes → CompositeAgreesWithShape (shape_of_type_in shapes) m s → TableAgreesWithShapes (ms ++ m ∷ []) (shapes ++ s ∷ [])
 table_more ms shapes m s h one = each_more [] ms shapes m s h one
 
-each_long : (known : List Shape) (ms : List CompositeType) (ss : List Shape) → EntriesAgree known ms ss → length ms ≡ length ss
+each_long : (known : List Shape) (ms : List CompositeType) (ss : List Shape) → EntriesAgreeWithShapes known ms ss → length ms ≡ length ss
 each_long known [] [] h = refl
 each_long known [] (s ∷ ss) h = absurd h
 each_long known (m ∷ ms) [] h = absurd h
 each_long known (m ∷ ms) (s ∷ ss) h = ap suc (each_long (known ++ s ∷ []) ms ss h.1)
 
 -- A table that agrees with its shapes has as many entries as there are shapes.
-pub table_long : (ms : List CompositeType) (shapes : List Shape) → TableAgrees ms shapes → length ms ≡ length shapes
+pub table_long : (ms : List CompositeType) (shapes : List Shape) → TableAgreesWithShapes ms shapes → length ms ≡ length shapes
 table_long ms shapes h = each_long [] ms shapes h
 
 last_shape : (shapes : List Shape) (n : ℕ) (s : Shape) → n ≡ length shapes → slice_get (shapes ++ s ∷ []) n ≡ Some s
@@ -74,10 +74,10 @@ last_shape [] (suc n) s e = absurd (cc)
 last_shape (x ∷ shapes) zero s e = absurd (cc)
 last_shape (x ∷ shapes) (suc n) s e = last_shape shapes n s (omega (arith, e))
 
-pub last_array : (ms : List CompositeType) (shapes : List Shape) (k n : ℕ) (u : Shape) → TableAgrees ms shapes → shape_in (shapes ++ array_shape k n u ∷ []) (type.Array (length ms)) ≡ Some (array_shape k n u)
+pub last_array : (ms : List CompositeType) (shapes : List Shape) (k n : ℕ) (u : Shape) → TableAgreesWithShapes ms shapes → shape_of_type_in (shapes ++ array_shape k n u ∷ []) (type.Array (length ms)) ≡ Some (array_shape k n u)
 last_array ms shapes k n u h = ap (option_and_then as_array) (last_shape shapes (length ms) (array_shape k n u) (table_long ms shapes h))
 
-pub last_record : (ms : List CompositeType) (shapes : List Shape) (k : ℕ) (fs : FieldShapes) → TableAgrees ms shapes → shape_in (shapes ++ record_shape k fs ∷ []) (type.Record (length ms)) ≡ Some (record_shape k fs)
+pub last_record : (ms : List CompositeType) (shapes : List Shape) (k : ℕ) (fs : FieldShapes) → TableAgreesWithShapes ms shapes → shape_of_type_in (shapes ++ record_shape k fs ∷ []) (type.Record (length ms)) ≡ Some (record_shape k fs)
 last_record ms shapes k fs h = ap (option_and_then as_record) (last_shape shapes (length ms) (record_shape k fs) (table_long ms shapes h))
 
 -- holds if a size is the size of a shape
@@ -106,7 +106,7 @@ record_is boolean_shape s e = absurd (cc)
 record_is (array_shape k n u) s e = absurd (cc)
 record_is (record_shape k fs) s e = some_same (record_shape k fs) s e
 
-entered : (known : List Shape) (f : Shape → Option Shape) → ((x s : Shape) → f x ≡ Some s → x ≡ s) → (ms : List CompositeType) (ss : List Shape) (i : ℕ) (s : Shape) → EntriesAgree known ms ss → option_and_then f (slice_get ss i) ≡ Some s → Entered (slice_get ms i) s
+entered : (known : List Shape) (f : Shape → Option Shape) → ((x s : Shape) → f x ≡ Some s → x ≡ s) → (ms : List CompositeType) (ss : List Shape) (i : ℕ) (s : Shape) → EntriesAgreeWithShapes known ms ss → option_and_then f (slice_get ss i) ≡ Some s → Entered (slice_get ms i) s
 entered known f is [] [] i s h e = absurd (cc)
 entered known f is [] (x ∷ ss) i s h e = absurd h
 entered known f is (m ∷ ms) [] i s h e = absurd h
@@ -116,7 +116,7 @@ entered known f is (m ∷ ms) (x ∷ ss) (suc i) s h e = entered (known ++ x ∷
 sized : {m : Option CompositeType} (s : Shape) → Entered m s → SizeAgrees (composite_size m) s
 sized s h = subst (λ o. SizeAgrees (composite_size o) s) (sym h.there) h.sizes
 
-pub size_agrees : (ms : List CompositeType) (shapes : List Shape) (t : TypeId) (s : Shape) → TableAgrees ms shapes → shape_in shapes t ≡ Some s → SizeAgrees (size_of_type_so_far ms t) s
+pub size_agrees : (ms : List CompositeType) (shapes : List Shape) (t : TypeId) (s : Shape) → TableAgreesWithShapes ms shapes → shape_of_type_in shapes t ≡ Some s → SizeAgrees (size_of_type_so_far ms t) s
 size_agrees ms shapes type.Integer s h e = subst (SizeAgrees scalar_size) (some_same integer_shape s e) (record { scalars_are = refl; depth_is = refl })
 size_agrees ms shapes type.Boolean s h e = subst (SizeAgrees scalar_size) (some_same boolean_shape s e) (record { scalars_are = refl; depth_is = refl })
 size_agrees ms shapes (type.Array i) s h e = sized s (entered [] as_array array_is ms shapes i s h e)
@@ -154,8 +154,8 @@ depth-followed : (fs gs : FieldShapes) → field_depth (followed fs gs) ≡ max 
 depth-followed no_field_shape gs = omega arith
 depth-followed (next_field_shape x s fs) gs = omega (arith, depth-followed fs gs)
 
-pub field_put : (shapes : List Shape) (fields : List KnownField) (fs : FieldShapes) (x : Name) (t : TypeId) (s : Shape) → FieldsAgree (shape_in shapes) fields fs → shape_in shapes t ≡ Some s
-    → FieldsAgree (shape_in shapes) (fields ++ record { name = x; of = t } ∷ []) (followed fs (next_field_shape x s no_field_shape))
+pub field_put : (shapes : List Shape) (fields : List KnownField) (fs : FieldShapes) (x : Name) (t : TypeId) (s : Shape) → FieldsAgreeWithShapes (shape_of_type_in shapes) fields fs → shape_of_type_in shapes t ≡ Some s
+    → FieldsAgreeWithShapes (shape_of_type_in shapes) (fields ++ record { name = x; of = t } ∷ []) (followed fs (next_field_shape x s no_field_shape))
 field_put shapes [] no_field_shape x t s h is = (refl, is, tt)
 field_put shapes [] (next_field_shape y u fs) x t s h is = absurd h
 field_put shapes (f ∷ fields) no_field_shape x t s h is = absurd h
@@ -163,11 +163,11 @@ field_put shapes (f ∷ fields) (next_field_shape y u fs) x t s h is = (h.0, h.1
 
 -- holds if the fields of a record so far have these shapes, and their total size is right
 pub record GatheredAgrees (shapes : List Shape) (g : KnownFields) (fs : FieldShapes) : Type 0 where
-  pub fields : FieldsAgree (shape_in shapes) g.fields fs
+  pub fields : FieldsAgreeWithShapes (shape_of_type_in shapes) g.fields fs
   pub scalars_are : g.size.scalars ≡ field_scalars fs
   pub depth_is : g.size.depth ≡ field_depth fs
 
-name_put : (shapes : List Shape) (g : KnownFields) (fs : FieldShapes) (x : ℕ) (t : TypeId) (s : Shape) → GatheredAgrees shapes g fs → TableAgrees g.following.made shapes → shape_in shapes t ≡ Some s
+name_put : (shapes : List Shape) (g : KnownFields) (fs : FieldShapes) (x : ℕ) (t : TypeId) (s : Shape) → GatheredAgrees shapes g fs → TableAgreesWithShapes g.following.made shapes → shape_of_type_in shapes t ≡ Some s
     → GatheredAgrees shapes (with_known_field t g x) (followed fs (next_field_shape (token_text_at g.following.source x) s no_field_shape))
 name_put shapes g fs x t s h table is =
     let z = size_agrees g.following.made shapes t s table is in
@@ -178,7 +178,7 @@ name_put shapes g fs x t s h table is =
       depth_is = omega (arith, h.depth_is, z.depth_is, depth-followed fs one);
     }
 
-pub names_put : (shapes : List Shape) (g : KnownFields) (fs : FieldShapes) (xs : List ℕ) (t : TypeId) (s : Shape) → GatheredAgrees shapes g fs → TableAgrees g.following.made shapes → shape_in shapes t ≡ Some s
+pub names_put : (shapes : List Shape) (g : KnownFields) (fs : FieldShapes) (xs : List ℕ) (t : TypeId) (s : Shape) → GatheredAgrees shapes g fs → TableAgreesWithShapes g.following.made shapes → shape_of_type_in shapes t ≡ Some s
     → GatheredAgrees shapes (with_known_fields t g xs) (followed fs (prepend_fields (map (token_text_at g.following.source) xs) s no_field_shape))
 names_put shapes g fs [] t s h table is = subst (GatheredAgrees shapes g) (sym (followed-nothing fs)) h
 names_put shapes g fs (x ∷ xs) t s h table is =

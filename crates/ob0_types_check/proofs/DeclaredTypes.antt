@@ -10,16 +10,16 @@ use Rattle.ob0_language_names.specs.Scopes.{Scope}
 use Rattle.ob0_types_table.specs.declared.types.TypeId.{TypeId}
 use Rattle.ob0_language_types.specs.Environments.{meanings}
 use Rattle.ob0_language_types.specs.Expressions as meant
-use Rattle.ob0_language_types.specs.Typing.{array_length, constant_value, denoted_type, denoted_group_fields, denoted_further_fields, constructor_count, group_constructor_count, groups_constructor_count, type_of_name, prepend_fields, type_within_limits}
+use Rattle.ob0_language_types.specs.Typing.{array_length, constant_value, denoted_type, denoted_group_fields, denoted_further_fields, constructor_count, group_constructor_count, groups_constructor_count, type_of_type_object, prepend_fields, type_within_limits}
 use Rattle.ob0_language_types.specs.WellTyped.{Signature, TypeEnvironment}
 use Rattle.ob0_language_values.specs.Values.{FieldShapes, Shape, Value, array_shape, no_field_shape, record_shape}
-use Rattle.ob0_types_check.specs.ExpressionFaults.{reported_expression}
+use Rattle.ob0_types_check.specs.ExpressionFaults.{report_on_expression}
 use Rattle.ob0_types_check.specs.Known.{Meaning, Operand, Reported, a_constant, a_procedure, a_type, a_variable}
 use Rattle.ob0_types_check.specs.Operations.{without_fault}
-use Rattle.ob0_types_check.specs.KnownDeclarations.{PartTypes, Size, KnownDeclarations, TypeWithState, facts_at, is_within_limits, append_composite, make_type, of_elements, of_fields, size_of_type_so_far, reported_too_large_type, type_at_index}
-use Rattle.ob0_types_check.specs.TypeFaults.{length_of, type_by_meaning}
-use Rattle.ob0_types_check.specs.WrittenTypeFaults.{KnownFields, made_array_type, array_size, with_field_group, no_known_fields, made_record_type, record_size, record_keyword, reported_fields, reported_groups, next_type_ordinal, reported_type, with_known_field, with_known_fields, token_before_group}
-use Rattle.ob0_types_check.specs.Agreement.{PartsAgree, IsKnownAndAgrees, TableAgrees, shape_in}
+use Rattle.ob0_types_check.specs.KnownDeclarations.{PartTypes, Size, KnownDeclarations, TypeWithState, facts_at, is_within_limits, append_composite, make_type, of_elements, of_fields, size_of_type_so_far, report_on_too_large_type, type_at_index}
+use Rattle.ob0_types_check.specs.TypeFaults.{length_by_operand, type_by_meaning}
+use Rattle.ob0_types_check.specs.WrittenTypeFaults.{KnownFields, made_array_type, array_size, with_field_group, no_known_fields, made_record_type, record_size, record_keyword_token, report_on_field_group, report_on_further_field_groups, next_type_ordinal, report_on_written_type, with_known_field, with_known_fields, token_before_group}
+use Rattle.ob0_types_check.specs.Agreement.{PartsAgreeWithShape, IsKnownAndAgreesWithObject, TableAgreesWithShapes, shape_of_type_in}
 use Rattle.ob0_types_check.specs.WellTypedLaws.{ordinal_of_shape}
 use Rattle.ob0_types_check.proofs.MadeOnce.{Apart, apart_made, apart_same, apart_then}
 use Rattle.ob0_types_check.proofs.PartsFitting.{PartsFit}
@@ -36,13 +36,13 @@ pub record Denotes (n : ℕ) (p : KnownDeclarations) (before : List Shape) (k l 
   pub after : List Shape
   pub apart : Apart k l before after
   pub later : Later n p u.following before after
-  pub known : shape_in after u.of ≡ Some shape
+  pub known : shape_of_type_in after u.of ≡ Some shape
 
 -- A name of a type denotes that type's shape if no fault is reported for the name.
-named_denotes : (n : ℕ) (w : KnownDeclarations) (p : KnownDeclarations) (before : List Shape) (k l : ℕ) → l ≡ k → (token : ℕ) (m : Option (Meaning TypeId)) (o : Option (meant.Object Shape Signature)) → TableAgrees p.made before → IsKnownAndAgrees (shape_in before) m o → (type_by_meaning (facts_at w false) token m).faults ≡ []
-    → Denotes n p before k l (type_of_name o) (record { of = (type_by_meaning (facts_at w false) token m).known; following = p })
+named_denotes : (n : ℕ) (w : KnownDeclarations) (p : KnownDeclarations) (before : List Shape) (k l : ℕ) → l ≡ k → (token : ℕ) (m : Option (Meaning TypeId)) (o : Option (meant.Object Shape Signature)) → TableAgreesWithShapes p.made before → IsKnownAndAgreesWithObject (shape_of_type_in before) m o → (type_by_meaning (facts_at w false) token m).faults ≡ []
+    → Denotes n p before k l (type_of_type_object o) (record { of = (type_by_meaning (facts_at w false) token m).known; following = p })
 named_denotes n w p before k l last token None o table alike e = absurd alike
-named_denotes n w p before k l last token (Some (a_type t)) o table (s, known, is) e = record { shape = s; given_is = ap type_of_name is; after = before; apart = apart_same k l before last; later = later_same n p before table; known = known }
+named_denotes n w p before k l last token (Some (a_type t)) o table (s, known, is) e = record { shape = s; given_is = ap type_of_type_object is; after = before; apart = apart_same k l before last; later = later_same n p before table; known = known }
 named_denotes n w p before k l last token (Some (a_constant v)) o table alike e = absurd (cc)
 named_denotes n w p before k l last token (Some (a_variable t)) o table alike e = absurd (cc)
 named_denotes n w p before k l last token (Some (a_procedure fs)) o table alike e = absurd (cc)
@@ -52,12 +52,12 @@ pub record MadeDenotes (n : ℕ) (p : KnownDeclarations) (before : List Shape) (
   pub limited : type_within_limits s ≡ Some s
   pub denotes : Denotes n p before k l (Some s) u
 
-made_denotes : (n : ℕ) (p q : KnownDeclarations) (before mid : List Shape) (k l word ordinal : ℕ) (parts : PartTypes) (size : Size) (s : Shape) → ordinal ≡ k → ordinal_of_shape s ≡ Some k → Apart (suc k) l before mid → Later n p q before mid → PartsAgree (shape_in mid) k parts s → SizeAgrees size s → shape_in (mid ++ s ∷ []) (type_at_index parts (length q.made)) ≡ Some s
+made_denotes : (n : ℕ) (p q : KnownDeclarations) (before mid : List Shape) (k l word ordinal : ℕ) (parts : PartTypes) (size : Size) (s : Shape) → ordinal ≡ k → ordinal_of_shape s ≡ Some k → Apart (suc k) l before mid → Later n p q before mid → PartsAgreeWithShape (shape_of_type_in mid) k parts s → SizeAgrees size s → shape_of_type_in (mid ++ s ∷ []) (type_at_index parts (length q.made)) ≡ Some s
     → (make_type q word ordinal parts size).faults ≡ [] → MadeDenotes n p before k l s (make_type q word ordinal parts size).known
 made_denotes n p q before mid k l word ordinal parts size s here number own later agrees sized last none =
     by_size (is_within_limits size) refl none
   where
-    by_size : (b : Bool) → is_within_limits size ≡ b → (if b then without_fault (append_composite q ordinal parts size) else reported_too_large_type q word).faults ≡ [] → MadeDenotes n p before k l s (if b then without_fault (append_composite q ordinal parts size) else reported_too_large_type q word).known
+    by_size : (b : Bool) → is_within_limits size ≡ b → (if b then without_fault (append_composite q ordinal parts size) else report_on_too_large_type q word).faults ≡ [] → MadeDenotes n p before k l s (if b then without_fault (append_composite q ordinal parts size) else report_on_too_large_type q word).known
     by_size false e h = absurd (cc)
     by_size true e h = record {
       limited = is_limited size s sized e;
@@ -72,7 +72,7 @@ made_denotes n p q before mid k l word ordinal parts size s here number own late
           room = later.room;
           kept = later.kept;
           longer = longer_then before mid (mid ++ s ∷ []) later.longer (longer_more mid (s ∷ []));
-          table = table_more q.made mid (record { ordinal = ordinal; parts = parts; size = size }) s later.table (record { parts = subst (λ j. PartsAgree (shape_in mid) j parts s) (sym here) agrees; scalars = sized.scalars_are; depth = sized.depth_is });
+          table = table_more q.made mid (record { ordinal = ordinal; parts = parts; size = size }) s later.table (record { parts = subst (λ j. PartsAgreeWithShape (shape_of_type_in mid) j parts s) (sym here) agrees; scalars = sized.scalars_are; depth = sized.depth_is });
         };
         known = last;
       };
@@ -147,7 +147,7 @@ map-same (x ∷ xs) = λ i. x ∷ map-same xs i
 pub nothing_agrees : (shapes : List Shape) (p : KnownDeclarations) → GatheredAgrees shapes (no_known_fields p) no_field_shape
 nothing_agrees shapes p = record { fields = tt; scalars_are = refl; depth_is = refl }
 
-nothing_more : (n : ℕ) (g : KnownFields) (before : List Shape) (k l : ℕ) → l ≡ k → (first : FieldShapes) → TableAgrees g.following.made before → GatheredAgrees before g first → AddsKnownFields n g.following before k l first no_field_shape g
+nothing_more : (n : ℕ) (g : KnownFields) (before : List Shape) (k l : ℕ) → l ≡ k → (first : FieldShapes) → TableAgreesWithShapes g.following.made before → GatheredAgrees before g first → AddsKnownFields n g.following before k l first no_field_shape g
 nothing_more n g before k l last first table h = record { after = before; apart = apart_same k l before last; later = later_same n g.following before table; agrees = subst (GatheredAgrees before g) (sym (followed-nothing first)) h }
 
 -- If a group of fields and the later groups have shapes, all of them together do.
@@ -202,20 +202,20 @@ more_groups k m n = omega arith
 
 module _ (w : Numbering) (fit : PartsFit) (n : ℕ) (scope : Scope Name) (env : TypeEnvironment Name) where
   mutual
-    unfolding reported_type denoted_type
+    unfolding report_on_written_type denoted_type
 
-    pub type_denotes : (around k : ℕ) (t : Tree ℕ written_type) (p : KnownDeclarations) (before : List Shape) → length before + around ≡ k → IsKnownAt w p before n scope env → AreSeen w scope t → (reported_type around p t).faults ≡ []
-        → Denotes n p before k (k + constructor_count (tree_with_names w.source t)) (denoted_type (meanings naming_by_spelling env) k (tree_with_names w.source t)) (reported_type around p t).known
+    pub type_denotes : (around k : ℕ) (t : Tree ℕ written_type) (p : KnownDeclarations) (before : List Shape) → length before + around ≡ k → IsKnownAt w p before n scope env → AreSeen w scope t → (report_on_written_type around p t).faults ≡ []
+        → Denotes n p before k (k + constructor_count (tree_with_names w.source t)) (denoted_type (meanings naming_by_spelling env) k (tree_with_names w.source t)) (report_on_written_type around p t).known
     type_denotes around k (named_type x) p before at st seen e =
         named_denotes n p p before k (k + 0) (omega arith) x ((facts_at p false).object_for x) ((meanings naming_by_spelling env).object_for (token_text_at w.source x)) st.table (seen_holds w p false before n scope env st x seen.0) (none-reported (type_by_meaning (facts_at p false) x ((facts_at p false).object_for x)).faults [] e).0
     type_denotes around k (array_type e u) p before at st seen h =
         let parts = each_part (IsSeen w scope) (occurrences e) (occurrences u) seen in
-        let o : Operand TypeId = (reported_expression (facts_at p true) e).known in
-        let l : Reported (Option ℕ) = length_of (facts_at p false) o in
-        let el : Reported TypeWithState = reported_type (suc around) p u in
+        let o : Operand TypeId = (report_on_expression (facts_at p true) e).known in
+        let l : Reported (Option ℕ) = length_by_operand (facts_at p false) o in
+        let el : Reported TypeWithState = report_on_written_type (suc around) p u in
         let ordinal : ℕ = next_type_ordinal around p in
         let here : ordinal ≡ k = omega (arith, table_long p.made before st.table, at) in
-        let a = none-reported (reported_expression (facts_at p true) e).faults (l.faults ++ (el.faults ++ (made_array_type ordinal o l.known el.known).faults)) h in
+        let a = none-reported (report_on_expression (facts_at p true) e).faults (l.faults ++ (el.faults ++ (made_array_type ordinal o l.known el.known).faults)) h in
         let b = none-reported l.faults (el.faults ++ (made_array_type ordinal o l.known el.known).faults) a.1 in
         let c = none-reported el.faults (made_array_type ordinal o l.known el.known).faults b.1 in
         let long = fit.lengths p before (token_text_at w.source) (meanings naming_by_spelling env) e (agrees_where_seen w p true before n scope env st fit e parts.0) (λ i. a.0 i ++ b.0 i) in
@@ -226,11 +226,11 @@ module _ (w : Numbering) (fit : PartsFit) (n : ℕ) (scope : Scope Name) (env : 
         (sized_array n p before k (suc k + inner) ordinal o l.known long.length (denoted_type (meanings naming_by_spelling env) (suc k) (tree_with_names w.source u)) el.known long.known here element c.1)
     type_denotes around k (record_type g rest) p before at st seen h =
         let parts = each_part (IsSeen w scope) (occurrences g) (occurrences rest) seen in
-        let word : ℕ = token_before_group g (record_keyword rest) in
+        let word : ℕ = token_before_group g (record_keyword_token rest) in
         let ordinal : ℕ = next_type_ordinal around p in
         let here : ordinal ≡ k = omega (arith, table_long p.made before st.table, at) in
-        let first : Reported KnownFields = reported_fields (suc around) (no_known_fields p) g in
-        let all : Reported KnownFields = reported_groups (suc around) first.known rest in
+        let first : Reported KnownFields = report_on_field_group (suc around) (no_known_fields p) g in
+        let all : Reported KnownFields = report_on_further_field_groups (suc around) first.known rest in
         let a = none-reported first.faults (all.faults ++ (made_record_type word ordinal all.known).faults) h in
         let b = none-reported all.faults (made_record_type word ordinal all.known).faults a.1 in
         let one = group_gathers (suc around) (suc k) g (no_known_fields p) before no_field_shape (omega (arith, at)) st parts.0 (nothing_agrees before p) a.0 in
@@ -242,22 +242,22 @@ module _ (w : Numbering) (fit : PartsFit) (n : ℕ) (scope : Scope Name) (env : 
         (record_denotes n p before k (suc k + c + d) word ordinal (option_and_then (λ ys. denoted_group_fields (meanings naming_by_spelling env) (suc k) ys (tree_with_names w.source g)) (denoted_further_fields (meanings naming_by_spelling env) (suc k + group_constructor_count (tree_with_names w.source g)) (tree_with_names w.source rest))) all.known here
         (both_gather n p before (suc k) (suc k + c) (suc k + c + d) no_field_shape (λ ys. denoted_group_fields (meanings naming_by_spelling env) (suc k) ys (tree_with_names w.source g)) first.known all.known (denoted_further_fields (meanings naming_by_spelling env) (suc k + group_constructor_count (tree_with_names w.source g)) (tree_with_names w.source rest)) one other) b.1)
 
-    pub group_gathers : (around k : ℕ) (t : Tree ℕ fields) (g : KnownFields) (before : List Shape) (first : FieldShapes) → length before + around ≡ k → IsKnownAt w g.following before n scope env → AreSeen w scope t → GatheredAgrees before g first → (reported_fields around g t).faults ≡ []
-        → GroupGathers n g.following before k (k + group_constructor_count (tree_with_names w.source t)) first (λ ys. denoted_group_fields (meanings naming_by_spelling env) k ys (tree_with_names w.source t)) (reported_fields around g t).known
+    pub group_gathers : (around k : ℕ) (t : Tree ℕ fields) (g : KnownFields) (before : List Shape) (first : FieldShapes) → length before + around ≡ k → IsKnownAt w g.following before n scope env → AreSeen w scope t → GatheredAgrees before g first → (report_on_field_group around g t).faults ≡ []
+        → GroupGathers n g.following before k (k + group_constructor_count (tree_with_names w.source t)) first (λ ys. denoted_group_fields (meanings naming_by_spelling env) k ys (tree_with_names w.source t)) (report_on_field_group around g t).known
     group_gathers around k no_fields g before first at st seen agrees h = record { own = no_field_shape; given_is = λ ys. refl; gathers = nothing_more n g before k (k + 0) (omega arith) first st.table agrees }
     group_gathers around k (some_fields ns t) g before first at st seen agrees h =
-        let u : Reported TypeWithState = reported_type around g.following t in
+        let u : Reported TypeWithState = report_on_written_type around g.following t in
         let d = type_denotes around k t g.following before at st seen (none-reported u.faults [] h).0 in
         names_gather n w g before k (k + constructor_count (tree_with_names w.source t)) first (names_in_list ns) (map (λ x. x) (names_in_list (tree_with_names w.source ns))) (denoted_type (meanings naming_by_spelling env) k (tree_with_names w.source t)) u.known st.source
         (map-same (names_in_list (tree_with_names w.source ns)) ∙ names_in_list-mapped_tree (token_text_at w.source) (token_value_at w.source) ns) agrees d
 
-    pub groups_gather : (around k : ℕ) (t : Tree ℕ (items further_fields)) (g : KnownFields) (before : List Shape) (first : FieldShapes) → length before + around ≡ k → IsKnownAt w g.following before n scope env → AreSeen w scope t → GatheredAgrees before g first → (reported_groups around g t).faults ≡ []
-        → GroupsGather n g.following before k (k + groups_constructor_count (tree_with_names w.source t)) first (denoted_further_fields (meanings naming_by_spelling env) k (tree_with_names w.source t)) (reported_groups around g t).known
+    pub groups_gather : (around k : ℕ) (t : Tree ℕ (items further_fields)) (g : KnownFields) (before : List Shape) (first : FieldShapes) → length before + around ≡ k → IsKnownAt w g.following before n scope env → AreSeen w scope t → GatheredAgrees before g first → (report_on_further_field_groups around g t).faults ≡ []
+        → GroupsGather n g.following before k (k + groups_constructor_count (tree_with_names w.source t)) first (denoted_further_fields (meanings naming_by_spelling env) k (tree_with_names w.source t)) (report_on_further_field_groups around g t).known
     groups_gather around k end g before first at st seen agrees h = record { own = no_field_shape; given_is = refl; gathers = nothing_more n g before k (k + 0) (omega arith) first st.table agrees }
     groups_gather around k (more (then_fields f) rest) g before first at st seen agrees h =
         let parts = each_part (IsSeen w scope) (occurrences f) (occurrences rest) seen in
-        let next : Reported KnownFields = reported_fields around g f in
-        let all : Reported KnownFields = reported_groups around next.known rest in
+        let next : Reported KnownFields = report_on_field_group around g f in
+        let all : Reported KnownFields = report_on_further_field_groups around next.known rest in
         let a = none-reported next.faults all.faults h in
         let one = group_gathers around k f g before first at st parts.0 agrees a.0 in
         let later = holds_later w n n n g.following next.known.following before one.gathers.after scope env (le_refl n) (le_refl n) st one.gathers.later in

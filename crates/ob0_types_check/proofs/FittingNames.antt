@@ -11,7 +11,7 @@ use Rattle.ob0_language_types.specs.WellTyped.{Signature, TypeMeanings}
 use Rattle.ob0_language_values.specs.Values.{Shape, Value, boolean_shape, elements, integer_shape, members, number, truth}
 use Rattle.ob0_types_check.specs.Known.{Facts, Meaning, Operand, a_constant, a_procedure, a_type, a_variable}
 use Rattle.ob0_types_check.specs.Operations.{constant_name_operand, typed_name_operand, fault_at_token, operand_by_meaning, without_fault}
-use Rattle.ob0_types_check.specs.Agreement.{IsKnownAndAgrees, TokenAgrees, TokensAgree, TypesAgree}
+use Rattle.ob0_types_check.specs.Agreement.{IsKnownAndAgreesWithObject, TokenAgreesWithLabel, TokensAgreeWithLabels, TypesAgreeWithShapes}
 use Rattle.ob0_types_check.proofs.FittingExpressions.{Fits, TokenFits, TokensFit}
 use Rattle.ob0_types_check.proofs.Operands.{none-of, some-of}
 use Rattle.ob0_scan.specs.declared.fault.FaultCode.TheVariants as code
@@ -21,7 +21,7 @@ pub record RunObjectAgrees {T P : Type 0} (shape : T → Option Shape) (k : Oper
   pub fits : Fits shape k (type_of_variable_or_constant o) (constant_of o)
   pub placed : k.may_be_variable ≡ true → o ≡ Some (meant.a_variable fits.of)
 
-module _ {T : Type 0} (facts : Facts T) (shape : T → Option Shape) (types : TypesAgree facts.types shape) where
+module _ {T : Type 0} (facts : Facts T) (shape : T → Option Shape) (types : TypesAgreeWithShapes facts.types shape) where
   constant-fits : {P : Type 0} (x : ℕ) (v : Value) → is_some (value_type v) ≡ true → RunObjectAgrees {P = P} shape (constant_name_operand facts.types (Some v) x) (Some (meant.a_constant v))
   constant-fits x (number n) h = record {
     fits = record { of = integer_shape; known = types.integer; typed = refl; value_agrees = refl; scalar = some-of integer_shape (number n) refl };
@@ -40,7 +40,7 @@ module _ {T : Type 0} (facts : Facts T) (shape : T → Option Shape) (types : Ty
   variable-fits x t s known true h = absurd (cc)
   variable-fits x t s known false h = record { fits = record { of = s; known = known; typed = refl; value_agrees = refl; scalar = none-of s }; placed = λ e. refl }
 
-  holds-fits : (x : ℕ) (m : Option (Meaning T)) (o : Option (Object Shape Signature)) → IsKnownAndAgrees shape m o → (operand_by_meaning facts x m).faults ≡ [] → RunObjectAgrees shape (operand_by_meaning facts x m).known o
+  holds-fits : (x : ℕ) (m : Option (Meaning T)) (o : Option (Object Shape Signature)) → IsKnownAndAgreesWithObject shape m o → (operand_by_meaning facts x m).faults ≡ [] → RunObjectAgrees shape (operand_by_meaning facts x m).known o
   holds-fits x None o a h = absurd a
   holds-fits x (Some (a_type t)) o a h = absurd (cc)
   holds-fits x (Some (a_procedure fs)) o a h = absurd (cc)
@@ -55,7 +55,7 @@ module _ {T : Type 0} (facts : Facts T) (shape : T → Option Shape) (types : Ty
   no-variable x t true only h = cc
   no-variable x t false only h = true≢false (sym only)
 
-  only-fits : {Q : Type 0} (x : ℕ) (m : Option (Meaning T)) (o : Option (Object Shape Signature)) → facts.only_constants ≡ true → IsKnownAndAgrees shape m o → (operand_by_meaning facts x m).faults ≡ []
+  only-fits : {Q : Type 0} (x : ℕ) (m : Option (Meaning T)) (o : Option (Object Shape Signature)) → facts.only_constants ≡ true → IsKnownAndAgreesWithObject shape m o → (operand_by_meaning facts x m).faults ≡ []
       → RunObjectAgrees {P = Q} shape (operand_by_meaning facts x m).known (option_map meant.a_constant (constant_of o))
   only-fits x None o only a h = absurd a
   only-fits x (Some (a_type t)) o only a h = absurd (cc)
@@ -64,25 +64,25 @@ module _ {T : Type 0} (facts : Facts T) (shape : T → Option Shape) (types : Ty
       subst₂ (λ c o. RunObjectAgrees {P = Q} shape (constant_name_operand facts.types c x) (option_map meant.a_constant (constant_of o))) (sym reported) (sym holds) (constant-fits x v scalar)
   only-fits x (Some (a_variable t)) o only a h = absurd (no-variable x t facts.only_constants only h)
 
-module _ {T N : Type 0} (facts : Facts T) (shape : T → Option Shape) (types : TypesAgree facts.types shape) (label : ℕ → N) (meaning : TypeMeanings N) where
-  token-fits : (r : Role) (x : ℕ) → TokenAgrees facts shape label meaning r x → TokenFits facts shape label meaning r x
+module _ {T N : Type 0} (facts : Facts T) (shape : T → Option Shape) (types : TypesAgreeWithShapes facts.types shape) (label : ℕ → N) (meaning : TypeMeanings N) where
+  token-fits : (r : Role) (x : ℕ) → TokenAgreesWithLabel facts shape label meaning r x → TokenFits facts shape label meaning r x
   token-fits role.LookedUp x a = λ h. let o = holds-fits facts shape types x (facts.object_for x) (meaning.object_for (label x)) a h in record { fits = o.fits; placed = o.placed }
   token-fits role.FieldName x a = a
   token-fits role.Declaring x a = tt
   token-fits role.ClosingName x a = tt
   token-fits role.ModuleName x a = tt
 
-  pub tokens-fit : (xs : List (Role × ℕ)) → TokensAgree facts shape label meaning xs → TokensFit facts shape label meaning xs
+  pub tokens-fit : (xs : List (Role × ℕ)) → TokensAgreeWithLabels facts shape label meaning xs → TokensFit facts shape label meaning xs
   tokens-fit [] a = tt
   tokens-fit (x ∷ xs) a = (token-fits x.0 x.1 a.0, tokens-fit xs a.1)
 
-  only-token : (Q : Type 0) → facts.only_constants ≡ true → (r : Role) (x : ℕ) → TokenAgrees facts shape label meaning r x → TokenFits {P = Q} facts shape label (constant_meanings meaning) r x
+  only-token : (Q : Type 0) → facts.only_constants ≡ true → (r : Role) (x : ℕ) → TokenAgreesWithLabel facts shape label meaning r x → TokenFits {P = Q} facts shape label (constant_meanings meaning) r x
   only-token Q only role.LookedUp x a = λ h. let o = only-fits facts shape types x (facts.object_for x) (meaning.object_for (label x)) only a h in record { fits = o.fits; placed = o.placed }
   only-token Q only role.FieldName x a = a
   only-token Q only role.Declaring x a = tt
   only-token Q only role.ClosingName x a = tt
   only-token Q only role.ModuleName x a = tt
 
-  pub only-tokens : (Q : Type 0) → facts.only_constants ≡ true → (xs : List (Role × ℕ)) → TokensAgree facts shape label meaning xs → TokensFit {P = Q} facts shape label (constant_meanings meaning) xs
+  pub only-tokens : (Q : Type 0) → facts.only_constants ≡ true → (xs : List (Role × ℕ)) → TokensAgreeWithLabels facts shape label meaning xs → TokensFit {P = Q} facts shape label (constant_meanings meaning) xs
   only-tokens Q only [] a = tt
   only-tokens Q only (x ∷ xs) a = (only-token Q only x.0 x.1 a.0, only-tokens Q only xs a.1)

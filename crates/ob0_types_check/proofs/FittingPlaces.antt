@@ -8,15 +8,15 @@ use Rattle.ob0_language_types.specs.Expressions.{Meanings, a_variable}
 use Rattle.ob0_language_types.specs.Typing.{lone_designator, type_after_selectors}
 use Rattle.ob0_language_types.specs.WellTyped.{variable_type}
 use Rattle.ob0_language_values.specs.Values.{Shape}
-use Rattle.ob0_types_check.specs.ExpressionFaults.{reported_expression, reported_factor, reported_selectors, reported_term}
+use Rattle.ob0_types_check.specs.ExpressionFaults.{report_on_expression, report_on_factor, report_on_selectors, report_on_term}
 use Rattle.ob0_types_check.specs.Known.{Facts, Operand}
-use Rattle.ob0_types_check.specs.Operations.{add_operands, multiply_operands, name_operand, sign_operand}
-use Rattle.ob0_types_check.specs.Agreement.{TypesAgree}
-use Rattle.ob0_types_check.specs.ReportLaws.{OperandAgrees}
+use Rattle.ob0_types_check.specs.Operations.{add_operands, multiply_operands, name_operand, signed_operand}
+use Rattle.ob0_types_check.specs.Agreement.{TypesAgreeWithShapes}
+use Rattle.ob0_types_check.specs.ReportLaws.{OperandAgreesWithExpression}
 use Rattle.ob0_types_check.proofs.FittingExpressions.{FitsExpression, FitsSelectors, NameFits, TokensFit, addends-apart, expression-fits, multipliers-apart, parts-placed, selectors-fit, split-tokens}
 use Rattle.ob0_types_check.proofs.Unreported.{none-reported}
 
-module _ {T N P : Type 0} (facts : Facts T) (shape : T → Option Shape) (types : TypesAgree facts.types shape) (label : ℕ → N) (meaning : Meanings N Shape P) where
+module _ {T N P : Type 0} (facts : Facts T) (shape : T → Option Shape) (types : TypesAgreeWithShapes facts.types shape) (label : ℕ → N) (meaning : Meanings N Shape P) where
   abbrev here : {s : Sort} → Tree ℕ s → Tree N s
   here t = mapped_tree label (token_value_at facts.source) t
 
@@ -40,9 +40,9 @@ module _ {T N P : Type 0} (facts : Facts T) (shape : T → Option Shape) (types 
     pub known : shape o.of ≡ Some of
     pub placed : variable_type meaning (lone_designator e) ≡ Some of
 
-  designator-placed : (x : ℕ) (path : Tree ℕ (items selector)) (f : Tree N factor) → NameFits facts shape label meaning x → Agreed path → (reported_selectors facts (name_operand facts x).known path).faults ≡ []
-      → (reported_selectors facts (name_operand facts x).known path).known.may_be_variable ≡ true
-      → IsPlaced (reported_selectors facts (name_operand facts x).known path).known (compares (sum None (product (designator (label x) (here path)) end) end) none)
+  designator-placed : (x : ℕ) (path : Tree ℕ (items selector)) (f : Tree N factor) → NameFits facts shape label meaning x → Agreed path → (report_on_selectors facts (name_operand facts x).known path).faults ≡ []
+      → (report_on_selectors facts (name_operand facts x).known path).known.may_be_variable ≡ true
+      → IsPlaced (report_on_selectors facts (name_operand facts x).known path).known (compares (sum None (product (designator (label x) (here path)) end) end) none)
   designator-placed x path f name k h e =
       let fs : FitsSelectors facts shape types label meaning (name_operand facts x).known name.fits.of path = selectors-fit facts shape types label meaning (name_operand facts x).known name.fits.of path name.fits.known k h in
       record {
@@ -54,32 +54,32 @@ module _ {T N P : Type 0} (facts : Facts T) (shape : T → Option Shape) (types 
   no-place : {A : Type 0} (o : Operand T) → o.may_be_variable ≡ false → o.may_be_variable ≡ true → A
   no-place o f e = absurd (true≢false (sym e ∙ f))
 
-  placed-factor : (f : Tree ℕ factor) → Agreed f → (reported_factor facts f).faults ≡ [] → (reported_factor facts f).known.may_be_variable ≡ true
-      → IsPlaced (reported_factor facts f).known (compares (sum None (product (here f) end) end) none)
-  unfolding reported_expression
+  placed-factor : (f : Tree ℕ factor) → Agreed f → (report_on_factor facts f).faults ≡ [] → (report_on_factor facts f).known.may_be_variable ≡ true
+      → IsPlaced (report_on_factor facts f).known (compares (sum None (product (here f) end) end) none)
+  unfolding report_on_expression
   placed-factor (designator x path) k h e =
       let parts = none-reported (name_operand facts x).faults _ h in
       designator-placed x path (here (designator x path)) (k.0 parts.0) k.1 parts.1 e
-  placed-factor (integer n) k h e = no-place (reported_factor facts (integer n)).known refl e
-  placed-factor (parenthesised a) k h e = no-place (reported_factor facts (parenthesised a)).known refl e
-  placed-factor (negation a) k h e = no-place (reported_factor facts (negation a)).known refl e
+  placed-factor (integer n) k h e = no-place (report_on_factor facts (integer n)).known refl e
+  placed-factor (parenthesised a) k h e = no-place (report_on_factor facts (parenthesised a)).known refl e
+  placed-factor (negation a) k h e = no-place (report_on_factor facts (negation a)).known refl e
 
-  pub expression-placed : (e : Tree ℕ expression) → Agreed e → (reported_expression facts e).faults ≡ [] → (reported_expression facts e).known.may_be_variable ≡ true → IsPlaced (reported_expression facts e).known (here e)
-  unfolding reported_expression
-  expression-placed (compares a (one (relates r b))) k h e = no-place (reported_expression facts (compares a (one (relates r b)))).known refl e
+  pub expression-placed : (e : Tree ℕ expression) → Agreed e → (report_on_expression facts e).faults ≡ [] → (report_on_expression facts e).known.may_be_variable ≡ true → IsPlaced (report_on_expression facts e).known (here e)
+  unfolding report_on_expression
+  expression-placed (compares a (one (relates r b))) k h e = no-place (report_on_expression facts (compares a (one (relates r b)))).known refl e
   expression-placed (compares (sum g t (more (adds o u) rest)) none) k h e =
-      no-place (reported_expression facts (compares (sum g t (more (adds o u) rest)) none)).known
-      (addends-apart facts (add_operands facts o (sign_operand facts g (reported_term facts t).known).known (reported_term facts u).known).known rest refl) e
-  expression-placed (compares (sum (Some g) t end) none) k h e = no-place (reported_expression facts (compares (sum (Some g) t end) none)).known refl e
+      no-place (report_on_expression facts (compares (sum g t (more (adds o u) rest)) none)).known
+      (addends-apart facts (add_operands facts o (signed_operand facts g (report_on_term facts t).known).known (report_on_term facts u).known).known rest refl) e
+  expression-placed (compares (sum (Some g) t end) none) k h e = no-place (report_on_expression facts (compares (sum (Some g) t end) none)).known refl e
   expression-placed (compares (sum None (product f (more (multiplies o u) rest)) end) none) k h e =
-      no-place (reported_expression facts (compares (sum None (product f (more (multiplies o u) rest)) end) none)).known
-      (multipliers-apart facts (multiply_operands facts o (reported_factor facts f).known (reported_factor facts u).known).known rest refl) e
+      no-place (report_on_expression facts (compares (sum None (product f (more (multiplies o u) rest)) end) none)).known
+      (multipliers-apart facts (multiply_operands facts o (report_on_factor facts f).known (report_on_factor facts u).known).known rest refl) e
   expression-placed (compares (sum None (product f end) end) none) k h e =
       placed-factor f (split (ids f) [] (split (ids (product f end)) [] (split (ids (sum None (product f end) end)) [] k).0).0).0
-      (none-reported (reported_factor facts f).faults _ (none-reported (reported_term facts (product f end)).faults _ h).0).0 e
+      (none-reported (report_on_factor facts f).faults _ (none-reported (report_on_term facts (product f end)).faults _ h).0).0 e
 
-  -- An operand for which no fault is reported agrees with its expression (`OperandAgrees`).
-  pub operand-fits : (e : Tree ℕ expression) → Agreed e → (reported_expression facts e).faults ≡ [] → OperandAgrees shape meaning (reported_expression facts e).known (here e)
+  -- An operand for which no fault is reported agrees with its expression (`OperandAgreesWithExpression`).
+  pub operand-fits : (e : Tree ℕ expression) → Agreed e → (report_on_expression facts e).faults ≡ [] → OperandAgreesWithExpression shape meaning (report_on_expression facts e).known (here e)
   operand-fits e k h =
       let fe : FitsExpression facts shape types label meaning e = expression-fits facts shape types label meaning e k h in
       record {
@@ -88,5 +88,5 @@ module _ {T N P : Type 0} (facts : Facts T) (shape : T → Option Shape) (types 
         typed = fe.typed;
         value_agrees = fe.value_agrees;
         scalar = fe.scalar;
-        placed = λ i. let p : IsPlaced (reported_expression facts e).known (here e) = expression-placed e k h i in p.placed ∙ (sym p.known ∙ fe.known);
+        placed = λ i. let p : IsPlaced (report_on_expression facts e).known (here e) = expression-placed e k h i in p.placed ∙ (sym p.known ∙ fe.known);
       }

@@ -8,20 +8,20 @@ use Rattle.ob0_tree.specs.declared.tree.Role.{Role}
 use Rattle.ob0_tree.specs.declared.tree.Role.TheVariants as role
 use Rattle.ob0_tree.specs.Places.{token_value_at}
 use Rattle.ob0_tree.specs.Tree.{Sort, Tree, arguments, assigns, branches, calls, else_branch, else_part, elsif_branch, elsif_part, empty, end, expression, further_argument, further_statement, identifiers, items, mapped_tree, maybe, more, no_arguments, none, one, repeat_loop, runs, selector, sequence, some_arguments, statement, then_argument, then_statement, while_loop}
-use Rattle.ob0_language_types.specs.Arguments.{arguments_listed, further_arguments}
+use Rattle.ob0_language_types.specs.Arguments.{call_arguments, further_arguments}
 use Rattle.ob0_language_types.specs.Expressions as meant
 use Rattle.ob0_language_types.specs.Expressions.{Object}
 use Rattle.ob0_language_types.specs.Typing.{lone_designator, type_of}
 use Rattle.ob0_language_types.specs.WellTyped.{FormalParameter, Signature, TypeMeanings, same_known_shape, argument_matches, arguments_match, by_place, by_value, call_is_well_typed, condition_is_boolean, else_is_well_typed, elsifs_are_well_typed, sequence_is_well_typed, signature_of, statement_is_well_typed, further_statements_are_well_typed, variable_type}
 use Rattle.ob0_language_values.specs.Values.{Shape, boolean_shape}
-use Rattle.ob0_types_check.specs.ExpressionFaults.{reported_expression}
+use Rattle.ob0_types_check.specs.ExpressionFaults.{report_on_expression}
 use Rattle.ob0_types_check.specs.Known.{Facts, Meaning, Operand, Reported, a_constant, a_procedure, a_type, a_variable}
 use Rattle.ob0_types_check.specs.Known as known
 use Rattle.ob0_types_check.specs.Operations.{typed_name_operand, required_type, fault_at_operand}
 use Rattle.ob0_types_check.specs.KnownDeclarations.{facts_at}
-use Rattle.ob0_types_check.specs.StatementFaults.{target_name_type, target_type_by_meaning, call_faults_by_meaning, faults_of_argument, argument_faults, typed_expression_faults, assignment_faults, call_faults, condition_faults, else_faults, elsif_faults, sequence_faults, statement_faults, further_statement_faults, reported_target}
-use Rattle.ob0_types_check.specs.Agreement.{FormalsAgree, IsKnownAndAgrees, TokensAgree, TypesAgree, shape_in}
-use Rattle.ob0_types_check.specs.ReportLaws.{OperandAgrees, StatementsWithoutFaultAreTyped}
+use Rattle.ob0_types_check.specs.StatementFaults.{target_name_type, target_type_by_meaning, call_faults_by_meaning, faults_of_argument, faults_of_arguments, typed_expression_faults, assignment_faults, call_faults, condition_faults, else_faults, elsif_faults, sequence_faults, statement_faults, further_statement_faults, report_on_target}
+use Rattle.ob0_types_check.specs.Agreement.{FormalsAgreeWithSignature, IsKnownAndAgreesWithObject, TokensAgreeWithLabels, TypesAgreeWithShapes, shape_of_type_in}
+use Rattle.ob0_types_check.specs.ReportLaws.{OperandAgreesWithExpression, FaultlessStatementsAreWellTyped}
 use Rattle.ob0_types_check.proofs.FittingExpressions.{FitsSelectors, selectors-fit}
 use Rattle.ob0_types_check.proofs.FittingNames.{tokens-fit}
 use Rattle.ob0_types_check.proofs.FittingPlaces.{operand-fits, variable-typed}
@@ -40,7 +40,7 @@ counted : {A : Type 0} (b : Bool) (xs : List A) (x : A) → (if b then xs else x
 counted true xs x h = (refl, h)
 counted false xs x h = absurd (cc)
 
-module _ {T N : Type 0} (facts : Facts T) (shape : T → Option Shape) (types : TypesAgree facts.types shape) (label : ℕ → N) (meaning : TypeMeanings N) where
+module _ {T N : Type 0} (facts : Facts T) (shape : T → Option Shape) (types : TypesAgreeWithShapes facts.types shape) (label : ℕ → N) (meaning : TypeMeanings N) where
   abbrev here : {s : Sort} → Tree ℕ s → Tree N s
   here t = mapped_tree label (token_value_at facts.source) t
 
@@ -48,22 +48,22 @@ module _ {T N : Type 0} (facts : Facts T) (shape : T → Option Shape) (types : 
   ids t = identifiers role.Declaring t
 
   abbrev pub Agreed : {s : Sort} → Tree ℕ s → Type 0
-  Agreed t = TokensAgree facts shape label meaning (identifiers role.Declaring t)
+  Agreed t = TokensAgreeWithLabels facts shape label meaning (identifiers role.Declaring t)
 
-  pub split : (xs ys : List (Role × ℕ)) → TokensAgree facts shape label meaning (xs ++ ys) → TokensAgree facts shape label meaning xs × TokensAgree facts shape label meaning ys
+  pub split : (xs ys : List (Role × ℕ)) → TokensAgreeWithLabels facts shape label meaning (xs ++ ys) → TokensAgreeWithLabels facts shape label meaning xs × TokensAgreeWithLabels facts shape label meaning ys
   split [] ys h = (tt, h)
   split (x ∷ xs) ys h = let rest = split xs ys h.1 in ((h.0, rest.0), rest.1)
 
-  pub known-operand : (e : Tree ℕ expression) → Agreed e → (reported_expression facts e).faults ≡ [] → OperandAgrees shape meaning (reported_expression facts e).known (here e)
+  pub known-operand : (e : Tree ℕ expression) → Agreed e → (report_on_expression facts e).faults ≡ [] → OperandAgreesWithExpression shape meaning (report_on_expression facts e).known (here e)
   known-operand e k h = operand-fits facts shape types label meaning e (tokens-fit facts shape types label meaning (ids e) k) h
 
   -- An expression that must have a type has it if no fault is reported.
   requested-typed : (wanted : T) (w : Shape) (e : Tree ℕ expression) → shape wanted ≡ Some w → Agreed e → typed_expression_faults facts wanted e ≡ [] → type_of meaning (here e) ≡ Some w
   unfolding typed_expression_faults
   requested-typed wanted w e hw k h =
-      let parts = none-reported (reported_expression facts e).faults _ h in
-      let o : OperandAgrees shape meaning (reported_expression facts e).known (here e) = known-operand e k parts.0 in
-      let (given, same) = requested-fits facts shape types wanted (reported_expression facts e).known o.of w o.known hw parts.1 in
+      let parts = none-reported (report_on_expression facts e).faults _ h in
+      let o : OperandAgreesWithExpression shape meaning (report_on_expression facts e).known (here e) = known-operand e k parts.0 in
+      let (given, same) = requested-fits facts shape types wanted (report_on_expression facts e).known o.of w o.known hw parts.1 in
       o.typed ∙ ap (λ s. Some s) same
 
   condition-fits : (e : Tree ℕ expression) → Agreed e → condition_faults facts e ≡ [] → condition_is_boolean meaning (here e) ≡ true
@@ -77,17 +77,17 @@ module _ {T N : Type 0} (facts : Facts T) (shape : T → Option Shape) (types : 
     pub known : shape reported.known ≡ Some of
     pub holds : o ≡ Some (meant.a_variable of)
 
-  assigned-holds : (x : ℕ) (m : Option (Meaning T)) (o : Option (Object Shape Signature)) → IsKnownAndAgrees shape m o → (target_type_by_meaning facts x m).faults ≡ [] → IsAssigned (target_type_by_meaning facts x m) o
+  assigned-holds : (x : ℕ) (m : Option (Meaning T)) (o : Option (Object Shape Signature)) → IsKnownAndAgreesWithObject shape m o → (target_type_by_meaning facts x m).faults ≡ [] → IsAssigned (target_type_by_meaning facts x m) o
   assigned-holds x None o a h = absurd a
   assigned-holds x (Some (a_type t)) o a h = absurd (cc)
   assigned-holds x (Some (a_constant c)) o a h = absurd (cc)
   assigned-holds x (Some (a_procedure fs)) o a h = absurd (cc)
   assigned-holds x (Some (a_variable t)) o (s, reported, holds) h = record { of = s; known = reported; holds = holds }
 
-  assignment-fits : (x : ℕ) (path : Tree ℕ (items selector)) (e : Tree ℕ expression) → Agreed (assigns x path e) → assignment_faults facts (reported_target facts x path) e ≡ [] → statement_is_well_typed meaning (here (assigns x path e)) ≡ true
-  unfolding reported_target statement_is_well_typed
+  assignment-fits : (x : ℕ) (path : Tree ℕ (items selector)) (e : Tree ℕ expression) → Agreed (assigns x path e) → assignment_faults facts (report_on_target facts x path) e ≡ [] → statement_is_well_typed meaning (here (assigns x path e)) ≡ true
+  unfolding report_on_target statement_is_well_typed
   assignment-fits x path e k h =
-      let parts = none-reported (reported_target facts x path).faults _ h in
+      let parts = none-reported (report_on_target facts x path).faults _ h in
       let target = none-reported (target_name_type facts x).faults _ parts.0 in
       let rest = split (ids path) (ids e) k.1 in
       let a : IsAssigned (target_name_type facts x) (meaning.object_for (label x)) = assigned-holds x (facts.object_for x) (meaning.object_for (label x)) k.0 target.0 in
@@ -95,11 +95,11 @@ module _ {T N : Type 0} (facts : Facts T) (shape : T → Option Shape) (types : 
       = selectors-fit facts shape types label meaning (typed_name_operand (target_name_type facts x).known x) a.of path a.known (tokens-fit facts shape types label meaning (ids path) rest.0) target.1 in
       same_known_shape-same fs.of (variable_type meaning (Some (label x, here path))) (type_of meaning (here e))
       (variable-typed facts shape types label meaning x path a.of (Some fs.of) a.holds fs.typed)
-      (requested-typed (reported_target facts x path).known.of fs.of e fs.known rest.1 parts.1)
+      (requested-typed (report_on_target facts x path).known.of fs.of e fs.known rest.1 parts.1)
 
   -- Arguments and calls fit if no fault is reported for them.
 
-  required_type_of_argument-fits : (b : Bool) (of : T) (g : FormalParameter) (e : Tree ℕ expression) (o : Operand T) → OperandAgrees shape meaning o (here e) → g.mode ≡ mode_of b → shape of ≡ Some g.shape
+  required_type_of_argument-fits : (b : Bool) (of : T) (g : FormalParameter) (e : Tree ℕ expression) (o : Operand T) → OperandAgreesWithExpression shape meaning o (here e) → g.mode ≡ mode_of b → shape of ≡ Some g.shape
       → (if b && not o.may_be_variable then record { known = facts.types.unknown; faults = fault_at_operand facts code.NotVariable o } else required_type facts of o).faults ≡ [] → argument_matches meaning g (here e) ≡ true
   unfolding argument_matches
   required_type_of_argument-fits true of g e o fe mode wanted h =
@@ -115,14 +115,14 @@ module _ {T N : Type 0} (facts : Facts T) (shape : T → Option Shape) (types : 
   argument-fits : (f : known.KnownParameter T) (g : FormalParameter) (e : Tree ℕ expression) → g.mode ≡ mode_of f.by_place → shape f.of ≡ Some g.shape → Agreed e → faults_of_argument facts f e ≡ [] → argument_matches meaning g (here e) ≡ true
   unfolding faults_of_argument
   argument-fits f g e mode wanted k h =
-      let parts = none-reported (reported_expression facts e).faults _ h in
-      required_type_of_argument-fits f.by_place f.of g e (reported_expression facts e).known (known-operand e k parts.0) mode wanted parts.1
+      let parts = none-reported (report_on_expression facts e).faults _ h in
+      required_type_of_argument-fits f.by_place f.of g e (report_on_expression facts e).known (known-operand e k parts.0) mode wanted parts.1
 
   abbrev pub EachAgreed : List (Tree ℕ expression) → Type 0
   EachAgreed [] = Unit {0}
   EachAgreed (e ∷ es) = Agreed e × EachAgreed es
 
-  arguments-fit : (fs : List (known.KnownParameter T)) (gs : Signature) (es : List (Tree ℕ expression)) → FormalsAgree shape fs gs → length fs ≡ length es → EachAgreed es → argument_faults facts fs es ≡ []
+  arguments-fit : (fs : List (known.KnownParameter T)) (gs : Signature) (es : List (Tree ℕ expression)) → FormalsAgreeWithSignature shape fs gs → length fs ≡ length es → EachAgreed es → faults_of_arguments facts fs es ≡ []
       → arguments_match meaning gs (map here es) ≡ true
   unfolding arguments_match
   arguments-fit [] [] [] a n k h = refl
@@ -138,7 +138,7 @@ module _ {T N : Type 0} (facts : Facts T) (shape : T → Option Shape) (types : 
   further-mapped_tree end = refl
   further-mapped_tree (more (then_argument e) es) = λ i. here e ∷ further-mapped_tree es i
 
-  pub arguments-mapped_tree : (es : Tree ℕ (maybe arguments)) → arguments_listed (here es) ≡ map here (arguments_listed es)
+  pub arguments-mapped_tree : (es : Tree ℕ (maybe arguments)) → call_arguments (here es) ≡ map here (call_arguments es)
   arguments-mapped_tree none = refl
   arguments-mapped_tree (one no_arguments) = refl
   arguments-mapped_tree (one (some_arguments e es)) = λ i. here e ∷ further-mapped_tree es i
@@ -147,26 +147,26 @@ module _ {T N : Type 0} (facts : Facts T) (shape : T → Option Shape) (types : 
   further-agreed end k = tt
   further-agreed (more (then_argument e) es) k = let parts = split (ids e) (ids es) k in (parts.0, further-agreed es parts.1)
 
-  pub arguments-agreed : (es : Tree ℕ (maybe arguments)) → Agreed es → EachAgreed (arguments_listed es)
+  pub arguments-agreed : (es : Tree ℕ (maybe arguments)) → Agreed es → EachAgreed (call_arguments es)
   arguments-agreed none k = tt
   arguments-agreed (one no_arguments) k = tt
   arguments-agreed (one (some_arguments e es)) k = let parts = split (ids e) (ids es) k in (parts.0, further-agreed es parts.1)
 
-  called-fits : (x : ℕ) (m : Option (Meaning T)) (o : Option (Object Shape Signature)) (es : List (Tree ℕ expression)) → IsKnownAndAgrees shape m o → EachAgreed es → call_faults_by_meaning facts x m es ≡ [] → call_is_well_typed meaning (signature_of o) (map here es) ≡ true
+  called-fits : (x : ℕ) (m : Option (Meaning T)) (o : Option (Object Shape Signature)) (es : List (Tree ℕ expression)) → IsKnownAndAgreesWithObject shape m o → EachAgreed es → call_faults_by_meaning facts x m es ≡ [] → call_is_well_typed meaning (signature_of o) (map here es) ≡ true
   unfolding call_is_well_typed
   called-fits x None o es a k h = absurd a
   called-fits x (Some (a_type t)) o es a k h = absurd (cc)
   called-fits x (Some (a_constant c)) o es a k h = absurd (cc)
   called-fits x (Some (a_variable t)) o es a k h = absurd (cc)
   called-fits x (Some (a_procedure fs)) o es (signature, holds, formals) k h =
-      let parts = counted (nat_eq (length fs) (length es)) (argument_faults facts fs es) _ h in
+      let parts = counted (nat_eq (length fs) (length es)) (faults_of_arguments facts fs es) _ h in
       ap (λ s. call_is_well_typed meaning s (map here es)) holds ∙ arguments-fit fs signature es formals (eqb-true (length fs) (length es) parts.0) k parts.1
 
-  call-fits : (x : ℕ) (es : Tree ℕ (maybe arguments)) → Agreed (calls x es) → call_faults facts x (arguments_listed es) ≡ [] → statement_is_well_typed meaning (here (calls x es)) ≡ true
+  call-fits : (x : ℕ) (es : Tree ℕ (maybe arguments)) → Agreed (calls x es) → call_faults facts x (call_arguments es) ≡ [] → statement_is_well_typed meaning (here (calls x es)) ≡ true
   unfolding statement_is_well_typed
   call-fits x es k h =
       ap (call_is_well_typed meaning (signature_of (meaning.object_for (label x)))) (arguments-mapped_tree es)
-      ∙ called-fits x (facts.object_for x) (meaning.object_for (label x)) (arguments_listed es) k.0 (arguments-agreed es k.1) h
+      ∙ called-fits x (facts.object_for x) (meaning.object_for (label x)) (call_arguments es) k.0 (arguments-agreed es k.1) h
 
   mutual
     unfolding statement_faults statement_is_well_typed
@@ -219,5 +219,5 @@ module _ {T N : Type 0} (facts : Facts T) (shape : T → Option Shape) (types : 
     else-fits none k h = refl
     else-fits (one (else_branch statements)) k h = sequence-fits statements k h
 
-pub statements_without_fault_are_typed-holds : {N : Type 0} → StatementsWithoutFaultAreTyped N
-statements_without_fault_are_typed-holds p shapes label meaning statements agrees h = sequence-fits (facts_at p false) (shape_in shapes) agrees.types label meaning statements agrees.tokens h
+pub faultless_statements_are_well_typed-holds : {N : Type 0} → FaultlessStatementsAreWellTyped N
+faultless_statements_are_well_typed-holds p shapes label meaning statements agrees h = sequence-fits (facts_at p false) (shape_of_type_in shapes) agrees.types label meaning statements agrees.tokens h

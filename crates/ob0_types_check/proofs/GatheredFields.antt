@@ -7,15 +7,15 @@ use Rattle.std.proofs.lemmas.List.{drop_all, drop_more}
 use Rattle.ob0_scan.specs.declared.fault.Fault.{Fault}
 use Rattle.ob0_types_table.specs.declared.types.TypeId.{TypeId}
 use Rattle.ob0_tree.specs.Places.{token_text_at}
-use Rattle.ob0_tree.specs.View.{fields_of, further_fields_of_group}
-use Rattle.ob0_tree.specs.declared.tree.Fields.{Fields}
+use Rattle.ob0_tree.specs.View.{optional_field_group_of, further_field_group_of}
+use Rattle.ob0_tree.specs.declared.tree.OptionalFieldGroup.{OptionalFieldGroup}
 use Rattle.ob0_types_check.specs.declared.reporting.checker_state.CheckerState.{CheckerState}
 use Rattle.ob0_types_check.specs.declared.reporting.written_types.KnownFields as gathering
 use Rattle.ob0_types_check.specs.Known.{Reported}
 use Rattle.ob0_types_check.specs.Operations.{ReturnsAndReports}
 use Rattle.ob0_types_check.specs.KnownDeclarations.{Size, zero_size, size_of_type_so_far}
-use Rattle.ob0_types_check.specs.CheckerViews.{AddsKnownFields, HasKnownFields, capped_size, fields_in, size_of, declarations_in_state}
-use Rattle.ob0_types_check.specs.WrittenTypeFaults.{KnownFields, sum_of_sizes, no_known_fields, reported_fields, reported_groups, with_known_field, with_known_fields}
+use Rattle.ob0_types_check.specs.CheckerViews.{AddsKnownFields, HasKnownFields, capped_size, known_fields_of, size_of, declarations_in_state}
+use Rattle.ob0_types_check.specs.WrittenTypeFaults.{KnownFields, sum_of_sizes, no_known_fields, report_on_field_group, report_on_further_field_groups, with_known_field, with_known_fields}
 use Rattle.ob0_types_check.proofs.Chains.{Chained, chain_goes_on}
 use Rattle.ob0_types_check.proofs.ReportedTypes.{group_reported, groups_chain}
 
@@ -28,7 +28,7 @@ beside_counted z w =
 
 -- If the code has gathered the same fields, it still has when both add a field.
 pub one_more : (g : KnownFields) (s : CheckerState) (old new : gathering.KnownFields) (token : ℕ) (t : TypeId) (w : Size) → HasKnownFields g s old
-    → fields_in new.fields.items ≡ fields_in old.fields.items ++ record { name = token_text_at s.resolved.now.module_read.source token; of = t } ∷ []
+    → known_fields_of new.fields.items ≡ known_fields_of old.fields.items ++ record { name = token_text_at s.resolved.now.module_read.source token; of = t } ∷ []
     → size_of new.size ≡ capped_size (sum_of_sizes (size_of old.size) w) → w ≡ size_of_type_so_far (declarations_in_state s).made t → HasKnownFields (with_known_field t g token) s new
 one_more g s old new token t w h fields size is = record {
   fields = fields ∙ (λ j. h.fields j ++ record { name = token_text_at (h.following j).source token; of = t } ∷ []);
@@ -56,23 +56,23 @@ names_end {t = t} {s = s} {xs = xs} {done = done} {now = now} n over =
     subst (λ g. HasKnownFields g s now) (sym (ap (with_known_fields t n.out) (drop_all done xs over)) ∙ n.left) n.is
 
 -- holds if the groups gathered so far and the remaining groups are all groups
-pub record GroupsGathered (around : ℕ) (start : KnownFields) (before : List Fault) (xs : List Fields) (done : ℕ) (now : List Fault) (s : CheckerState) (gathered : gathering.KnownFields) : Type 0 where
+pub record GroupsGathered (around : ℕ) (start : KnownFields) (before : List Fault) (xs : List OptionalFieldGroup) (done : ℕ) (now : List Fault) (s : CheckerState) (gathered : gathering.KnownFields) : Type 0 where
   pub out : KnownFields
   pub is : HasKnownFields out s gathered
-  pub reported : Chained (reported_groups around) further_fields_of_group before start xs done now out
+  pub reported : Chained (report_on_further_field_groups around) further_field_group_of before start xs done now out
 
 pub gathers : {before after : List Fault} {s : CheckerState} {gathered : gathering.KnownFields} {x : KnownFields} {t : Reported KnownFields} → ReturnsAndReports before after x t → HasKnownFields x s gathered → AddsKnownFields before after s gathered t
 gathers {s = s} {gathered = gathered} reports is = record { reported = reports.reported; now = subst (λ z. HasKnownFields z s gathered) reports.known is }
 
-pub groups_begin : {around : ℕ} {before : List Fault} {xs : List Fields} (s : CheckerState) (gathered : gathering.KnownFields) → fields_in gathered.fields.items ≡ [] → size_of gathered.size ≡ zero_size
+pub groups_begin : {around : ℕ} {before : List Fault} {xs : List OptionalFieldGroup} (s : CheckerState) (gathered : gathering.KnownFields) → known_fields_of gathered.fields.items ≡ [] → size_of gathered.size ≡ zero_size
     → GroupsGathered around (no_known_fields (declarations_in_state s)) before xs 0 before s gathered
 groups_begin s gathered fields size = record { out = no_known_fields (declarations_in_state s); is = record { fields = fields; size = size; following = refl }; reported = record { so_far = refl } }
 
-pub groups_go_on : {around : ℕ} {start : KnownFields} {before : List Fault} {xs : List Fields} {done : ℕ} {now next : List Fault} {s s2 : CheckerState} {gathered gathered2 : gathering.KnownFields} (x : Fields)
+pub groups_go_on : {around : ℕ} {start : KnownFields} {before : List Fault} {xs : List OptionalFieldGroup} {done : ℕ} {now next : List Fault} {s s2 : CheckerState} {gathered gathered2 : gathering.KnownFields} (x : OptionalFieldGroup)
     → GroupsGathered around start before xs done now s gathered → done < length xs → x ≡ get_or xs done x
-    → ((g : KnownFields) → HasKnownFields g s gathered → AddsKnownFields now next s2 gathered2 (reported_fields around g (fields_of x))) → GroupsGathered around start before xs (done + 1) next s2 gathered2
+    → ((g : KnownFields) → HasKnownFields g s gathered → AddsKnownFields now next s2 gathered2 (report_on_field_group around g (optional_field_group_of x))) → GroupsGathered around start before xs (done + 1) next s2 gathered2
 groups_go_on {around = around} {now = now} {next = next} x n less here step =
-    let reported = reported_fields around n.out (fields_of x) in
+    let reported = report_on_field_group around n.out (optional_field_group_of x) in
     let h = step n.out n.is in
     let reports : ReturnsAndReports now next reported.known reported = record { known = refl; reported = h.reported } in
-    record { out = reported.known; is = h.now; reported = chain_goes_on x (groups_chain around) n.reported less here (subst (ReturnsAndReports now next reported.known) (sym (group_reported around n.out (fields_of x))) reports) }
+    record { out = reported.known; is = h.now; reported = chain_goes_on x (groups_chain around) n.reported less here (subst (ReturnsAndReports now next reported.known) (sym (group_reported around n.out (optional_field_group_of x))) reports) }

@@ -16,9 +16,9 @@ use Rattle.ob0_language_types.specs.Selected.{apply_to_both}
 use Rattle.ob0_language_types.specs.Typing.{addition_type, negation_type, element_type, field_type, outcome_value, multiplication_type, relation_type, shape_of_field, sign_type, value_type}
 use Rattle.ob0_language_values.specs.Values.{Overflow, Shape, Value, add, add_short_circuits, boolean_shape, checked_division, division_outcome, ends_run_with, succeeds_with, checked_number, integer_shape, multiply, multiply_short_circuits, negate, number, quotient, apply_relation, remainder, truth}
 use Rattle.ob0_language_values.specs.Values as values
-use Rattle.ob0_types_check.specs.Known.{Facts, Form, Operand, Reported, a_record, a_scalar, an_array, unknown_form}
-use Rattle.ob0_types_check.specs.Operations.{add_operands, required_type, required_type_of_both, fault_at_operand, complement_operand, element_type_in_form, element_operand, field_type_in_form, field_operand, may_be_same_type, field_type_or_fault, multiply_operands, relate_operands, sign_operand, comparison_type, operand_type_of_addition, operand_type_of_equality, operand_type_of_multiplication, operand_type_of_relation}
-use Rattle.ob0_types_check.specs.Agreement.{FormAgrees, TypesAgree}
+use Rattle.ob0_types_check.specs.Known.{Facts, TypeForm, Operand, Reported, a_record, a_scalar, an_array, unknown_form}
+use Rattle.ob0_types_check.specs.Operations.{add_operands, required_type, required_type_of_both, fault_at_operand, negated_operand, element_type_in_form, element_operand, field_type_in_form, field_operand, may_be_same_type, field_type_or_fault, multiply_operands, relate_operands, signed_operand, comparison_type, operand_type_of_addition, operand_type_of_equality, operand_type_of_multiplication, operand_type_of_relation}
+use Rattle.ob0_types_check.specs.Agreement.{FormAgreesWithShape, TypesAgreeWithShapes}
 use Rattle.ob0_types_check.proofs.Unreported.{first-of, first-reported, none-if, none-reported, not-true, some-none, some-same}
 
 -- holds if a value, when present, has this type
@@ -107,8 +107,8 @@ relation-of r a b =
 sign-of : (s : Sign) (a : Option Value) → IsOf integer_shape (option_and_then (λ x. outcome_value (values.apply_sign (Some s) x)) a)
 sign-of s a = then-of integer_shape (λ x. outcome_value (values.apply_sign (Some s) x)) a (λ x e. apply_sign-of s x)
 
-pub complement-of : (a : Option Value) → IsOf boolean_shape (option_and_then (λ x. outcome_value (negate x)) a)
-complement-of a = then-of boolean_shape (λ x. outcome_value (negate x)) a (λ x e. negate-of x)
+pub value_of_negation-of : (a : Option Value) → IsOf boolean_shape (option_and_then (λ x. outcome_value (negate x)) a)
+value_of_negation-of a = then-of boolean_shape (λ x. outcome_value (negate x)) a (λ x e. negate-of x)
 
 add-typed : (o : AddOperator) → addition_type o (shape_added o) (shape_added o) ≡ Some (shape_added o)
 add-typed add_operator.Add = refl
@@ -125,7 +125,7 @@ sign-typed : (s : Sign) → sign_type (Some s) integer_shape ≡ Some integer_sh
 sign-typed sign.Plus = refl
 sign-typed sign.Minus = refl
 
-module _ {T : Type 0} (facts : Facts T) (shape : T → Option Shape) (types : TypesAgree facts.types shape) where
+module _ {T : Type 0} (facts : Facts T) (shape : T → Option Shape) (types : TypesAgreeWithShapes facts.types shape) where
   pub is-known : (t : T) (s : Shape) → shape t ≡ Some s → facts.types.same t facts.types.unknown ≡ true → ⊥
   is-known t s h e = some-none s (sym h ∙ types.same t facts.types.unknown e ∙ types.unknown)
 
@@ -205,15 +205,15 @@ module _ {T : Type 0} (facts : Facts T) (shape : T → Option Shape) (types : Ty
       let (known, left, right) = apply_to_both-requested (operand_type_of_relation facts.types r a.of) a b s t w hs ht hw (none-reported _ _ h).0 in
       (ap (λ u. shape (comparison_type facts.types u)) known ∙ truth-known (operand_type_of_relation facts.types r a.of) w hw, (λ i. relation_type r (left i) (right i)) ∙ typed)
 
-  pub apply_sign-fits : (g : Option Sign) (o : Operand T) (s : Shape) → shape o.of ≡ Some s → (sign_operand facts g o).faults ≡ []
-      → (w : Shape) × (shape (sign_operand facts g o).known.of ≡ Some w) × (sign_type g s ≡ Some w) × (IsOf s o.value → IsOf w (sign_operand facts g o).known.value)
+  pub apply_sign-fits : (g : Option Sign) (o : Operand T) (s : Shape) → shape o.of ≡ Some s → (signed_operand facts g o).faults ≡ []
+      → (w : Shape) × (shape (signed_operand facts g o).known.of ≡ Some w) × (sign_type g s ≡ Some w) × (IsOf s o.value → IsOf w (signed_operand facts g o).known.value)
   apply_sign-fits None o s hs h = (s, hs, refl, λ has_value. has_value)
   apply_sign-fits (Some g) o s hs h =
       let (known, right) = requested-fits facts.types.integer o s integer_shape hs types.integer (none-reported _ _ h).0 in
       (integer_shape, ap shape known ∙ types.integer, ap (sign_type (Some g)) right ∙ sign-typed g, λ has_value. sign-of g o.value)
 
-  pub complemented-fits : (o : Operand T) (s : Shape) → shape o.of ≡ Some s → (complement_operand facts o).faults ≡ []
-      → (shape (complement_operand facts o).known.of ≡ Some boolean_shape) × (negation_type s ≡ Some boolean_shape)
+  pub complemented-fits : (o : Operand T) (s : Shape) → shape o.of ≡ Some s → (negated_operand facts o).faults ≡ []
+      → (shape (negated_operand facts o).known.of ≡ Some boolean_shape) × (negation_type s ≡ Some boolean_shape)
   complemented-fits o s hs h =
       let (known, right) = requested-fits facts.types.boolean o s boolean_shape hs types.boolean (none-reported _ _ h).0 in
       (ap shape known ∙ types.boolean, ap negation_type right)
@@ -225,7 +225,7 @@ module _ {T : Type 0} (facts : Facts T) (shape : T → Option Shape) (types : Ty
   found-fits x (Some u) None e h = absurd (cc)
   found-fits x (Some u) (Some v) e h = (v, some-same (shape u) (Some v) e, refl)
 
-  field-found : (f : Form T) (s : Shape) → FormAgrees shape f s → (x : ℕ) → (field_type_in_form facts x f).faults ≡ [] → (u : Shape) × (shape (field_type_in_form facts x f).known ≡ Some u) × (field_type s (token_text_at facts.source x) ≡ Some u)
+  field-found : (f : TypeForm T) (s : Shape) → FormAgreesWithShape shape f s → (x : ℕ) → (field_type_in_form facts x f).faults ≡ [] → (u : Shape) × (shape (field_type_in_form facts x f).known ≡ Some u) × (field_type s (token_text_at facts.source x) ≡ Some u)
   field-found a_scalar s a x h = absurd (cc)
   field-found (an_array t) s a x h = absurd (cc)
   field-found (a_record fields) s (k, fs, e, each) x h =
@@ -237,7 +237,7 @@ module _ {T : Type 0} (facts : Facts T) (shape : T → Option Shape) (types : Ty
       → (u : Shape) × (shape (field_operand facts o x).known.of ≡ Some u) × (field_type s (token_text_at facts.source x) ≡ Some u)
   field-fits o s hs x h = field-found (facts.types.form o.of) s (types.form_agrees o.of s hs) x (none-reported _ _ h).0
 
-  element-found : (f : Form T) (s : Shape) → FormAgrees shape f s → (o : Operand T) (n : T) → n ≡ facts.types.integer → (element_type_in_form facts o n f).faults ≡ []
+  element-found : (f : TypeForm T) (s : Shape) → FormAgreesWithShape shape f s → (o : Operand T) (n : T) → n ≡ facts.types.integer → (element_type_in_form facts o n f).faults ≡ []
       → (u : Shape) × (shape (element_type_in_form facts o n f).known ≡ Some u) × (element_type s integer_shape ≡ Some u)
   element-found a_scalar s a o n e h = absurd (cc)
   element-found (an_array t) s (k, count, u, same, known) o n e h =

@@ -7,13 +7,13 @@ use Rattle.ob0_language_types.specs.Expressions.{Meanings, Object, a_constant, e
 use Rattle.ob0_language_types.specs.Typing.{array_length, constant_of, constant_value, constant_meanings, outcome_value, type_of}
 use Rattle.ob0_language_types.specs.WellTyped.{TypeMeanings}
 use Rattle.ob0_language_values.specs.Values.{Place, Shape, Value, integer_shape}
-use Rattle.ob0_types_check.specs.ExpressionFaults.{reported_expression}
+use Rattle.ob0_types_check.specs.ExpressionFaults.{report_on_expression}
 use Rattle.ob0_types_check.specs.Known.{Facts, Operand}
 use Rattle.ob0_types_check.specs.Operations.{required_type, without_fault}
 use Rattle.ob0_types_check.specs.KnownDeclarations.{facts_at}
-use Rattle.ob0_types_check.specs.TypeFaults.{operand_value, length_or_fault, length_by_value, length_of, reported_constant, value_or_fault}
-use Rattle.ob0_types_check.specs.Agreement.{TypesAndMeaningsAgree, TypesAgree, shape_in}
-use Rattle.ob0_types_check.specs.ReportLaws.{ConstantsWithoutFaultAgree, ExpressionsWithoutFaultAgree, LengthsWithoutFaultAgree, OperandAgrees, allowed_meanings}
+use Rattle.ob0_types_check.specs.TypeFaults.{operand_value, length_or_fault, length_by_value, length_by_operand, report_on_constant_expression, value_or_fault}
+use Rattle.ob0_types_check.specs.Agreement.{TypesAndMeaningsAgree, TypesAgreeWithShapes, shape_of_type_in}
+use Rattle.ob0_types_check.specs.ReportLaws.{FaultlessConstantsHaveCorrectValues, FaultlessExpressionsHaveCorrectTypesAndValues, FaultlessLengthsHaveCorrectValues, OperandAgreesWithExpression, allowed_meanings}
 use Rattle.ob0_types_check.proofs.FittingExpressions.{FitsExpression, expression-fits}
 use Rattle.ob0_types_check.proofs.FittingNames.{only-tokens, tokens-fit}
 use Rattle.ob0_types_check.proofs.FittingPlaces.{operand-fits}
@@ -27,18 +27,18 @@ pub constants-again : {N V P : Type 0} (meaning : Meanings N V P) → constant_m
 constants-again meaning = λ i. record { object_for = λ x. only-once (meaning.object_for x) i; written = meaning.written }
 
 module _ {T N : Type 0} (facts : Facts T) (shape : T → Option Shape) (label : ℕ → N) (meaning : TypeMeanings N) (e : Tree ℕ expression) (agrees : TypesAndMeaningsAgree facts shape label meaning e) where
-  pub here-fits : (b : Bool) → facts.only_constants ≡ b → (reported_expression facts e).faults ≡ [] → OperandAgrees shape (allowed_meanings b meaning) (reported_expression facts e).known (mapped_tree label (token_value_at facts.source) e)
+  pub here-fits : (b : Bool) → facts.only_constants ≡ b → (report_on_expression facts e).faults ≡ [] → OperandAgreesWithExpression shape (allowed_meanings b meaning) (report_on_expression facts e).known (mapped_tree label (token_value_at facts.source) e)
   here-fits true only h = operand-fits facts shape agrees.types label (constant_meanings meaning) e (only-tokens facts shape agrees.types label meaning _ only (identifiers role.Declaring e) agrees.tokens) h
   here-fits false only h = operand-fits facts shape agrees.types label meaning e (tokens-fit facts shape agrees.types label meaning (identifiers role.Declaring e) agrees.tokens) h
 
   -- holds if an operand has a type, and its value, when present, is the constant's value
   pub record IsConstant : Type 0 where
     pub of : Shape
-    pub known : shape (reported_expression facts e).known.of ≡ Some of
-    pub given : (v : Value) → (reported_expression facts e).known.value ≡ Some v → constant_value meaning (mapped_tree label (token_value_at facts.source) e) ≡ Some v
-    pub scalar : IsOf of (reported_expression facts e).known.value
+    pub known : shape (report_on_expression facts e).known.of ≡ Some of
+    pub given : (v : Value) → (report_on_expression facts e).known.value ≡ Some v → constant_value meaning (mapped_tree label (token_value_at facts.source) e) ≡ Some v
+    pub scalar : IsOf of (report_on_expression facts e).known.value
 
-  pub constant-known : facts.only_constants ≡ true → (reported_expression facts e).faults ≡ [] → IsConstant
+  pub constant-known : facts.only_constants ≡ true → (report_on_expression facts e).faults ≡ [] → IsConstant
   unfolding constant_value
   constant-known only h =
       let fe : FitsExpression facts shape agrees.types label (constant_meanings {W = Shape} {Q = Unit {0}} meaning) e
@@ -66,18 +66,18 @@ operand_value-there facts o known h =
     let w = value-there facts o o.value refl (sym (ap (λ b. (if b then without_fault None else value_or_fault facts o o.value).faults) known) ∙ h) in
     record { value = w.value; known = ap (λ b. (if b then without_fault None else value_or_fault facts o o.value).known) known ∙ w.known; there = w.there }
 
-pub constants_without_fault_agree-holds : {N : Type 0} → ConstantsWithoutFaultAgree N
-unfolding reported_constant
-constants_without_fault_agree-holds p shapes label meaning e agrees h =
+pub faultless_constants_have_correct_values-holds : {N : Type 0} → FaultlessConstantsHaveCorrectValues N
+unfolding report_on_constant_expression
+faultless_constants_have_correct_values-holds p shapes label meaning e agrees h =
     let facts = facts_at p true in
-    let parts = none-reported (reported_expression facts e).faults _ h in
-    let c = constant-known facts (shape_in shapes) label meaning e agrees refl parts.0 in
-    let o : Operand _ = (reported_expression facts e).known in
-    let w = operand_value-there facts o (not-true (facts.types.same o.of facts.types.unknown) (is-known facts (shape_in shapes) agrees.types o.of c.of c.known)) parts.1 in
+    let parts = none-reported (report_on_expression facts e).faults _ h in
+    let c = constant-known facts (shape_of_type_in shapes) label meaning e agrees refl parts.0 in
+    let o : Operand _ = (report_on_expression facts e).known in
+    let w = operand_value-there facts o (not-true (facts.types.same o.of facts.types.unknown) (is-known facts (shape_of_type_in shapes) agrees.types o.of c.of c.known)) parts.1 in
     record { value = w.value; known = w.known; given = c.given w.value w.there; scalar = ap is_some (c.scalar w.value w.there) }
 
-pub expressions_without_fault_agree-holds : {N : Type 0} → ExpressionsWithoutFaultAgree N
-expressions_without_fault_agree-holds p only shapes label meaning e agrees h = here-fits (facts_at p only) (shape_in shapes) label meaning e agrees only refl h
+pub faultless_expressions_have_correct_types_and_values-holds : {N : Type 0} → FaultlessExpressionsHaveCorrectTypesAndValues N
+faultless_expressions_have_correct_types_and_values-holds p only shapes label meaning e agrees h = here-fits (facts_at p only) (shape_of_type_in shapes) label meaning e agrees only refl h
 
 -- holds if a length is reported and is the length that the operand's value gives
 pub record IsLong {T : Type 0} (o : Operand T) (reported : Option ℕ) : Type 0 where
@@ -95,7 +95,7 @@ length-given : {T : Type 0} (facts : Facts T) (o : Operand T) (c : Option Value)
 length-given facts o None e h = absurd (cc)
 length-given facts o (Some v) e h = bounded facts o v (array_length v) e refl h
 
-pub length-there : {T : Type 0} (facts : Facts T) (shape : T → Option Shape) (types : TypesAgree facts.types shape) (o : Operand T) (s : Shape) → shape o.of ≡ Some s → (length_of facts o).faults ≡ [] → IsLong o (length_of facts o).known
+pub length-there : {T : Type 0} (facts : Facts T) (shape : T → Option Shape) (types : TypesAgreeWithShapes facts.types shape) (o : Operand T) (s : Shape) → shape o.of ≡ Some s → (length_by_operand facts o).faults ≡ [] → IsLong o (length_by_operand facts o).known
 length-there facts shape types o s hs h =
     let parts = none-reported (required_type facts facts.types.integer o).faults _ h in
     let (given, same) = requested-fits facts shape types facts.types.integer o s integer_shape hs types.integer parts.0 in
@@ -109,9 +109,9 @@ length-there facts shape types o s hs h =
       counted = long.counted;
     }
 
-pub lengths_without_fault_agree-holds : {N : Type 0} → LengthsWithoutFaultAgree N
-lengths_without_fault_agree-holds p shapes label meaning e agrees h =
-    let parts = none-reported (reported_expression (facts_at p true) e).faults _ h in
-    let c = constant-known (facts_at p true) (shape_in shapes) label meaning e agrees refl parts.0 in
-    let long = length-there (facts_at p false) (shape_in shapes) agrees.types (reported_expression (facts_at p true) e).known c.of c.known parts.1 in
+pub faultless_lengths_have_correct_values-holds : {N : Type 0} → FaultlessLengthsHaveCorrectValues N
+faultless_lengths_have_correct_values-holds p shapes label meaning e agrees h =
+    let parts = none-reported (report_on_expression (facts_at p true) e).faults _ h in
+    let c = constant-known (facts_at p true) (shape_of_type_in shapes) label meaning e agrees refl parts.0 in
+    let long = length-there (facts_at p false) (shape_of_type_in shapes) agrees.types (report_on_expression (facts_at p true) e).known c.of c.known parts.1 in
     record { value = long.value; length = long.length; known = long.known; given = c.given long.value long.there; counted = long.counted }

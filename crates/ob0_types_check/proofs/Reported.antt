@@ -5,12 +5,12 @@ use Rattle.ob0_scan.specs.declared.fault.Fault.{Fault}
 use Rattle.ob0_tree.specs.ParsedModule.{named_tree_of}
 use Rattle.ob0_scope_table.specs.Resolution.{IsResolution, Resolution, is_undeclared_fault}
 use Rattle.ob0_types_table.specs.Tables.{AreEntriesInOrder}
-use Rattle.ob0_types_check.specs.DeclarationFaults.{module_faults}
-use Rattle.ob0_types_check.specs.ModuleLaws.{WalkWithoutFaultFindsMeanings, HasDeclarations, KnowsDeclarations}
+use Rattle.ob0_types_check.specs.DeclarationFaults.{undeclared_name_and_type_faults}
+use Rattle.ob0_types_check.specs.ModuleLaws.{WalkWithoutFaultFindsCorrectMeanings, HasDeclarations, KnowsDeclarations}
 use Rattle.ob0_types_check.specs.Known.{Reported}
 use Rattle.ob0_types_check.specs.Operations.{ReturnsAndReports}
 use Rattle.ob0_types_check.specs.KnownDeclarations.{KnownDeclarations}
-use Rattle.ob0_types_check.specs.SomeBodies.{IsFinishedWalk, WalkProgress, every_body, reported_module_with_bodies, walk_progress_of}
+use Rattle.ob0_types_check.specs.SomeBodies.{IsFinishedWalk, WalkProgress, every_body, report_on_module_with_wanted_bodies, walk_progress_of}
 use Rattle.ob0_types_check.specs.CheckerViews.{declarations_in_state, table_in_state}
 use Rattle.ob0_types_check.specs.declared.reporting.checker_state.CheckerState.{CheckerState}
 use Rattle.ob0_types_check.proofs.Listed.{nothing_left}
@@ -26,7 +26,7 @@ pub is_something : (xs : List Fault) (n : ℕ) (b : Bool) → n ≡ length xs �
 is_something xs n b long e h none = true≢false (sym (eq-eqb n 0 (long ∙ ap length none)) ∙ (sym e ∙ h))
 
 -- A walk over some bodies ends with the faults of the module if it reports the same as the walk over all bodies.
-pub walked : (r : Resolution) (before after : List Fault) (s : CheckerState) (bodies_with_faults : List ℕ) (t : Reported WalkProgress) → before ≡ filter is_undeclared_fault r.faults → reported_module_with_bodies every_body r ≡ t → ReturnsAndReports before after (walk_progress_of s bodies_with_faults) t → IsFinishedWalk r after s bodies_with_faults
+pub walked : (r : Resolution) (before after : List Fault) (s : CheckerState) (bodies_with_faults : List ℕ) (t : Reported WalkProgress) → before ≡ filter is_undeclared_fault r.faults → report_on_module_with_wanted_bodies every_body r ≡ t → ReturnsAndReports before after (walk_progress_of s bodies_with_faults) t → IsFinishedWalk r after s bodies_with_faults
 walked r before after s bodies_with_faults t first is reported =
     let all = sym (module_forgets r) in
     record {
@@ -35,8 +35,8 @@ walked r before after s bodies_with_faults t first is reported =
       faulty_bodies_are = ap (λ (w : WalkProgress). w.bodies_with_faults) (reported.known ∙ ap (λ (x : Reported WalkProgress). x.known) (sym is));
     }
 
-module _ (r : Resolution) (after : List Fault) (s : CheckerState) (bodies_with_faults : List ℕ) (w : IsFinishedWalk r after s bodies_with_faults) (law : WalkWithoutFaultFindsMeanings) (is : IsResolution r) (none : after ≡ []) where
-  pub nothing : module_faults r ≡ []
+module _ (r : Resolution) (after : List Fault) (s : CheckerState) (bodies_with_faults : List ℕ) (w : IsFinishedWalk r after s bodies_with_faults) (law : WalkWithoutFaultFindsCorrectMeanings) (is : IsResolution r) (none : after ≡ []) where
+  pub nothing : undeclared_name_and_type_faults r ≡ []
   nothing = sym w.faults ∙ none
 
   pub knows : KnowsDeclarations (declarations_in_state s) (named_tree_of r.module_read)

@@ -8,19 +8,19 @@ use Rattle.ob0_language_names.specs.Parts.{formal_sections, further_names, modul
 use Rattle.ob0_types_table.specs.declared.known.FormalParameter as formal
 use Rattle.ob0_types_table.specs.declared.types.TypeId.{TypeId}
 use Rattle.ob0_tree.specs.Tree.{Tree, begins, block, body, constant, constants, declares, declares_constant, declares_procedure, declares_type, declares_variable, end, expression, formals, further_section, forms_block, item, items, maybe, more, names, none, one, procedure, sequence, then_name, then_section, type_definition, type_definitions, value_section, variable, variable_section, variables, written_type}
-use Rattle.ob0_tree.specs.View.{block_of, formals_of_list, formals_of, further_section_of, items_of, names_of, procedure_of}
+use Rattle.ob0_tree.specs.View.{block_of, formals_of_list, formals_of, further_parameter_section_of, items_of, names_of, procedure_of}
 use Rattle.ob0_tree.specs.declared.tree.Names.{Names}
 use Rattle.ob0_tree.specs.declared.tree.Procedure.{Procedure, out-Procedure, roll-out-Procedure}
 use Rattle.ob0_tree.specs.declared.tree.ParameterSection.{ParameterSection}
 use Rattle.ob0_tree.proofs.Viewed.{procedure_made}
-use Rattle.ob0_types_check.specs.DeclarationFaults.{KnownHeading, state_after_heading, reported_constant_declaration, reported_block, reported_body, reported_constants, module_faults, reported_parameters, reported_procedure, reported_procedures, reported_section, reported_sections, reported_types, reported_variables, reported_type_declaration, reported_variable_group, with_parameters}
+use Rattle.ob0_types_check.specs.DeclarationFaults.{KnownHeading, declarations_after_heading, report_on_constant_declaration, report_on_block, report_on_body, report_on_constant_declarations, undeclared_name_and_type_faults, report_on_parameters, report_on_procedure, report_on_procedures, report_on_parameter_section, report_on_parameter_sections, report_on_type_declarations, report_on_variable_declarations, report_on_type_declaration, report_on_variable_group, with_parameters}
 use Rattle.ob0_types_check.specs.Known.{Meaning, a_constant, a_type, a_variable}
 use Rattle.ob0_types_check.specs.Operations.{without_fault, ◌>>=◌}
 use Rattle.ob0_types_check.specs.KnownDeclarations.{KnownDeclarations, state_at_start, define, define_all, facts_at}
 use Rattle.ob0_types_check.specs.StatementFaults.{sequence_faults}
 use Rattle.ob0_types_check.specs.CheckerViews.{formal_of}
-use Rattle.ob0_types_check.specs.TypeFaults.{reported_constant}
-use Rattle.ob0_types_check.specs.WrittenTypeFaults.{reported_type}
+use Rattle.ob0_types_check.specs.TypeFaults.{report_on_constant_expression}
+use Rattle.ob0_types_check.specs.WrittenTypeFaults.{report_on_written_type}
 use Rattle.ob0_types_check.proofs.Chains.{IsChain}
 
 further_are : (xs : List ℕ) → further_names (items_of then_name xs) ≡ xs
@@ -41,111 +41,111 @@ alike f (x ∷ xs) = ap (λ fs. formal_of f ∷ fs) (alike f xs)
 pub parameters_added : (old : List formal.FormalParameter) (f : formal.FormalParameter) (xs : List ℕ) → map formal_of (old ++ map (λ x. f) xs) ≡ map formal_of old ++ map (λ x. formal_of f) xs
 parameters_added old f xs = map-append formal_of old (map (λ x. f) xs) ∙ ap (λ fs. map formal_of old ++ fs) (alike f xs)
 
-pub constant_reported : (p : KnownDeclarations) (x : ℕ) (e : Tree ℕ expression) → reported_constant_declaration p (declares_constant x e) ≡ (reported_constant (facts_at p true) e >>= (λ v. without_fault (define p (a_constant v) x)))
-unfolding reported_constant_declaration
+pub constant_reported : (p : KnownDeclarations) (x : ℕ) (e : Tree ℕ expression) → report_on_constant_declaration p (declares_constant x e) ≡ (report_on_constant_expression (facts_at p true) e >>= (λ v. without_fault (define p (a_constant v) x)))
+unfolding report_on_constant_declaration
 constant_reported p x e = refl
 
-pub constants_ended : (p : KnownDeclarations) → reported_constants p end ≡ without_fault p
-unfolding reported_constants
+pub constants_ended : (p : KnownDeclarations) → report_on_constant_declarations p end ≡ without_fault p
+unfolding report_on_constant_declarations
 constants_ended p = refl
 
-constants_stepped : (p : KnownDeclarations) (t : Tree ℕ (item constant)) (ts : Tree ℕ (items constant)) → reported_constants p (more t ts) ≡ (reported_constant_declaration p t >>= (λ q. reported_constants q ts))
-unfolding reported_constants
+constants_stepped : (p : KnownDeclarations) (t : Tree ℕ (item constant)) (ts : Tree ℕ (items constant)) → report_on_constant_declarations p (more t ts) ≡ (report_on_constant_declaration p t >>= (λ q. report_on_constant_declarations q ts))
+unfolding report_on_constant_declarations
 constants_stepped p t ts = refl
 
-pub constants_chain : IsChain reported_constants reported_constant_declaration
+pub constants_chain : IsChain report_on_constant_declarations report_on_constant_declaration
 constants_chain = record { ended = constants_ended; stepped = constants_stepped }
 
-pub type_reported : (p : KnownDeclarations) (x : ℕ) (t : Tree ℕ written_type) → reported_type_declaration p (declares_type x t) ≡ (reported_type 0 p t >>= (λ u. without_fault (define u.following (a_type u.of) x)))
-unfolding reported_type_declaration
+pub type_reported : (p : KnownDeclarations) (x : ℕ) (t : Tree ℕ written_type) → report_on_type_declaration p (declares_type x t) ≡ (report_on_written_type 0 p t >>= (λ u. without_fault (define u.following (a_type u.of) x)))
+unfolding report_on_type_declaration
 type_reported p x t = refl
 
-pub types_ended : (p : KnownDeclarations) → reported_types p end ≡ without_fault p
-unfolding reported_types
+pub types_ended : (p : KnownDeclarations) → report_on_type_declarations p end ≡ without_fault p
+unfolding report_on_type_declarations
 types_ended p = refl
 
-types_stepped : (p : KnownDeclarations) (t : Tree ℕ (item type_definition)) (ts : Tree ℕ (items type_definition)) → reported_types p (more t ts) ≡ (reported_type_declaration p t >>= (λ q. reported_types q ts))
-unfolding reported_types
+types_stepped : (p : KnownDeclarations) (t : Tree ℕ (item type_definition)) (ts : Tree ℕ (items type_definition)) → report_on_type_declarations p (more t ts) ≡ (report_on_type_declaration p t >>= (λ q. report_on_type_declarations q ts))
+unfolding report_on_type_declarations
 types_stepped p t ts = refl
 
-pub types_chain : IsChain reported_types reported_type_declaration
+pub types_chain : IsChain report_on_type_declarations report_on_type_declaration
 types_chain = record { ended = types_ended; stepped = types_stepped }
 
-pub variables_reported : (p : KnownDeclarations) (ns : Names) (t : Tree ℕ written_type) → reported_variable_group p (declares_variable (names_of ns) t) ≡ (reported_type 0 p t >>= (λ u. without_fault (define_all u.following (a_variable u.of) (ns.first ∷ ns.more.items))))
-unfolding reported_variable_group
-variables_reported p ns t = ap (λ xs. reported_type 0 p t >>= (λ u. without_fault (define_all u.following (a_variable u.of) xs))) (names_are ns)
+pub variables_reported : (p : KnownDeclarations) (ns : Names) (t : Tree ℕ written_type) → report_on_variable_group p (declares_variable (names_of ns) t) ≡ (report_on_written_type 0 p t >>= (λ u. without_fault (define_all u.following (a_variable u.of) (ns.first ∷ ns.more.items))))
+unfolding report_on_variable_group
+variables_reported p ns t = ap (λ xs. report_on_written_type 0 p t >>= (λ u. without_fault (define_all u.following (a_variable u.of) xs))) (names_are ns)
 
-pub variables_ended : (p : KnownDeclarations) → reported_variables p end ≡ without_fault p
-unfolding reported_variables
+pub variables_ended : (p : KnownDeclarations) → report_on_variable_declarations p end ≡ without_fault p
+unfolding report_on_variable_declarations
 variables_ended p = refl
 
-variables_stepped : (p : KnownDeclarations) (t : Tree ℕ (item variable)) (ts : Tree ℕ (items variable)) → reported_variables p (more t ts) ≡ (reported_variable_group p t >>= (λ q. reported_variables q ts))
-unfolding reported_variables
+variables_stepped : (p : KnownDeclarations) (t : Tree ℕ (item variable)) (ts : Tree ℕ (items variable)) → report_on_variable_declarations p (more t ts) ≡ (report_on_variable_group p t >>= (λ q. report_on_variable_declarations q ts))
+unfolding report_on_variable_declarations
 variables_stepped p t ts = refl
 
-pub variables_chain : IsChain reported_variables reported_variable_group
+pub variables_chain : IsChain report_on_variable_declarations report_on_variable_group
 variables_chain = record { ended = variables_ended; stepped = variables_stepped }
 
-parameters_reported : (h : KnownHeading) (b : Bool) (ns : Tree ℕ names) (t : Tree ℕ written_type) → reported_section h (then_section (if b then variable_section ns t else value_section ns t)) ≡ (reported_type 0 h.following t >>= (λ u. without_fault (with_parameters h b (names_in_list ns) u)))
-unfolding reported_section reported_parameters
+parameters_reported : (h : KnownHeading) (b : Bool) (ns : Tree ℕ names) (t : Tree ℕ written_type) → report_on_parameter_section h (then_section (if b then variable_section ns t else value_section ns t)) ≡ (report_on_written_type 0 h.following t >>= (λ u. without_fault (with_parameters h b (names_in_list ns) u)))
+unfolding report_on_parameter_section report_on_parameters
 parameters_reported h true ns t = refl
 parameters_reported h false ns t = refl
 
 pub section_reported : (h : KnownHeading) (b : Bool) (ns : Names) (t : Tree ℕ written_type)
-    → reported_section h (then_section (if b then variable_section (names_of ns) t else value_section (names_of ns) t)) ≡ (reported_type 0 h.following t >>= (λ u. without_fault (with_parameters h b (ns.first ∷ ns.more.items) u)))
-section_reported h b ns t = parameters_reported h b (names_of ns) t ∙ ap (λ xs. reported_type 0 h.following t >>= (λ u. without_fault (with_parameters h b xs u))) (names_are ns)
+    → report_on_parameter_section h (then_section (if b then variable_section (names_of ns) t else value_section (names_of ns) t)) ≡ (report_on_written_type 0 h.following t >>= (λ u. without_fault (with_parameters h b (ns.first ∷ ns.more.items) u)))
+section_reported h b ns t = parameters_reported h b (names_of ns) t ∙ ap (λ xs. report_on_written_type 0 h.following t >>= (λ u. without_fault (with_parameters h b xs u))) (names_are ns)
 
-pub sections_listed : (ss : List ParameterSection) → formal_sections (one (formals_of_list ss)) ≡ items_of further_section_of ss
+pub sections_listed : (ss : List ParameterSection) → formal_sections (one (formals_of_list ss)) ≡ items_of further_parameter_section_of ss
 sections_listed [] = refl
 sections_listed (s ∷ ss) = refl
 
-pub sections_ended : (h : KnownHeading) → reported_sections h end ≡ without_fault h
-unfolding reported_sections
+pub sections_ended : (h : KnownHeading) → report_on_parameter_sections h end ≡ without_fault h
+unfolding report_on_parameter_sections
 sections_ended h = refl
 
-sections_stepped : (h : KnownHeading) (t : Tree ℕ (item further_section)) (ts : Tree ℕ (items further_section)) → reported_sections h (more t ts) ≡ (reported_section h t >>= (λ g. reported_sections g ts))
-unfolding reported_sections
+sections_stepped : (h : KnownHeading) (t : Tree ℕ (item further_section)) (ts : Tree ℕ (items further_section)) → report_on_parameter_sections h (more t ts) ≡ (report_on_parameter_section h t >>= (λ g. report_on_parameter_sections g ts))
+unfolding report_on_parameter_sections
 sections_stepped h t ts = refl
 
-pub sections_chain : IsChain reported_sections reported_section
+pub sections_chain : IsChain report_on_parameter_sections report_on_parameter_section
 sections_chain = record { ended = sections_ended; stepped = sections_stepped }
 
-pub no_body_reported : (p : KnownDeclarations) → reported_body p none ≡ without_fault p
-unfolding reported_body
+pub no_body_reported : (p : KnownDeclarations) → report_on_body p none ≡ without_fault p
+unfolding report_on_body
 no_body_reported p = refl
 
-pub body_reported : (p : KnownDeclarations) (a : Tree ℕ sequence) → reported_body p (one (begins a)) ≡ record { known = p; faults = sequence_faults (facts_at p false) a }
-unfolding reported_body
+pub body_reported : (p : KnownDeclarations) (a : Tree ℕ sequence) → report_on_body p (one (begins a)) ≡ record { known = p; faults = sequence_faults (facts_at p false) a }
+unfolding report_on_body
 body_reported p a = refl
 
 pub block_reported : (p : KnownDeclarations) (cs : Tree ℕ (maybe constants)) (ts : Tree ℕ (maybe type_definitions)) (vs : Tree ℕ (maybe variables)) (ps : Tree ℕ (items procedure)) (a : Tree ℕ (maybe body))
-    → reported_block p (forms_block (declares cs ts vs ps) a)
-    ≡ (reported_constants p (section_constants cs) >>= (λ q. reported_types q (section_types ts) >>= (λ r. reported_variables r (section_variables vs) >>= (λ s. reported_procedures s ps >>= (λ t. reported_body t a)))))
-unfolding reported_block
+    → report_on_block p (forms_block (declares cs ts vs ps) a)
+    ≡ (report_on_constant_declarations p (section_constants cs) >>= (λ q. report_on_type_declarations q (section_types ts) >>= (λ r. report_on_variable_declarations r (section_variables vs) >>= (λ s. report_on_procedures s ps >>= (λ t. report_on_body t a)))))
+unfolding report_on_block
 block_reported p cs ts vs ps a = refl
 
-procedures_ended : (p : KnownDeclarations) → reported_procedures p end ≡ without_fault p
-unfolding reported_block
+procedures_ended : (p : KnownDeclarations) → report_on_procedures p end ≡ without_fault p
+unfolding report_on_block
 procedures_ended p = refl
 
-procedures_stepped : (p : KnownDeclarations) (t : Tree ℕ (item procedure)) (ts : Tree ℕ (items procedure)) → reported_procedures p (more t ts) ≡ (reported_procedure p t >>= (λ q. reported_procedures q ts))
-unfolding reported_block
+procedures_stepped : (p : KnownDeclarations) (t : Tree ℕ (item procedure)) (ts : Tree ℕ (items procedure)) → report_on_procedures p (more t ts) ≡ (report_on_procedure p t >>= (λ q. report_on_procedures q ts))
+unfolding report_on_block
 procedures_stepped p t ts = refl
 
-pub procedures_chain : IsChain reported_procedures reported_procedure
+pub procedures_chain : IsChain report_on_procedures report_on_procedure
 procedures_chain = record { ended = procedures_ended; stepped = procedures_stepped }
 
 with_parts : (p : KnownDeclarations) (x : ℕ) (fs : Tree ℕ (maybe formals)) (b : Tree ℕ block) (closing : ℕ)
-    → reported_procedure p (declares_procedure x fs b closing) ≡ (reported_sections (record { formals = []; following = p }) (formal_sections fs) >>= (λ h. reported_block (state_after_heading x h) b))
-unfolding reported_block
+    → report_on_procedure p (declares_procedure x fs b closing) ≡ (report_on_parameter_sections (record { formals = []; following = p }) (formal_sections fs) >>= (λ h. report_on_block (declarations_after_heading x h) b))
+unfolding report_on_block
 with_parts p x fs b closing = refl
 
 pub procedure_reported : (p : KnownDeclarations) (d : Procedure)
-    → reported_procedure p (procedure_of d) ≡ (reported_sections (record { formals = []; following = p }) (formal_sections (formals_of (out-Procedure d).formals)) >>= (λ h. reported_block (state_after_heading (out-Procedure d).name h) (block_of (out-Procedure d).block)))
+    → report_on_procedure p (procedure_of d) ≡ (report_on_parameter_sections (record { formals = []; following = p }) (formal_sections (formals_of (out-Procedure d).formals)) >>= (λ h. report_on_block (declarations_after_heading (out-Procedure d).name h) (block_of (out-Procedure d).block)))
 procedure_reported p d =
     let x = out-Procedure d in
-    ap (reported_procedure p) (sym (ap procedure_of (roll-out-Procedure d)) ∙ procedure_made x) ∙ with_parts p x.name (formals_of x.formals) (block_of x.block) x.closing
+    ap (report_on_procedure p) (sym (ap procedure_of (roll-out-Procedure d)) ∙ procedure_made x) ∙ with_parts p x.name (formals_of x.formals) (block_of x.block) x.closing
 
-pub module_reported : (r : Resolution) → module_faults r ≡ filter is_undeclared_fault r.faults ++ (reported_block (state_at_start r) (module_block (tree_of r.module_read))).faults
-unfolding module_faults
+pub module_reported : (r : Resolution) → undeclared_name_and_type_faults r ≡ filter is_undeclared_fault r.faults ++ (report_on_block (state_at_start r) (module_block (tree_of r.module_read))).faults
+unfolding undeclared_name_and_type_faults
 module_reported r = refl

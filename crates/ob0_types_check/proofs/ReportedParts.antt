@@ -8,104 +8,104 @@ use Rattle.ob0_tree.specs.declared.tree.Sign.{Sign}
 use Rattle.ob0_tree.specs.Tree.{Tree, addend, adds, compares, designator, end, expression, factor, field, index, integer, item, items, more, multiplier, multiplies, negation, none, one, parenthesised, product, relates, selector, simple, sum, term}
 use Rattle.ob0_tree.specs.View.{items_of, selector_of}
 use Rattle.ob0_types_check.specs.Known.{Facts, Operand, Reported}
-use Rattle.ob0_types_check.specs.ExpressionFaults.{reported_addends, reported_expression, reported_factor, reported_multipliers, reported_selector, reported_selectors, reported_simple, reported_term}
-use Rattle.ob0_types_check.specs.Operations.{number_operand, add_operands, complement_operand, element_operand, operand_in_parentheses, field_operand, multiply_operands, name_operand, relate_operands, without_fault, sign_operand, ◌>>=◌}
-use Rattle.ob0_types_check.specs.TypeFaults.{operand_value, reported_constant}
+use Rattle.ob0_types_check.specs.ExpressionFaults.{report_on_addends, report_on_expression, report_on_factor, report_on_multipliers, report_on_selector, report_on_selectors, report_on_simple_expression, report_on_term}
+use Rattle.ob0_types_check.specs.Operations.{number_operand, add_operands, negated_operand, element_operand, operand_in_parentheses, field_operand, multiply_operands, name_operand, relate_operands, without_fault, signed_operand, ◌>>=◌}
+use Rattle.ob0_types_check.specs.TypeFaults.{operand_value, report_on_constant_expression}
 use Rattle.ob0_types_check.proofs.Chains.{IsChain, reported_equal, then_assoc}
 
 -- returns the report of an operand with one more term added; `reported_multiplied` is about one more factor
 abbrev pub reported_added : {T : Type 0} → Facts T → Operand T → Tree ℕ (item addend) → Reported (Operand T)
-reported_added facts x (adds o t) = reported_term facts t >>= add_operands facts o x
+reported_added facts x (adds o t) = report_on_term facts t >>= add_operands facts o x
 
 abbrev pub reported_multiplied : {T : Type 0} → Facts T → Operand T → Tree ℕ (item multiplier) → Reported (Operand T)
-reported_multiplied facts x (multiplies o f) = reported_factor facts f >>= multiply_operands facts o x
+reported_multiplied facts x (multiplies o f) = report_on_factor facts f >>= multiply_operands facts o x
 
 module _ {T : Type 0} (facts : Facts T) where
-  pub alone_reported : (a : Tree ℕ simple) → reported_expression facts (compares a none) ≡ reported_simple facts a
-  unfolding reported_expression
+  pub alone_reported : (a : Tree ℕ simple) → report_on_expression facts (compares a none) ≡ report_on_simple_expression facts a
+  unfolding report_on_expression
   alone_reported a = refl
 
   -- An expression that is a single factor has the report of that factor.
-  pub factor_reported : (f : Tree ℕ factor) → reported_expression facts (compares (sum None (product f end) end) none) ≡ reported_factor facts f
-  unfolding reported_expression
+  pub factor_reported : (f : Tree ℕ factor) → report_on_expression facts (compares (sum None (product f end) end) none) ≡ report_on_factor facts f
+  unfolding report_on_expression
   factor_reported f =
-      let faults = (reported_factor facts f).faults in reported_equal refl (append-nil (faults ++ []) ∙ append-nil faults)
+      let faults = (report_on_factor facts f).faults in reported_equal refl (append-nil (faults ++ []) ∙ append-nil faults)
 
-  pub related_reported : (r : Relation) (a b : Tree ℕ simple) → reported_expression facts (compares a (one (relates r b))) ≡ (reported_simple facts a >>= (λ x. reported_simple facts b >>= relate_operands facts r x))
-  unfolding reported_expression
+  pub related_reported : (r : Relation) (a b : Tree ℕ simple) → report_on_expression facts (compares a (one (relates r b))) ≡ (report_on_simple_expression facts a >>= (λ x. report_on_simple_expression facts b >>= relate_operands facts r x))
+  unfolding report_on_expression
   related_reported r a b = refl
 
-  pub simple_reported : (s : Option Sign) (t : Tree ℕ term) (rest : Tree ℕ (items addend)) → reported_simple facts (sum s t rest) ≡ (reported_term facts t >>= (λ x. sign_operand facts s x >>= (λ y. reported_addends facts y rest)))
-  unfolding reported_expression
+  pub simple_reported : (s : Option Sign) (t : Tree ℕ term) (rest : Tree ℕ (items addend)) → report_on_simple_expression facts (sum s t rest) ≡ (report_on_term facts t >>= (λ x. signed_operand facts s x >>= (λ y. report_on_addends facts y rest)))
+  unfolding report_on_expression
   simple_reported s t rest = refl
 
-  pub term_reported : (f : Tree ℕ factor) (rest : Tree ℕ (items multiplier)) → reported_term facts (product f rest) ≡ (reported_factor facts f >>= (λ x. reported_multipliers facts x rest))
-  unfolding reported_expression
+  pub term_reported : (f : Tree ℕ factor) (rest : Tree ℕ (items multiplier)) → report_on_term facts (product f rest) ≡ (report_on_factor facts f >>= (λ x. report_on_multipliers facts x rest))
+  unfolding report_on_expression
   term_reported f rest = refl
 
-  pub designator_reported : (x : ℕ) (path : Tree ℕ (items selector)) → reported_factor facts (designator x path) ≡ (name_operand facts x >>= (λ base. reported_selectors facts base path))
-  unfolding reported_expression
+  pub designator_reported : (x : ℕ) (path : Tree ℕ (items selector)) → report_on_factor facts (designator x path) ≡ (name_operand facts x >>= (λ base. report_on_selectors facts base path))
+  unfolding report_on_expression
   designator_reported x path = refl
 
-  pub integer_reported : (n : ℕ) → reported_factor facts (integer n) ≡ without_fault (number_operand facts n)
-  unfolding reported_expression
+  pub integer_reported : (n : ℕ) → report_on_factor facts (integer n) ≡ without_fault (number_operand facts n)
+  unfolding report_on_expression
   integer_reported n = refl
 
-  pub parentheses_reported : (e : Tree ℕ expression) → reported_factor facts (parenthesised e) ≡ (reported_expression facts e >>= (λ x. without_fault (operand_in_parentheses facts x)))
-  unfolding reported_expression
+  pub parentheses_reported : (e : Tree ℕ expression) → report_on_factor facts (parenthesised e) ≡ (report_on_expression facts e >>= (λ x. without_fault (operand_in_parentheses facts x)))
+  unfolding report_on_expression
   parentheses_reported e = refl
 
-  pub negation_reported : (f : Tree ℕ factor) → reported_factor facts (negation f) ≡ (reported_factor facts f >>= complement_operand facts)
-  unfolding reported_expression
+  pub negation_reported : (f : Tree ℕ factor) → report_on_factor facts (negation f) ≡ (report_on_factor facts f >>= negated_operand facts)
+  unfolding report_on_expression
   negation_reported f = refl
 
-  pub field_reported : (x : Operand T) (n : ℕ) → reported_selector facts x (field n) ≡ field_operand facts x n
-  unfolding reported_selector
+  pub field_reported : (x : Operand T) (n : ℕ) → report_on_selector facts x (field n) ≡ field_operand facts x n
+  unfolding report_on_selector
   field_reported x n = refl
 
-  pub index_reported : (x : Operand T) (e : Tree ℕ expression) → reported_selector facts x (index e) ≡ (reported_expression facts e >>= element_operand facts x)
-  unfolding reported_selector
+  pub index_reported : (x : Operand T) (e : Tree ℕ expression) → report_on_selector facts x (index e) ≡ (report_on_expression facts e >>= element_operand facts x)
+  unfolding report_on_selector
   index_reported x e = refl
 
-  added_ended : (x : Operand T) → reported_addends facts x end ≡ without_fault x
-  unfolding reported_expression
+  added_ended : (x : Operand T) → report_on_addends facts x end ≡ without_fault x
+  unfolding report_on_expression
   added_ended x = refl
 
-  added_stepped : (x : Operand T) (t : Tree ℕ (item addend)) (ts : Tree ℕ (items addend)) → reported_addends facts x (more t ts) ≡ (reported_added facts x t >>= (λ y. reported_addends facts y ts))
-  unfolding reported_expression
-  added_stepped x (adds o t) ts = then_assoc (reported_term facts t) (add_operands facts o x) (λ y. reported_addends facts y ts)
+  added_stepped : (x : Operand T) (t : Tree ℕ (item addend)) (ts : Tree ℕ (items addend)) → report_on_addends facts x (more t ts) ≡ (reported_added facts x t >>= (λ y. report_on_addends facts y ts))
+  unfolding report_on_expression
+  added_stepped x (adds o t) ts = then_assoc (report_on_term facts t) (add_operands facts o x) (λ y. report_on_addends facts y ts)
 
-  pub added_chain : IsChain (reported_addends facts) (reported_added facts)
+  pub added_chain : IsChain (report_on_addends facts) (reported_added facts)
   added_chain = record { ended = added_ended; stepped = added_stepped }
 
-  multiplied_ended : (x : Operand T) → reported_multipliers facts x end ≡ without_fault x
-  unfolding reported_expression
+  multiplied_ended : (x : Operand T) → report_on_multipliers facts x end ≡ without_fault x
+  unfolding report_on_expression
   multiplied_ended x = refl
 
-  multiplied_stepped : (x : Operand T) (t : Tree ℕ (item multiplier)) (ts : Tree ℕ (items multiplier)) → reported_multipliers facts x (more t ts) ≡ (reported_multiplied facts x t >>= (λ y. reported_multipliers facts y ts))
-  unfolding reported_expression
-  multiplied_stepped x (multiplies o f) ts = then_assoc (reported_factor facts f) (multiply_operands facts o x) (λ y. reported_multipliers facts y ts)
+  multiplied_stepped : (x : Operand T) (t : Tree ℕ (item multiplier)) (ts : Tree ℕ (items multiplier)) → report_on_multipliers facts x (more t ts) ≡ (reported_multiplied facts x t >>= (λ y. report_on_multipliers facts y ts))
+  unfolding report_on_expression
+  multiplied_stepped x (multiplies o f) ts = then_assoc (report_on_factor facts f) (multiply_operands facts o x) (λ y. report_on_multipliers facts y ts)
 
-  pub multiplied_chain : IsChain (reported_multipliers facts) (reported_multiplied facts)
+  pub multiplied_chain : IsChain (report_on_multipliers facts) (reported_multiplied facts)
   multiplied_chain = record { ended = multiplied_ended; stepped = multiplied_stepped }
 
-  selected_ended : (x : Operand T) → reported_selectors facts x end ≡ without_fault x
-  unfolding reported_expression
+  selected_ended : (x : Operand T) → report_on_selectors facts x end ≡ without_fault x
+  unfolding report_on_expression
   selected_ended x = refl
 
-  selected_stepped : (x : Operand T) (t : Tree ℕ (item selector)) (ts : Tree ℕ (items selector)) → reported_selectors facts x (more t ts) ≡ (reported_selector facts x t >>= (λ y. reported_selectors facts y ts))
-  unfolding reported_expression reported_selector
+  selected_stepped : (x : Operand T) (t : Tree ℕ (item selector)) (ts : Tree ℕ (items selector)) → report_on_selectors facts x (more t ts) ≡ (report_on_selector facts x t >>= (λ y. report_on_selectors facts y ts))
+  unfolding report_on_expression report_on_selector
   selected_stepped x (field n) ts = refl
-  selected_stepped x (index e) ts = then_assoc (reported_expression facts e) (element_operand facts x) (λ y. reported_selectors facts y ts)
+  selected_stepped x (index e) ts = then_assoc (report_on_expression facts e) (element_operand facts x) (λ y. report_on_selectors facts y ts)
 
-  pub selected_chain : IsChain (reported_selectors facts) (reported_selector facts)
+  pub selected_chain : IsChain (report_on_selectors facts) (report_on_selector facts)
   selected_chain = record { ended = selected_ended; stepped = selected_stepped }
 
   -- A name without selectors has the report of the name.
-  pub nothing_selected : (x : Operand T) (xs : List Selector) → length xs ≡ 0 → reported_selectors facts x (items_of selector_of xs) ≡ without_fault x
+  pub nothing_selected : (x : Operand T) (xs : List Selector) → length xs ≡ 0 → report_on_selectors facts x (items_of selector_of xs) ≡ without_fault x
   nothing_selected x [] e = selected_ended x
   nothing_selected x (s ∷ xs) e = absurd (omega arith)
 
-  pub constant_reported : (e : Tree ℕ expression) → reported_constant facts e ≡ (reported_expression facts e >>= operand_value facts)
-  unfolding reported_constant
+  pub constant_reported : (e : Tree ℕ expression) → report_on_constant_expression facts e ≡ (report_on_expression facts e >>= operand_value facts)
+  unfolding report_on_constant_expression
   constant_reported e = refl

@@ -10,11 +10,11 @@ use Rattle.ob0_tree.specs.View.{elsif_of, expression_of, further_argument_of, fu
 use Rattle.ob0_tree.specs.View as view
 use Rattle.ob0_tree.specs.declared.tree.Expression.{Expression}
 use Rattle.ob0_tree.specs.declared.tree.Statement.{Statement}
-use Rattle.ob0_language_types.specs.Arguments.{arguments_listed, further_arguments}
-use Rattle.ob0_types_check.specs.ExpressionFaults.{reported_expression, reported_selectors}
+use Rattle.ob0_language_types.specs.Arguments.{call_arguments, further_arguments}
+use Rattle.ob0_types_check.specs.ExpressionFaults.{report_on_expression, report_on_selectors}
 use Rattle.ob0_types_check.specs.Known.{Facts, KnownParameter, a_procedure}
 use Rattle.ob0_types_check.specs.Operations.{typed_name_operand, required_type, fault_at_token, ◌>>=◌}
-use Rattle.ob0_types_check.specs.StatementFaults.{target_name_type, call_faults_by_meaning, required_type_of_argument, faults_of_argument, argument_faults, typed_expression_faults, assignment_faults, call_faults, condition_faults, else_faults, elsif_faults, untyped_argument_faults, sequence_faults, statement_faults, further_statement_faults, reported_target}
+use Rattle.ob0_types_check.specs.StatementFaults.{target_name_type, call_faults_by_meaning, required_type_of_argument, faults_of_argument, faults_of_arguments, typed_expression_faults, assignment_faults, call_faults, condition_faults, else_faults, elsif_faults, untyped_argument_faults, sequence_faults, statement_faults, further_statement_faults, report_on_target}
 use Rattle.ob0_types_check.specs.CheckerViews.{formal_of}
 use Rattle.ob0_types_check.proofs.Listed.{IsEach, IsPairwise}
 
@@ -22,20 +22,20 @@ further_listed : (es : List Expression) → further_arguments (items_of further_
 further_listed [] = refl
 further_listed (e ∷ es) = ap (λ z. expression_of e ∷ z) (further_listed es)
 
-pub all_listed : (es : List Expression) → arguments_listed (one (view.arguments_of_list es)) ≡ map expression_of es
+pub all_listed : (es : List Expression) → call_arguments (one (view.arguments_of_list es)) ≡ map expression_of es
 all_listed [] = refl
 all_listed (e ∷ es) = ap (λ z. expression_of e ∷ z) (further_listed es)
 
 module _ {T : Type 0} (facts : Facts T) where
-  pub requested_reported : (wanted : T) (e : Tree ℕ expression) → typed_expression_faults facts wanted e ≡ (reported_expression facts e >>= required_type facts wanted).faults
+  pub requested_reported : (wanted : T) (e : Tree ℕ expression) → typed_expression_faults facts wanted e ≡ (report_on_expression facts e >>= required_type facts wanted).faults
   unfolding typed_expression_faults
   requested_reported wanted e = refl
 
-  pub target_reported : (x : ℕ) (path : Tree ℕ (items selector)) → reported_target facts x path ≡ (target_name_type facts x >>= (λ t. reported_selectors facts (typed_name_operand t x) path))
-  unfolding reported_target
+  pub target_reported : (x : ℕ) (path : Tree ℕ (items selector)) → report_on_target facts x path ≡ (target_name_type facts x >>= (λ t. report_on_selectors facts (typed_name_operand t x) path))
+  unfolding report_on_target
   target_reported x path = refl
 
-  pub argument_reported : (f : KnownParameter T) (e : Tree ℕ expression) → faults_of_argument facts f e ≡ (reported_expression facts e >>= required_type_of_argument facts f).faults
+  pub argument_reported : (f : KnownParameter T) (e : Tree ℕ expression) → faults_of_argument facts f e ≡ (report_on_expression facts e >>= required_type_of_argument facts f).faults
   unfolding faults_of_argument
   argument_reported f e = refl
 
@@ -43,11 +43,11 @@ module _ {T : Type 0} (facts : Facts T) where
   unfolding statement_faults
   empty_reported = refl
 
-  pub assigned_reported : (x : ℕ) (path : Tree ℕ (items selector)) (e : Tree ℕ expression) → statement_faults facts (assigns x path e) ≡ assignment_faults facts (reported_target facts x path) e
+  pub assigned_reported : (x : ℕ) (path : Tree ℕ (items selector)) (e : Tree ℕ expression) → statement_faults facts (assigns x path e) ≡ assignment_faults facts (report_on_target facts x path) e
   unfolding statement_faults
   assigned_reported x path e = refl
 
-  pub called_reported : (p : ℕ) (es : Tree ℕ (maybe arguments)) → statement_faults facts (calls p es) ≡ call_faults facts p (arguments_listed es)
+  pub called_reported : (p : ℕ) (es : Tree ℕ (maybe arguments)) → statement_faults facts (calls p es) ≡ call_faults facts p (call_arguments es)
   unfolding statement_faults
   called_reported p es = refl
 
@@ -108,22 +108,22 @@ module _ {T : Type 0} (facts : Facts T) where
         ∙ sym (append_assoc (condition_faults facts (expression_of e.condition)) (sequence_faults facts (sequence_of_list e.then.items)) (elsif_faults facts (items_of elsif_of es)));
   }
 
-  pub parts_each : IsEach (λ (es : List Expression). untyped_argument_faults facts (map expression_of es)) (λ e. (reported_expression facts (expression_of e)).faults)
+  pub parts_each : IsEach (λ (es : List Expression). untyped_argument_faults facts (map expression_of es)) (λ e. (report_on_expression facts (expression_of e)).faults)
   parts_each = record { ended = refl; stepped = λ e es. refl }
 
 module _ (facts : Facts TypeId) where
-  pub argument_pairs : IsPairwise (λ (fs : List formal.FormalParameter) (es : List Expression). argument_faults facts (map formal_of fs) (map expression_of es)) (λ f e. faults_of_argument facts (formal_of f) (expression_of e))
+  pub argument_pairs : IsPairwise (λ (fs : List formal.FormalParameter) (es : List Expression). faults_of_arguments facts (map formal_of fs) (map expression_of es)) (λ f e. faults_of_argument facts (formal_of f) (expression_of e))
   argument_pairs = record { ended = refl; stepped = λ f e fs es. refl }
 
   -- The faults of a call depend on whether there are as many arguments as parameters.
   pub count_is_right : (p : ℕ) (fs : List formal.FormalParameter) (es : List Expression) → length fs ≡ length es
-      → call_faults_by_meaning facts p (Some (a_procedure (map formal_of fs))) (map expression_of es) ≡ argument_faults facts (map formal_of fs) (map expression_of es)
+      → call_faults_by_meaning facts p (Some (a_procedure (map formal_of fs))) (map expression_of es) ≡ faults_of_arguments facts (map formal_of fs) (map expression_of es)
   count_is_right p fs es e =
-      ap (λ b. if b then argument_faults facts (map formal_of fs) (map expression_of es) else fault_at_token facts code.ArgumentCount p)
+      ap (λ b. if b then faults_of_arguments facts (map formal_of fs) (map expression_of es) else fault_at_token facts code.ArgumentCount p)
       (eq-eqb (length (map formal_of fs)) (length (map expression_of es)) (length-map fs formal_of ∙ e ∙ sym (length-map es expression_of)))
 
   pub count_differs : (p : ℕ) (fs : List formal.FormalParameter) (es : List Expression) → length fs ≢ length es
       → call_faults_by_meaning facts p (Some (a_procedure (map formal_of fs))) (map expression_of es) ≡ fault_at_token facts code.ArgumentCount p
   count_differs p fs es d =
-      ap (λ b. if b then argument_faults facts (map formal_of fs) (map expression_of es) else fault_at_token facts code.ArgumentCount p)
+      ap (λ b. if b then faults_of_arguments facts (map formal_of fs) (map expression_of es) else fault_at_token facts code.ArgumentCount p)
       (ne_eqb (length (map formal_of fs)) (length (map expression_of es)) (λ e. d (sym (length-map fs formal_of) ∙ e ∙ length-map es expression_of)))

@@ -6,7 +6,7 @@ use Rattle.std.proofs.lemmas.Option.{slice_get-map}
 use Rattle.std.proofs.Math.ListN.{get_or-map}
 use Rattle.ob0_language_names.specs.Names.{Name, same_name}
 use Rattle.ob0_scope_table.specs.Resolution.{ordinal_in}
-use Rattle.ob0_types_table.specs.FieldIndex.{first_field_type}
+use Rattle.ob0_types_table.specs.FieldIndex.{type_of_first_field_named}
 use Rattle.ob0_types_table.specs.declared.known.Field.{Field}
 use Rattle.ob0_types_table.specs.declared.known.TypeEntry.{TypeEntry}
 use Rattle.ob0_types_table.specs.declared.known.TypeEntry.TheVariants as made
@@ -15,15 +15,15 @@ use Rattle.ob0_types_table.specs.declared.types.TypeId.TheVariants as type
 use Rattle.ob0_types_check.specs.declared.reporting.checker_state.Meaning.{Meaning}
 use Rattle.ob0_types_check.specs.declared.reporting.checker_state.CheckerState.{CheckerState}
 use Rattle.ob0_types_check.specs.Known.{a_record, an_array}
-use Rattle.ob0_types_check.specs.KnownDeclarations.{element_type_of_composite, facts_at, field_type_of_composite, type_of_first_field, form_of_type_so_far, same_type}
-use Rattle.ob0_types_check.specs.CheckerViews.{entry_element_type, facts_in, entry_field_type, fields_in, form_of_type_in, composite_type_of, meaning_view, declarations_in_state}
+use Rattle.ob0_types_check.specs.KnownDeclarations.{element_type_of_composite, facts_at, field_type_of_composite, type_of_field_named, form_of_type_so_far, same_type}
+use Rattle.ob0_types_check.specs.CheckerViews.{entry_element_type, facts_in, entry_field_type, known_fields_of, form_of_type_in, composite_type_of, meaning_view, declarations_in_state}
 
 elements_same : (o : Option TypeEntry) → entry_element_type o ≡ element_type_of_composite (option_map composite_type_of o)
 elements_same None = refl
 elements_same (Some (made.Array a)) = refl
 elements_same (Some (made.Record r)) = refl
 
-field_alike : (fs : List Field) (x : Name) → first_field_type fs x ≡ type_of_first_field (fields_in fs) x
+field_alike : (fs : List Field) (x : Name) → type_of_first_field_named fs x ≡ type_of_field_named (known_fields_of fs) x
 field_alike [] x = refl
 field_alike (f ∷ fs) x = ap (λ o. if same_name x (string_bytes f.name) then Some f.of else o) (field_alike fs x)
 

@@ -13,7 +13,7 @@ use Rattle.ob0_tree.specs.declared.tree.Relation.{Relation}
 use Rattle.ob0_tree.specs.declared.tree.Sign.{Sign}
 use Rattle.ob0_tree.specs.Places.{token_text_at, token_value_at}
 use Rattle.ob0_tree.specs.Tree.{Sort, Tree, addend, arguments, no_arguments, some_arguments, then_argument, further_argument, adds, assigns, branches, calls, compares, designator, else_branch, else_part, elsif_branch, elsif_part, empty, end, expression, factor, field, further_statement, index, integer, items, maybe, more, multiplier, multiplies, negation, none, one, parenthesised, product, relates, repeat_loop, runs, selector, sequence, simple, statement, sum, term, then_statement, while_loop}
-use Rattle.ob0_language_types.specs.Arguments.{arguments_listed, further_arguments}
+use Rattle.ob0_language_types.specs.Arguments.{call_arguments, further_arguments}
 use Rattle.ob0_language_types.specs.Selected.{apply_to_both}
 use Rattle.ob0_language_types.specs.Typing.{array_length, outcome_value}
 use Rattle.ob0_language_values.specs.Values.{Value, negate, number, apply_relation}
@@ -23,11 +23,11 @@ use Rattle.ob0_scope_table.specs.FaultTokens.{AreFaultsAtSameTokens}
 use Rattle.ob0_scope_table.specs.Resolution.{ordinal_in}
 use Rattle.ob0_scope_table.proofs.FaultTokens.{both_same, none_same, one_same}
 use Rattle.ob0_types_table.specs.Operators.{product_value, sum_value}
-use Rattle.ob0_types_check.specs.ExpressionFaults.{reported_addends, reported_expression, reported_factor, reported_multipliers, reported_selectors, reported_simple, reported_term}
-use Rattle.ob0_types_check.specs.Known.{Facts, Form, KnownParameter, Meaning, Operand, Reported, Types, a_constant, a_procedure, a_record, a_scalar, a_type, a_variable, an_array, unknown_form}
-use Rattle.ob0_types_check.specs.Operations.{constant_name_operand, typed_name_operand, number_operand, add_operands, prefixed_operand, fault_at_tokens, comparison_type, complement_operand, element_type_in_form, element_operand, operand_in_parentheses, field_type_in_form, field_operand, may_be_same_type, field_type_or_fault, operand_of_operation, multiply_operands, name_operand, operand_by_meaning, extended_operand, relate_operands, required_type, required_type_of_both, operand_type_of_addition, operand_type_of_multiplication, operand_type_of_relation, without_fault, sign_operand, token_after, token_before, ◌>>=◌}
-use Rattle.ob0_types_check.specs.StatementFaults.{call_faults_by_meaning, required_type_of_argument, faults_of_argument, argument_faults, assignment_faults, call_faults, else_faults, elsif_faults, untyped_argument_faults, typed_expression_faults, sequence_faults, statement_faults, further_statement_faults, reported_target, target_type_by_meaning, target_name_type}
-use Rattle.ob0_types_check.specs.TypeFaults.{length_or_fault, length_by_value, length_of, operand_value, reported_constant, type_by_meaning, type_named_at, value_or_fault}
+use Rattle.ob0_types_check.specs.ExpressionFaults.{report_on_addends, report_on_expression, report_on_factor, report_on_multipliers, report_on_selectors, report_on_simple_expression, report_on_term}
+use Rattle.ob0_types_check.specs.Known.{Facts, TypeForm, KnownParameter, Meaning, Operand, Reported, Types, a_constant, a_procedure, a_record, a_scalar, a_type, a_variable, an_array, unknown_form}
+use Rattle.ob0_types_check.specs.Operations.{constant_name_operand, typed_name_operand, number_operand, add_operands, prefixed_operand, fault_at_tokens, comparison_type, negated_operand, element_type_in_form, element_operand, operand_in_parentheses, field_type_in_form, field_operand, may_be_same_type, field_type_or_fault, operand_of_operation, multiply_operands, name_operand, operand_by_meaning, extended_operand, relate_operands, required_type, required_type_of_both, operand_type_of_addition, operand_type_of_multiplication, operand_type_of_relation, without_fault, signed_operand, token_after, token_before, ◌>>=◌}
+use Rattle.ob0_types_check.specs.StatementFaults.{call_faults_by_meaning, required_type_of_argument, faults_of_argument, faults_of_arguments, assignment_faults, call_faults, else_faults, elsif_faults, untyped_argument_faults, typed_expression_faults, sequence_faults, statement_faults, further_statement_faults, report_on_target, target_type_by_meaning, target_name_type}
+use Rattle.ob0_types_check.specs.TypeFaults.{length_or_fault, length_by_value, length_by_operand, operand_value, report_on_constant_expression, type_by_meaning, type_named_at, value_or_fault}
 
 -- returns the facts at a place, given the meaning of each declaration
 abbrev pub facts_over : {T : Type 0} → TextWithTokens → List (Option ℕ) → Types T → (ℕ → Option (Meaning T)) → Bool → Facts T
@@ -126,11 +126,11 @@ module _ (old new : TextWithTokens) (os ns : List (Option ℕ)) (P : ℕ → Typ
     related_same r a b =
         gives old new (λ t. operand_of_operation (comparison_type types t) (apply_to_both (λ x y. outcome_value (apply_relation r x y)) a.value b.value) a b) (both_required (operand_type_of_relation types r a.of) a b)
 
-    signed_same : (s : Option Sign) (o : Operand T) → Eq (sign_operand fo s o) (sign_operand fn s o)
+    signed_same : (s : Option Sign) (o : Operand T) → Eq (signed_operand fo s o) (signed_operand fn s o)
     signed_same None o = equal old new o
     signed_same (Some s) o = gives old new (λ t. prefixed_operand t (option_and_then (λ x. outcome_value (with_sign (Some s) x)) o.value) o) (required_same types.integer o)
 
-    complement_same : (o : Operand T) → Eq (complement_operand fo o) (complement_operand fn o)
+    complement_same : (o : Operand T) → Eq (negated_operand fo o) (negated_operand fn o)
     complement_same o = gives old new (λ t. prefixed_operand t (option_and_then (λ x. outcome_value (negate x)) o.value) o) (required_same types.boolean o)
 
     number_same : (n : ℕ) → P n → Eq (without_fault (number_operand fo n)) (without_fault (number_operand fn n))
@@ -160,7 +160,7 @@ module _ (old new : TextWithTokens) (os ns : List (Option ℕ)) (P : ℕ → Typ
     found_same token None = faulty types.unknown code.NoField token token
     found_same token (Some t) = equal old new t
 
-    field_same : (token : ℕ) → P token → (form : Form T) → Eq (field_type_in_form fo token form) (field_type_in_form fn token form)
+    field_same : (token : ℕ) → P token → (form : TypeForm T) → Eq (field_type_in_form fo token form) (field_type_in_form fn token form)
     field_same token h (a_record fields) = subst (λ x. Eq (field_type_in_form fo token (a_record fields)) (field_type_or_fault fn token (fields x))) (sym (w.written token h)) (found_same token (fields (token_text_at old token)))
     field_same token h unknown_form = equal old new types.unknown
     field_same token h a_scalar = faulty types.unknown code.NotRecord (token_before token) (token_before token)
@@ -169,7 +169,7 @@ module _ (old new : TextWithTokens) (os ns : List (Option ℕ)) (P : ℕ → Typ
     field_after : (o : Operand T) (token : ℕ) → P token → Eq (field_operand fo o token) (field_operand fn o token)
     field_after o token h = gives old new (λ t. extended_operand o t token) (field_same token h (types.form o.of))
 
-    element_same : (i : Operand T) (of : T) (form : Form T) → Eq (element_type_in_form fo i of form) (element_type_in_form fn i of form)
+    element_same : (i : Operand T) (of : T) (form : TypeForm T) → Eq (element_type_in_form fo i of form) (element_type_in_form fn i of form)
     element_same i of (an_array t) = equal old new (if types.same of types.integer then t else types.unknown)
     element_same i of unknown_form = equal old new types.unknown
     element_same i of a_scalar = faulty types.unknown code.NotArray (token_before i.first) (token_before i.first)
@@ -185,46 +185,46 @@ module _ (old new : TextWithTokens) (os ns : List (Option ℕ)) (P : ℕ → Typ
     -- ---- expressions
 
     mutual
-      unfolding reported_expression
+      unfolding report_on_expression
 
-      pub expression_same : (e : Tree ℕ expression) → Each e → Eq (reported_expression fo e) (reported_expression fn e)
+      pub expression_same : (e : Tree ℕ expression) → Each e → Eq (report_on_expression fo e) (report_on_expression fn e)
       expression_same (compares a none) h = simple_same a h.0
       expression_same (compares a (one (relates r b))) h =
-          goes_on old new (λ x. reported_simple fo b >>= relate_operands fo r x) (λ x. reported_simple fn b >>= relate_operands fn r x) (simple_same a h.0)
+          goes_on old new (λ x. report_on_simple_expression fo b >>= relate_operands fo r x) (λ x. report_on_simple_expression fn b >>= relate_operands fn r x) (simple_same a h.0)
           (λ x. goes_on old new (relate_operands fo r x) (relate_operands fn r x) (simple_same b h.1) (λ y. related_same r x y))
 
-      simple_same : (e : Tree ℕ simple) → Each e → Eq (reported_simple fo e) (reported_simple fn e)
+      simple_same : (e : Tree ℕ simple) → Each e → Eq (report_on_simple_expression fo e) (report_on_simple_expression fn e)
       simple_same (sum s t rest) h =
-          goes_on old new (λ x. sign_operand fo s x >>= (λ y. reported_addends fo y rest)) (λ x. sign_operand fn s x >>= (λ y. reported_addends fn y rest)) (term_same t h.0)
-          (λ x. goes_on old new (λ y. reported_addends fo y rest) (λ y. reported_addends fn y rest) (signed_same s x) (λ y. addends_same y rest h.1))
+          goes_on old new (λ x. signed_operand fo s x >>= (λ y. report_on_addends fo y rest)) (λ x. signed_operand fn s x >>= (λ y. report_on_addends fn y rest)) (term_same t h.0)
+          (λ x. goes_on old new (λ y. report_on_addends fo y rest) (λ y. report_on_addends fn y rest) (signed_same s x) (λ y. addends_same y rest h.1))
 
-      addends_same : (x : Operand T) (rest : Tree ℕ (items addend)) → Each rest → Eq (reported_addends fo x rest) (reported_addends fn x rest)
+      addends_same : (x : Operand T) (rest : Tree ℕ (items addend)) → Each rest → Eq (report_on_addends fo x rest) (report_on_addends fn x rest)
       addends_same x end h = equal old new x
       addends_same x (more (adds o t) rest) h =
-          goes_on old new (λ y. add_operands fo o x y >>= (λ z. reported_addends fo z rest)) (λ y. add_operands fn o x y >>= (λ z. reported_addends fn z rest)) (term_same t h.0)
-          (λ y. goes_on old new (λ z. reported_addends fo z rest) (λ z. reported_addends fn z rest) (added_same o x y) (λ z. addends_same z rest h.1))
+          goes_on old new (λ y. add_operands fo o x y >>= (λ z. report_on_addends fo z rest)) (λ y. add_operands fn o x y >>= (λ z. report_on_addends fn z rest)) (term_same t h.0)
+          (λ y. goes_on old new (λ z. report_on_addends fo z rest) (λ z. report_on_addends fn z rest) (added_same o x y) (λ z. addends_same z rest h.1))
 
-      term_same : (t : Tree ℕ term) → Each t → Eq (reported_term fo t) (reported_term fn t)
-      term_same (product f rest) h = goes_on old new (λ x. reported_multipliers fo x rest) (λ x. reported_multipliers fn x rest) (factor_same f h.0) (λ x. multipliers_same x rest h.1)
+      term_same : (t : Tree ℕ term) → Each t → Eq (report_on_term fo t) (report_on_term fn t)
+      term_same (product f rest) h = goes_on old new (λ x. report_on_multipliers fo x rest) (λ x. report_on_multipliers fn x rest) (factor_same f h.0) (λ x. multipliers_same x rest h.1)
 
-      multipliers_same : (x : Operand T) (rest : Tree ℕ (items multiplier)) → Each rest → Eq (reported_multipliers fo x rest) (reported_multipliers fn x rest)
+      multipliers_same : (x : Operand T) (rest : Tree ℕ (items multiplier)) → Each rest → Eq (report_on_multipliers fo x rest) (report_on_multipliers fn x rest)
       multipliers_same x end h = equal old new x
       multipliers_same x (more (multiplies o f) rest) h =
-          goes_on old new (λ y. multiply_operands fo o x y >>= (λ z. reported_multipliers fo z rest)) (λ y. multiply_operands fn o x y >>= (λ z. reported_multipliers fn z rest)) (factor_same f h.0)
-          (λ y. goes_on old new (λ z. reported_multipliers fo z rest) (λ z. reported_multipliers fn z rest) (multiplied_same o x y) (λ z. multipliers_same z rest h.1))
+          goes_on old new (λ y. multiply_operands fo o x y >>= (λ z. report_on_multipliers fo z rest)) (λ y. multiply_operands fn o x y >>= (λ z. report_on_multipliers fn z rest)) (factor_same f h.0)
+          (λ y. goes_on old new (λ z. report_on_multipliers fo z rest) (λ z. report_on_multipliers fn z rest) (multiplied_same o x y) (λ z. multipliers_same z rest h.1))
 
-      factor_same : (f : Tree ℕ factor) → Each f → Eq (reported_factor fo f) (reported_factor fn f)
-      factor_same (designator x path) h = goes_on old new (λ base. reported_selectors fo base path) (λ base. reported_selectors fn base path) (named_same x h.0) (λ base. selectors_same base path h.1)
+      factor_same : (f : Tree ℕ factor) → Each f → Eq (report_on_factor fo f) (report_on_factor fn f)
+      factor_same (designator x path) h = goes_on old new (λ base. report_on_selectors fo base path) (λ base. report_on_selectors fn base path) (named_same x h.0) (λ base. selectors_same base path h.1)
       factor_same (integer n) h = number_same n h
       factor_same (parenthesised e) h = goes_on old new (λ x. without_fault (operand_in_parentheses fo x)) (λ x. without_fault (operand_in_parentheses fn x)) (expression_same e h) (λ x. enclosed_same x)
-      factor_same (negation f) h = goes_on old new (complement_operand fo) (complement_operand fn) (factor_same f h) (λ x. complement_same x)
+      factor_same (negation f) h = goes_on old new (negated_operand fo) (negated_operand fn) (factor_same f h) (λ x. complement_same x)
 
-      pub selectors_same : (x : Operand T) (path : Tree ℕ (items selector)) → Each path → Eq (reported_selectors fo x path) (reported_selectors fn x path)
+      pub selectors_same : (x : Operand T) (path : Tree ℕ (items selector)) → Each path → Eq (report_on_selectors fo x path) (report_on_selectors fn x path)
       selectors_same x end h = equal old new x
-      selectors_same x (more (field n) rest) h = goes_on old new (λ y. reported_selectors fo y rest) (λ y. reported_selectors fn y rest) (field_after x n h.0) (λ y. selectors_same y rest h.1)
+      selectors_same x (more (field n) rest) h = goes_on old new (λ y. report_on_selectors fo y rest) (λ y. report_on_selectors fn y rest) (field_after x n h.0) (λ y. selectors_same y rest h.1)
       selectors_same x (more (index e) rest) h =
-          goes_on old new (λ i. element_operand fo x i >>= (λ y. reported_selectors fo y rest)) (λ i. element_operand fn x i >>= (λ y. reported_selectors fn y rest)) (expression_same e h.0)
-          (λ i. goes_on old new (λ y. reported_selectors fo y rest) (λ y. reported_selectors fn y rest) (element_after x i) (λ y. selectors_same y rest h.1))
+          goes_on old new (λ i. element_operand fo x i >>= (λ y. report_on_selectors fo y rest)) (λ i. element_operand fn x i >>= (λ y. report_on_selectors fn y rest)) (expression_same e h.0)
+          (λ i. goes_on old new (λ y. report_on_selectors fo y rest) (λ y. report_on_selectors fn y rest) (element_after x i) (λ y. selectors_same y rest h.1))
 
     -- ---- constants, lengths and names of types
 
@@ -232,8 +232,8 @@ module _ (old new : TextWithTokens) (os ns : List (Option ℕ)) (P : ℕ → Typ
     value_same o None = faulty None code.ConstFault o.first o.last
     value_same o (Some v) = equal old new (Some v)
 
-    pub constant_same : (e : Tree ℕ expression) → Each e → Eq (reported_constant fo e) (reported_constant fn e)
-    unfolding reported_constant
+    pub constant_same : (e : Tree ℕ expression) → Each e → Eq (report_on_constant_expression fo e) (report_on_constant_expression fn e)
+    unfolding report_on_constant_expression
     constant_same e h = goes_on old new (operand_value fo) (operand_value fn) (expression_same e h) (λ o. either old new (types.same o.of types.unknown) (equal old new None) (value_same o o.value))
 
     bounds_same : (o : Operand T) (n : Option ℕ) → Eq (length_or_fault fo o n) (length_or_fault fn o n)
@@ -244,7 +244,7 @@ module _ (old new : TextWithTokens) (os ns : List (Option ℕ)) (P : ℕ → Typ
     given_same o None = faulty None code.ConstFault o.first o.last
     given_same o (Some v) = bounds_same o (array_length v)
 
-    pub length_same : (o : Operand T) → Eq (length_of fo o) (length_of fn o)
+    pub length_same : (o : Operand T) → Eq (length_by_operand fo o) (length_by_operand fn o)
     length_same o =
         goes_on old new (λ t. if types.same t types.integer then length_by_value fo o o.value else without_fault None) (λ t. if types.same t types.integer then length_by_value fn o o.value else without_fault None) (required_same types.integer o)
         (λ t. either old new (types.same t types.integer) (given_same o o.value) (equal old new None))
@@ -278,9 +278,9 @@ module _ (old new : TextWithTokens) (os ns : List (Option ℕ)) (P : ℕ → Typ
     target_named : (x : ℕ) → P x → Eq (target_name_type fo x) (target_name_type fn x)
     target_named x h = subst (λ m. Eq (target_name_type fo x) (target_type_by_meaning fn x m)) (meant x h) (target_meant x (fo.object_for x))
 
-    target_same : (x : ℕ) (path : Tree ℕ (items selector)) → P x → Each path → Eq (reported_target fo x path) (reported_target fn x path)
-    unfolding reported_target
-    target_same x path h each = goes_on old new (λ t. reported_selectors fo (typed_name_operand t x) path) (λ t. reported_selectors fn (typed_name_operand t x) path) (target_named x h) (λ t. selectors_same (typed_name_operand t x) path each)
+    target_same : (x : ℕ) (path : Tree ℕ (items selector)) → P x → Each path → Eq (report_on_target fo x path) (report_on_target fn x path)
+    unfolding report_on_target
+    target_same x path h each = goes_on old new (λ t. report_on_selectors fo (typed_name_operand t x) path) (λ t. report_on_selectors fn (typed_name_operand t x) path) (target_named x h) (λ t. selectors_same (typed_name_operand t x) path each)
 
     assigned_same : (a b : Reported (Operand T)) (e : Tree ℕ expression) → Each e → Eq a b → Alright (assignment_faults fo a e) (assignment_faults fn b e)
     assigned_same a b e h p =
@@ -304,12 +304,12 @@ module _ (old new : TextWithTokens) (os ns : List (Option ℕ)) (P : ℕ → Typ
     further_each end h = tt
     further_each (more (then_argument e) es) h = (h.0, further_each es h.1)
 
-    arguments_each : (es : Tree ℕ (maybe arguments)) → Each es → EachOf (arguments_listed es)
+    arguments_each : (es : Tree ℕ (maybe arguments)) → Each es → EachOf (call_arguments es)
     arguments_each none h = tt
     arguments_each (one no_arguments) h = tt
     arguments_each (one (some_arguments e es)) h = (h.0, further_each es h.1)
 
-    arguments_same : (fs : List (KnownParameter T)) (es : List (Tree ℕ expression)) → EachOf es → Alright (argument_faults fo fs es) (argument_faults fn fs es)
+    arguments_same : (fs : List (KnownParameter T)) (es : List (Tree ℕ expression)) → EachOf es → Alright (faults_of_arguments fo fs es) (faults_of_arguments fn fs es)
     arguments_same [] es h = none_same old new
     arguments_same (f ∷ fs) [] h = none_same old new
     arguments_same (f ∷ fs) (e ∷ es) h = both_same old new (argument_same f e h.0) (arguments_same fs es h.1)
@@ -319,7 +319,7 @@ module _ (old new : TextWithTokens) (os ns : List (Option ℕ)) (P : ℕ → Typ
     parts_same (e ∷ es) h = both_same old new (expression_same e h.0).faults (parts_same es h.1)
 
     counted_same : (b : Bool) (p : ℕ) (fs : List (KnownParameter T)) (es : List (Tree ℕ expression)) → EachOf es
-        → Alright (if b then argument_faults fo fs es else fault_at_tokens fo code.ArgumentCount p p) (if b then argument_faults fn fs es else fault_at_tokens fn code.ArgumentCount p p)
+        → Alright (if b then faults_of_arguments fo fs es else fault_at_tokens fo code.ArgumentCount p p) (if b then faults_of_arguments fn fs es else fault_at_tokens fn code.ArgumentCount p p)
     counted_same true p fs es h = arguments_same fs es h
     counted_same false p fs es h = at_same code.ArgumentCount p p
 
@@ -338,8 +338,8 @@ module _ (old new : TextWithTokens) (os ns : List (Option ℕ)) (P : ℕ → Typ
 
       statement_same : (s : Tree ℕ statement) → Each s → Alright (statement_faults fo s) (statement_faults fn s)
       statement_same empty h = none_same old new
-      statement_same (assigns x path e) h = assigned_same (reported_target fo x path) (reported_target fn x path) e h.2 (target_same x path h.0 h.1)
-      statement_same (calls p es) h = call_same p (arguments_listed es) h.0 (arguments_each es h.1)
+      statement_same (assigns x path e) h = assigned_same (report_on_target fo x path) (report_on_target fn x path) e h.2 (target_same x path h.0 h.1)
+      statement_same (calls p es) h = call_same p (call_arguments es) h.0 (arguments_each es h.1)
       statement_same (branches e statements rest last) h =
           both_same old new (required_there types.boolean e h.0) (both_same old new (sequence_same statements h.1) (both_same old new (elsifs_same rest h.2) (else_same last h.3)))
       statement_same (while_loop e statements) h = both_same old new (required_there types.boolean e h.0) (sequence_same statements h.1)

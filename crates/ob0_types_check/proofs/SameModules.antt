@@ -11,18 +11,18 @@ use Rattle.ob0_tree.specs.declared.tree.ModuleTree.{ModuleTree}
 use Rattle.std.proofs.lemmas.List.{length-map}
 use Rattle.ob0_scan.specs.TextWithTokens.{word_of_token}
 use Rattle.ob0_scope_table.specs.TokenProperty.{EachTokenHas}
-use Rattle.ob0_scope_table.specs.FaultTokens.{AreFaultsAtSameTokens, AreWrittenAlike}
+use Rattle.ob0_scope_table.specs.FaultTokens.{AreFaultsAtSameTokens, HaveSameKindsAndSpellings}
 use Rattle.ob0_scope_table.specs.Resolution.{is_undeclared_fault, ordinal_in}
 use Rattle.ob0_scope_table.proofs.Placed.{each_token}
 use Rattle.ob0_scope_table.proofs.FaultTokens.{both_same, filter_same, none_same, texts_stay, values_stay}
 use Rattle.ob0_types_table.specs.declared.types.TypeId.{TypeId}
 use Rattle.ob0_types_table.specs.declared.types.TypeId.TheVariants as type
-use Rattle.ob0_types_check.specs.DeclarationFaults.{KnownHeading, state_after_heading, reported_constant_declaration, reported_block, reported_body, reported_constants, module_faults, reported_parameters, reported_procedure, reported_procedures, reported_section, reported_sections, reported_types, reported_variables, reported_type_declaration, reported_variable_group, with_parameters}
+use Rattle.ob0_types_check.specs.DeclarationFaults.{KnownHeading, declarations_after_heading, report_on_constant_declaration, report_on_block, report_on_body, report_on_constant_declarations, undeclared_name_and_type_faults, report_on_parameters, report_on_procedure, report_on_procedures, report_on_parameter_section, report_on_parameter_sections, report_on_type_declarations, report_on_variable_declarations, report_on_type_declaration, report_on_variable_group, with_parameters}
 use Rattle.ob0_types_check.specs.Known.{Meaning, Operand, Reported, a_constant, a_procedure, a_type, a_variable}
 use Rattle.ob0_types_check.specs.Operations.{without_fault, token_before, ◌>>=◌}
-use Rattle.ob0_types_check.specs.KnownDeclarations.{PartTypes, Size, KnownDeclarations, TypeWithState, state_at_start, define, define_all, facts_at, is_within_limits, append_composite, make_type, of_elements, of_fields, size_of_type_so_far, reported_too_large_type, types_so_far, with_meaning}
-use Rattle.ob0_types_check.specs.TypeFaults.{length_of}
-use Rattle.ob0_types_check.specs.WrittenTypeFaults.{KnownFields, made_array_type, array_size, with_field_group, no_known_fields, next_type_ordinal, made_record_type, record_size, record_keyword, reported_fields, reported_groups, reported_type, with_known_fields, with_known_field, token_before_group}
+use Rattle.ob0_types_check.specs.KnownDeclarations.{PartTypes, Size, KnownDeclarations, TypeWithState, state_at_start, define, define_all, facts_at, is_within_limits, append_composite, make_type, of_elements, of_fields, size_of_type_so_far, report_on_too_large_type, types_so_far, with_meaning}
+use Rattle.ob0_types_check.specs.TypeFaults.{length_by_operand}
+use Rattle.ob0_types_check.specs.WrittenTypeFaults.{KnownFields, made_array_type, array_size, with_field_group, no_known_fields, next_type_ordinal, made_record_type, record_size, record_keyword_token, report_on_field_group, report_on_further_field_groups, report_on_written_type, with_known_fields, with_known_field, token_before_group}
 use Rattle.ob0_types_check.proofs.SameFaults.{Alike, Alikeness, at_same, constant_same, expression_same, goes_on, length_same, rightly, sequence_same, type_named_same}
 
 -- returns the state, or the type and the state after it, with another text
@@ -123,7 +123,7 @@ module _ (old new : TextWithTokens) (os ns : List (Option ℕ)) (P : ℕ → Typ
   -- ---- written types
 
   made_within : (b : Bool) (p : KnownDeclarations) (word ordinal : ℕ) (parts : PartTypes) (size : Size)
-      → Typed (if b then without_fault (append_composite (so_old p) ordinal parts size) else reported_too_large_type (so_old p) word) (if b then without_fault (append_composite (so_new p) ordinal parts size) else reported_too_large_type (so_new p) word)
+      → Typed (if b then without_fault (append_composite (so_old p) ordinal parts size) else report_on_too_large_type (so_old p) word) (if b then without_fault (append_composite (so_new p) ordinal parts size) else report_on_too_large_type (so_new p) word)
   made_within true p word ordinal parts size = rightly old new typed_old typed_new (append_composite p ordinal parts size)
   made_within false p word ordinal parts size = record {
     value = record { of = type.Unknown; following = p };
@@ -158,38 +158,38 @@ module _ (old new : TextWithTokens) (os ns : List (Option ℕ)) (P : ℕ → Typ
       record { value = with_known_fields t.of (gathered_old h) xs; before = names_old t.of h xs; after = names_new t.of h xs each; faults = none_same old new }
 
   mutual
-    unfolding reported_type
+    unfolding report_on_written_type
 
-    written_same : (around : ℕ) (p : KnownDeclarations) (t : Tree ℕ written_type) → Each t → Typed (reported_type around (so_old p) t) (reported_type around (so_new p) t)
+    written_same : (around : ℕ) (p : KnownDeclarations) (t : Tree ℕ written_type) → Each t → Typed (report_on_written_type around (so_old p) t) (report_on_written_type around (so_new p) t)
     written_same around p (named_type x) h =
         goes_on old new (λ t. without_fault (record { of = t; following = so_old p })) (λ t. without_fault (record { of = t; following = so_new p })) (type_named_same old new os ns P w (types_so_far p.made) (declared_at p) false x h)
         (λ t. rightly old new typed_old typed_new (record { of = t; following = p }))
     written_same around p (array_type e u) h =
-        goes_on old new (λ o. length_of (facts_at (so_old p) false) o >>= (λ n. reported_type (suc around) (so_old p) u >>= made_array_type (next_type_ordinal around p) o n))
-        (λ o. length_of (facts_at (so_new p) false) o >>= (λ n. reported_type (suc around) (so_new p) u >>= made_array_type (next_type_ordinal around p) o n))
+        goes_on old new (λ o. length_by_operand (facts_at (so_old p) false) o >>= (λ n. report_on_written_type (suc around) (so_old p) u >>= made_array_type (next_type_ordinal around p) o n))
+        (λ o. length_by_operand (facts_at (so_new p) false) o >>= (λ n. report_on_written_type (suc around) (so_new p) u >>= made_array_type (next_type_ordinal around p) o n))
         (expression_same old new os ns P w (types_so_far p.made) (declared_at p) true e h.0)
         (λ o.
-        goes_on old new (λ n. reported_type (suc around) (so_old p) u >>= made_array_type (next_type_ordinal around p) o n) (λ n. reported_type (suc around) (so_new p) u >>= made_array_type (next_type_ordinal around p) o n)
+        goes_on old new (λ n. report_on_written_type (suc around) (so_old p) u >>= made_array_type (next_type_ordinal around p) o n) (λ n. report_on_written_type (suc around) (so_new p) u >>= made_array_type (next_type_ordinal around p) o n)
         (length_same old new os ns P w (types_so_far p.made) (declared_at p) false o)
         (λ n. goes_on old new (made_array_type (next_type_ordinal around p) o n) (made_array_type (next_type_ordinal around p) o n) (written_same (suc around) p u h.1) (λ t. array_same (next_type_ordinal around p) o n t)))
     written_same around p (record_type g rest) h =
-        goes_on old new (λ first. reported_groups (suc around) first rest >>= made_record_type (token_before_group g (record_keyword rest)) (next_type_ordinal around p))
-        (λ first. reported_groups (suc around) first rest >>= made_record_type (token_before_group g (record_keyword rest)) (next_type_ordinal around p))
+        goes_on old new (λ first. report_on_further_field_groups (suc around) first rest >>= made_record_type (token_before_group g (record_keyword_token rest)) (next_type_ordinal around p))
+        (λ first. report_on_further_field_groups (suc around) first rest >>= made_record_type (token_before_group g (record_keyword_token rest)) (next_type_ordinal around p))
         (group_same (suc around) (no_known_fields p) g h.0)
         (λ first.
-        goes_on old new (made_record_type (token_before_group g (record_keyword rest)) (next_type_ordinal around p)) (made_record_type (token_before_group g (record_keyword rest)) (next_type_ordinal around p)) (groups_same (suc around) first rest h.1)
-        (λ all. made_same all.following (token_before_group g (record_keyword rest)) (next_type_ordinal around p) (of_fields all.fields) (record_size all.size)))
+        goes_on old new (made_record_type (token_before_group g (record_keyword_token rest)) (next_type_ordinal around p)) (made_record_type (token_before_group g (record_keyword_token rest)) (next_type_ordinal around p)) (groups_same (suc around) first rest h.1)
+        (λ all. made_same all.following (token_before_group g (record_keyword_token rest)) (next_type_ordinal around p) (of_fields all.fields) (record_size all.size)))
 
-    group_same : (around : ℕ) (so_far : KnownFields) (g : Tree ℕ fields) → Each g → AddsKnownFields (reported_fields around (gathered_old so_far) g) (reported_fields around (gathered_new so_far) g)
+    group_same : (around : ℕ) (so_far : KnownFields) (g : Tree ℕ fields) → Each g → AddsKnownFields (report_on_field_group around (gathered_old so_far) g) (report_on_field_group around (gathered_new so_far) g)
     group_same around so_far no_fields h = rightly old new gathered_old gathered_new so_far
     group_same around so_far (some_fields ns t) h =
         goes_on old new (λ u. without_fault (with_field_group (gathered_old so_far) (names_in_list ns) u)) (λ u. without_fault (with_field_group (gathered_new so_far) (names_in_list ns) u)) (written_same around so_far.following t h.1)
         (λ u. gathered_same so_far (names_in_list ns) u (names_each ns h.0))
 
-    groups_same : (around : ℕ) (so_far : KnownFields) (gs : Tree ℕ (items further_fields)) → Each gs → AddsKnownFields (reported_groups around (gathered_old so_far) gs) (reported_groups around (gathered_new so_far) gs)
+    groups_same : (around : ℕ) (so_far : KnownFields) (gs : Tree ℕ (items further_fields)) → Each gs → AddsKnownFields (report_on_further_field_groups around (gathered_old so_far) gs) (report_on_further_field_groups around (gathered_new so_far) gs)
     groups_same around so_far end h = rightly old new gathered_old gathered_new so_far
     groups_same around so_far (more (then_fields g) rest) h =
-        goes_on old new (λ next. reported_groups around next rest) (λ next. reported_groups around next rest) (group_same around so_far g h.0) (λ next. groups_same around next rest h.1)
+        goes_on old new (λ next. report_on_further_field_groups around next rest) (λ next. report_on_further_field_groups around next rest) (group_same around so_far g h.0) (λ next. groups_same around next rest h.1)
 
   -- ---- declarations
 
@@ -200,38 +200,38 @@ module _ (old new : TextWithTokens) (os ns : List (Option ℕ)) (P : ℕ → Typ
   all_defined : (p : KnownDeclarations) (m : Meaning TypeId) (xs : List ℕ) → AllOf xs → So (without_fault (define_all (so_old p) m xs)) (without_fault (define_all (so_new p) m xs))
   all_defined p m xs h = so (define_all (so_old p) m xs) (define_all (so_old p) m xs) (define_all (so_new p) m xs) (all_before p m xs) (all_after p m xs h)
 
-  constant_after : (p : KnownDeclarations) (c : Tree ℕ (item constant)) → Each c → So (reported_constant_declaration (so_old p) c) (reported_constant_declaration (so_new p) c)
-  unfolding reported_constant_declaration
+  constant_after : (p : KnownDeclarations) (c : Tree ℕ (item constant)) → Each c → So (report_on_constant_declaration (so_old p) c) (report_on_constant_declaration (so_new p) c)
+  unfolding report_on_constant_declaration
   constant_after p (declares_constant x e) h =
       goes_on old new (λ v. without_fault (define (so_old p) (a_constant v) x)) (λ v. without_fault (define (so_new p) (a_constant v) x)) (constant_same old new os ns P w (types_so_far p.made) (declared_at p) true e h.1)
       (λ v. defined p (a_constant v) x h.0)
 
-  pub constants_same : (p : KnownDeclarations) (cs : Tree ℕ (items constant)) → Each cs → So (reported_constants (so_old p) cs) (reported_constants (so_new p) cs)
-  unfolding reported_constants
+  pub constants_same : (p : KnownDeclarations) (cs : Tree ℕ (items constant)) → Each cs → So (report_on_constant_declarations (so_old p) cs) (report_on_constant_declarations (so_new p) cs)
+  unfolding report_on_constant_declarations
   constants_same p end h = rightly old new so_old so_new p
-  constants_same p (more c rest) h = goes_on old new (λ q. reported_constants q rest) (λ q. reported_constants q rest) (constant_after p c h.0) (λ q. constants_same q rest h.1)
+  constants_same p (more c rest) h = goes_on old new (λ q. report_on_constant_declarations q rest) (λ q. report_on_constant_declarations q rest) (constant_after p c h.0) (λ q. constants_same q rest h.1)
 
-  select_type : (p : KnownDeclarations) (d : Tree ℕ (item type_definition)) → Each d → So (reported_type_declaration (so_old p) d) (reported_type_declaration (so_new p) d)
-  unfolding reported_type_declaration
+  select_type : (p : KnownDeclarations) (d : Tree ℕ (item type_definition)) → Each d → So (report_on_type_declaration (so_old p) d) (report_on_type_declaration (so_new p) d)
+  unfolding report_on_type_declaration
   select_type p (declares_type x t) h =
       goes_on old new (λ u. without_fault (define u.following (a_type u.of) x)) (λ u. without_fault (define u.following (a_type u.of) x)) (written_same 0 p t h.1)
       (λ u. defined u.following (a_type u.of) x h.0)
 
-  pub types_same : (p : KnownDeclarations) (ds : Tree ℕ (items type_definition)) → Each ds → So (reported_types (so_old p) ds) (reported_types (so_new p) ds)
-  unfolding reported_types
+  pub types_same : (p : KnownDeclarations) (ds : Tree ℕ (items type_definition)) → Each ds → So (report_on_type_declarations (so_old p) ds) (report_on_type_declarations (so_new p) ds)
+  unfolding report_on_type_declarations
   types_same p end h = rightly old new so_old so_new p
-  types_same p (more d rest) h = goes_on old new (λ q. reported_types q rest) (λ q. reported_types q rest) (select_type p d h.0) (λ q. types_same q rest h.1)
+  types_same p (more d rest) h = goes_on old new (λ q. report_on_type_declarations q rest) (λ q. report_on_type_declarations q rest) (select_type p d h.0) (λ q. types_same q rest h.1)
 
-  variables_after : (p : KnownDeclarations) (g : Tree ℕ (item variable)) → Each g → So (reported_variable_group (so_old p) g) (reported_variable_group (so_new p) g)
-  unfolding reported_variable_group
+  variables_after : (p : KnownDeclarations) (g : Tree ℕ (item variable)) → Each g → So (report_on_variable_group (so_old p) g) (report_on_variable_group (so_new p) g)
+  unfolding report_on_variable_group
   variables_after p (declares_variable ns t) h =
       goes_on old new (λ u. without_fault (define_all u.following (a_variable u.of) (names_in_list ns))) (λ u. without_fault (define_all u.following (a_variable u.of) (names_in_list ns))) (written_same 0 p t h.1)
       (λ u. all_defined u.following (a_variable u.of) (names_in_list ns) (names_each ns h.0))
 
-  pub variables_same : (p : KnownDeclarations) (gs : Tree ℕ (items variable)) → Each gs → So (reported_variables (so_old p) gs) (reported_variables (so_new p) gs)
-  unfolding reported_variables
+  pub variables_same : (p : KnownDeclarations) (gs : Tree ℕ (items variable)) → Each gs → So (report_on_variable_declarations (so_old p) gs) (report_on_variable_declarations (so_new p) gs)
+  unfolding report_on_variable_declarations
   variables_same p end h = rightly old new so_old so_new p
-  variables_same p (more g rest) h = goes_on old new (λ q. reported_variables q rest) (λ q. reported_variables q rest) (variables_after p g h.0) (λ q. variables_same q rest h.1)
+  variables_same p (more g rest) h = goes_on old new (λ q. report_on_variable_declarations q rest) (λ q. report_on_variable_declarations q rest) (variables_after p g h.0) (λ q. variables_same q rest h.1)
 
   -- ---- headings
 
@@ -245,24 +245,24 @@ module _ (old new : TextWithTokens) (os ns : List (Option ℕ)) (P : ℕ → Typ
         faults = none_same old new;
       }
 
-  parameters_same : (h : KnownHeading) (by_place : Bool) (ns : Tree ℕ names) (t : Tree ℕ written_type) → Each ns → Each t → Heads (reported_parameters (heading_old h) by_place ns t) (reported_parameters (heading_new h) by_place ns t)
-  unfolding reported_parameters
+  parameters_same : (h : KnownHeading) (by_place : Bool) (ns : Tree ℕ names) (t : Tree ℕ written_type) → Each ns → Each t → Heads (report_on_parameters (heading_old h) by_place ns t) (report_on_parameters (heading_new h) by_place ns t)
+  unfolding report_on_parameters
   parameters_same h by_place ns t of_names of_type =
       goes_on old new (λ u. without_fault (with_parameters (heading_old h) by_place (names_in_list ns) u)) (λ u. without_fault (with_parameters (heading_new h) by_place (names_in_list ns) u)) (written_same 0 h.following t of_type)
       (λ u. parameters_after h by_place (names_in_list ns) u (names_each ns of_names))
 
-  section_same : (h : KnownHeading) (s : Tree ℕ (item further_section)) → Each s → Heads (reported_section (heading_old h) s) (reported_section (heading_new h) s)
-  unfolding reported_section
+  section_same : (h : KnownHeading) (s : Tree ℕ (item further_section)) → Each s → Heads (report_on_parameter_section (heading_old h) s) (report_on_parameter_section (heading_new h) s)
+  unfolding report_on_parameter_section
   section_same h (then_section (value_section ns t)) each = parameters_same h false ns t each.0 each.1
   section_same h (then_section (variable_section ns t)) each = parameters_same h true ns t each.0 each.1
 
-  pub sections_same : (h : KnownHeading) (ss : Tree ℕ (items further_section)) → Each ss → Heads (reported_sections (heading_old h) ss) (reported_sections (heading_new h) ss)
-  unfolding reported_sections
+  pub sections_same : (h : KnownHeading) (ss : Tree ℕ (items further_section)) → Each ss → Heads (report_on_parameter_sections (heading_old h) ss) (report_on_parameter_sections (heading_new h) ss)
+  unfolding report_on_parameter_sections
   sections_same h end each = rightly old new heading_old heading_new h
-  sections_same h (more s rest) each = goes_on old new (λ g. reported_sections g rest) (λ g. reported_sections g rest) (section_same h s each.0) (λ g. sections_same g rest each.1)
+  sections_same h (more s rest) each = goes_on old new (λ g. report_on_parameter_sections g rest) (λ g. report_on_parameter_sections g rest) (section_same h s each.0) (λ g. sections_same g rest each.1)
 
   -- The states within a procedure, after its heading, are alike in both texts.
-  pub heading_after : (x : ℕ) (h : KnownHeading) → P x → So (without_fault (state_after_heading x (heading_old h))) (without_fault (state_after_heading x (heading_new h)))
+  pub heading_after : (x : ℕ) (h : KnownHeading) → P x → So (without_fault (declarations_after_heading x (heading_old h))) (without_fault (declarations_after_heading x (heading_new h)))
   heading_after x h each = defined h.following (a_procedure h.formals) x each
 
   -- ---- optional sections
@@ -286,56 +286,56 @@ module _ (old new : TextWithTokens) (os ns : List (Option ℕ)) (P : ℕ → Typ
 
   -- ---- bodies
 
-  pub body_same : (p : KnownDeclarations) (b : Tree ℕ (maybe body)) → Each b → So (reported_body (so_old p) b) (reported_body (so_new p) b)
-  unfolding reported_body
+  pub body_same : (p : KnownDeclarations) (b : Tree ℕ (maybe body)) → Each b → So (report_on_body (so_old p) b) (report_on_body (so_new p) b)
+  unfolding report_on_body
   body_same p none h = rightly old new so_old so_new p
   body_same p (one (begins statements)) h = record { value = p; before = refl; after = refl; faults = sequence_same old new os ns P w (types_so_far p.made) (declared_at p) false statements h }
 
   -- ---- blocks and procedures
 
   -- If a block has the same report in both texts from alike states, it also has after a heading.
-  block_after : (b : Tree ℕ block) → ((q : KnownDeclarations) → So (reported_block (so_old q) b) (reported_block (so_new q) b)) → (h : KnownHeading) (x : ℕ) → P x → So (reported_block (state_after_heading x (heading_old h)) b) (reported_block (state_after_heading x (heading_new h)) b)
+  block_after : (b : Tree ℕ block) → ((q : KnownDeclarations) → So (report_on_block (so_old q) b) (report_on_block (so_new q) b)) → (h : KnownHeading) (x : ℕ) → P x → So (report_on_block (declarations_after_heading x (heading_old h)) b) (report_on_block (declarations_after_heading x (heading_new h)) b)
   block_after b each h x at =
       let a = heading_after x h at in
-      subst (λ q. So (reported_block q b) (reported_block (state_after_heading x (heading_new h)) b)) (sym a.before) (subst (λ q. So (reported_block (so_old a.value) b) (reported_block q b)) (sym a.after) (each a.value))
+      subst (λ q. So (report_on_block q b) (report_on_block (declarations_after_heading x (heading_new h)) b)) (sym a.before) (subst (λ q. So (report_on_block (so_old a.value) b) (report_on_block q b)) (sym a.after) (each a.value))
 
   mutual
-    unfolding reported_block
+    unfolding report_on_block
 
-    pub block_same : (p : KnownDeclarations) (b : Tree ℕ block) → Each b → So (reported_block (so_old p) b) (reported_block (so_new p) b)
+    pub block_same : (p : KnownDeclarations) (b : Tree ℕ block) → Each b → So (report_on_block (so_old p) b) (report_on_block (so_new p) b)
     block_same p (forms_block (declares cs ts vs ps) statements) h =
-        goes_on old new (λ q. reported_types q (section_types ts) >>= (λ r. reported_variables r (section_variables vs) >>= (λ s. reported_procedures s ps >>= (λ t. reported_body t statements))))
-        (λ q. reported_types q (section_types ts) >>= (λ r. reported_variables r (section_variables vs) >>= (λ s. reported_procedures s ps >>= (λ t. reported_body t statements))))
+        goes_on old new (λ q. report_on_type_declarations q (section_types ts) >>= (λ r. report_on_variable_declarations r (section_variables vs) >>= (λ s. report_on_procedures s ps >>= (λ t. report_on_body t statements))))
+        (λ q. report_on_type_declarations q (section_types ts) >>= (λ r. report_on_variable_declarations r (section_variables vs) >>= (λ s. report_on_procedures s ps >>= (λ t. report_on_body t statements))))
         (constants_same p (section_constants cs) (constants_each cs h.0.0))
         (λ q.
-        goes_on old new (λ r. reported_variables r (section_variables vs) >>= (λ s. reported_procedures s ps >>= (λ t. reported_body t statements)))
-        (λ r. reported_variables r (section_variables vs) >>= (λ s. reported_procedures s ps >>= (λ t. reported_body t statements)))
+        goes_on old new (λ r. report_on_variable_declarations r (section_variables vs) >>= (λ s. report_on_procedures s ps >>= (λ t. report_on_body t statements)))
+        (λ r. report_on_variable_declarations r (section_variables vs) >>= (λ s. report_on_procedures s ps >>= (λ t. report_on_body t statements)))
         (types_same q (section_types ts) (types_each ts h.0.1))
         (λ r.
-        goes_on old new (λ s. reported_procedures s ps >>= (λ t. reported_body t statements)) (λ s. reported_procedures s ps >>= (λ t. reported_body t statements))
+        goes_on old new (λ s. report_on_procedures s ps >>= (λ t. report_on_body t statements)) (λ s. report_on_procedures s ps >>= (λ t. report_on_body t statements))
         (variables_same r (section_variables vs) (variables_each vs h.0.2))
-        (λ s. goes_on old new (λ t. reported_body t statements) (λ t. reported_body t statements) (procedures_same s ps h.0.3) (λ t. body_same t statements h.1))))
+        (λ s. goes_on old new (λ t. report_on_body t statements) (λ t. report_on_body t statements) (procedures_same s ps h.0.3) (λ t. body_same t statements h.1))))
 
-    procedures_same : (p : KnownDeclarations) (ps : Tree ℕ (items procedure)) → Each ps → So (reported_procedures (so_old p) ps) (reported_procedures (so_new p) ps)
+    procedures_same : (p : KnownDeclarations) (ps : Tree ℕ (items procedure)) → Each ps → So (report_on_procedures (so_old p) ps) (report_on_procedures (so_new p) ps)
     procedures_same p end h = rightly old new so_old so_new p
-    procedures_same p (more d rest) h = goes_on old new (λ q. reported_procedures q rest) (λ q. reported_procedures q rest) (procedure_same p d h.0) (λ q. procedures_same q rest h.1)
+    procedures_same p (more d rest) h = goes_on old new (λ q. report_on_procedures q rest) (λ q. report_on_procedures q rest) (procedure_same p d h.0) (λ q. procedures_same q rest h.1)
 
-    procedure_same : (p : KnownDeclarations) (d : Tree ℕ (item procedure)) → Each d → So (reported_procedure (so_old p) d) (reported_procedure (so_new p) d)
+    procedure_same : (p : KnownDeclarations) (d : Tree ℕ (item procedure)) → Each d → So (report_on_procedure (so_old p) d) (report_on_procedure (so_new p) d)
     procedure_same p (declares_procedure x fs b closing) h =
-        goes_on old new (λ g. reported_block (state_after_heading x g) b) (λ g. reported_block (state_after_heading x g) b) (sections_same (record { formals = []; following = p }) (formal_sections fs) (formals_each fs h.1))
+        goes_on old new (λ g. report_on_block (declarations_after_heading x g) b) (λ g. report_on_block (declarations_after_heading x g) b) (sections_same (record { formals = []; following = p }) (formal_sections fs) (formals_each fs h.1))
         (λ g. block_after b (λ q. block_same q b h.2) g x h.0)
 
 -- ---- a module
 
-same_count : (old new : TextWithTokens) → AreWrittenAlike old new → length new.tokens ≡ length old.tokens
+same_count : (old new : TextWithTokens) → HaveSameKindsAndSpellings old new → length new.tokens ≡ length old.tokens
 same_count old new w = sym (length-map new.tokens (word_of_token new.text)) ∙ (ap length w.same_words ∙ length-map old.tokens (word_of_token old.text))
 
 -- If all tokens of two texts have the same spellings, the undeclared names and the faults of types are at the same
 -- tokens.
-pub module_same : (old new : TextWithTokens) (w : AreWrittenAlike old new) (tree : ModuleTree) (ordinals : List (Option ℕ)) (declaration_tokens uses : List ℕ) (before after : List Fault) → AreFaultsAtSameTokens old new before after
-    → AreFaultsAtSameTokens old new (module_faults (record { module_read = parsed_module old tree; ordinals = ordinals; declaration_tokens = declaration_tokens; uses = uses; faults = before }))
-    (module_faults (record { module_read = parsed_module new tree; ordinals = ordinals; declaration_tokens = declaration_tokens; uses = uses; faults = after }))
-unfolding module_faults
+pub module_same : (old new : TextWithTokens) (w : HaveSameKindsAndSpellings old new) (tree : ModuleTree) (ordinals : List (Option ℕ)) (declaration_tokens uses : List ℕ) (before after : List Fault) → AreFaultsAtSameTokens old new before after
+    → AreFaultsAtSameTokens old new (undeclared_name_and_type_faults (record { module_read = parsed_module old tree; ordinals = ordinals; declaration_tokens = declaration_tokens; uses = uses; faults = before }))
+    (undeclared_name_and_type_faults (record { module_read = parsed_module new tree; ordinals = ordinals; declaration_tokens = declaration_tokens; uses = uses; faults = after }))
+unfolding undeclared_name_and_type_faults
 module_same old new w tree ordinals declaration_tokens uses before after h =
     let first : KnownDeclarations = state_at_start (record { module_read = parsed_module old tree; ordinals = ordinals; declaration_tokens = declaration_tokens; uses = uses; faults = before }) in
     let P : ℕ → Type 0 = λ k. Unit {0} in

@@ -8,14 +8,14 @@ use Rattle.ob0_tree.specs.ParsedModule.{tree_of}
 use Rattle.ob0_tree.specs.Tree.{Tree, block, body, declares, declares_procedure, end, forms_block, identifiers, is_module, item, items, maybe, module_text, more, procedure}
 use Rattle.ob0_language_names.specs.Parts.{formal_sections, module_block, section_constants, section_types, section_variables}
 use Rattle.ob0_scope_table.specs.TokenProperty.{EachTokenHas}
-use Rattle.ob0_scope_table.specs.FaultTokens.{AreFaultsAtSameTokens, fault_at}
+use Rattle.ob0_scope_table.specs.FaultTokens.{AreFaultsAtSameTokens, fault_with_span}
 use Rattle.ob0_scope_table.specs.Resolution.{IsResolution, Resolution, declaring_names}
 use Rattle.ob0_types_check.specs.EqualExceptBodies.{EachTokenOfBlockHasExceptInBodies, IsSameTokenAt, EachTokenOfProcedureHasExceptInBodies, EachTokenOfProceduresHasExceptInBodies, Unless}
-use Rattle.ob0_types_check.specs.DeclarationFaults.{KnownHeading, state_after_heading, reported_body, reported_constants, reported_sections, reported_types, reported_variables}
+use Rattle.ob0_types_check.specs.DeclarationFaults.{KnownHeading, declarations_after_heading, report_on_body, report_on_constant_declarations, report_on_parameter_sections, report_on_type_declarations, report_on_variable_declarations}
 use Rattle.ob0_types_check.specs.Known.{Reported}
 use Rattle.ob0_types_check.specs.Operations.{◌>>=◌}
 use Rattle.ob0_types_check.specs.KnownDeclarations.{KnownDeclarations, state_at_start, predeclared_meanings}
-use Rattle.ob0_types_check.specs.SomeBodies.{AllPass, SomeBodiesSuffice, WalkProgress, IncludesFaultyBodies, reported_block_with_bodies, report_body_if_wanted, every_body, faulty_bodies, reported_module_with_bodies, reported_procedure_with_bodies, reported_procedures_with_bodies, with_body_if_faulty}
+use Rattle.ob0_types_check.specs.SomeBodies.{AllPass, WalkingChangedAndFaultyBodiesSuffices, WalkProgress, IncludesChangedAndFaultyBodies, report_on_block_with_wanted_bodies, report_body_if_wanted, every_body, faulty_bodies, report_on_module_with_wanted_bodies, report_on_procedure_with_wanted_bodies, report_on_procedures_with_wanted_bodies, with_body_if_faulty}
 use Rattle.ob0_types_check.proofs.Chains.{reported_equal}
 use Rattle.ob0_types_check.proofs.ReportedWith.{further}
 use Rattle.ob0_types_check.proofs.SameFaults.{Alike, Alikeness}
@@ -42,24 +42,24 @@ module _ (test : ℕ → Bool) where
   faulty_before (fault ∷ faults) own xs h = all_before xs (own ∷ []) h
 
   mutual
-    unfolding reported_block_with_bodies
+    unfolding report_on_block_with_wanted_bodies
 
-    before_block : (own : ℕ) (w : WalkProgress) (b : Tree ℕ block) → AllPass test (reported_block_with_bodies every_body own w b).known.bodies_with_faults → AllPass test w.bodies_with_faults
+    before_block : (own : ℕ) (w : WalkProgress) (b : Tree ℕ block) → AllPass test (report_on_block_with_wanted_bodies every_body own w b).known.bodies_with_faults → AllPass test w.bodies_with_faults
     before_block own w (forms_block (declares cs ts vs ps) a) h =
-        let q = (reported_constants w.so_far (section_constants cs)).known in
-        let r = (reported_types q (section_types ts)).known in
-        let s = (reported_variables r (section_variables vs)).known in
-        let v = (reported_procedures_with_bodies every_body (further w s) ps).known in
-        before_procedures (further w s) ps (faulty_before (reported_body v.so_far a).faults own v.bodies_with_faults h)
+        let q = (report_on_constant_declarations w.so_far (section_constants cs)).known in
+        let r = (report_on_type_declarations q (section_types ts)).known in
+        let s = (report_on_variable_declarations r (section_variables vs)).known in
+        let v = (report_on_procedures_with_wanted_bodies every_body (further w s) ps).known in
+        before_procedures (further w s) ps (faulty_before (report_on_body v.so_far a).faults own v.bodies_with_faults h)
 
-    before_procedures : (w : WalkProgress) (ps : Tree ℕ (items procedure)) → AllPass test (reported_procedures_with_bodies every_body w ps).known.bodies_with_faults → AllPass test w.bodies_with_faults
+    before_procedures : (w : WalkProgress) (ps : Tree ℕ (items procedure)) → AllPass test (report_on_procedures_with_wanted_bodies every_body w ps).known.bodies_with_faults → AllPass test w.bodies_with_faults
     before_procedures w end h = h
-    before_procedures w (more d rest) h = before_procedure w d (before_procedures (reported_procedure_with_bodies every_body w d).known rest h)
+    before_procedures w (more d rest) h = before_procedure w d (before_procedures (report_on_procedure_with_wanted_bodies every_body w d).known rest h)
 
-    before_procedure : (w : WalkProgress) (d : Tree ℕ (item procedure)) → AllPass test (reported_procedure_with_bodies every_body w d).known.bodies_with_faults → AllPass test w.bodies_with_faults
+    before_procedure : (w : WalkProgress) (d : Tree ℕ (item procedure)) → AllPass test (report_on_procedure_with_wanted_bodies every_body w d).known.bodies_with_faults → AllPass test w.bodies_with_faults
     before_procedure w (declares_procedure x fs b closing) h =
-        let g = (reported_sections (record { formals = []; following = w.so_far }) (formal_sections fs)).known in
-        before_block closing (further w (state_after_heading x g)) b h
+        let g = (report_on_parameter_sections (record { formals = []; following = w.so_far }) (formal_sections fs)).known in
+        before_block closing (further w (declarations_after_heading x g)) b h
 
 -- If only wanted bodies are walked, all bodies found faulty are wanted.
 module _ (wanted : ℕ → Bool) where
@@ -74,27 +74,27 @@ module _ (wanted : ℕ → Bool) where
       added (fault ∷ faults) e = all_and wanted w.bodies_with_faults own h e
 
       one : (b : Bool) → wanted own ≡ b → Wants (report_body_if_wanted b own w a).known.bodies_with_faults
-      one true e = added (reported_body w.so_far a).faults e
+      one true e = added (report_on_body w.so_far a).faults e
       one false e = h
 
   mutual
-    unfolding reported_block_with_bodies
+    unfolding report_on_block_with_wanted_bodies
 
-    block_wanted : (own : ℕ) (w : WalkProgress) (b : Tree ℕ block) → Wants w.bodies_with_faults → Wants (reported_block_with_bodies wanted own w b).known.bodies_with_faults
+    block_wanted : (own : ℕ) (w : WalkProgress) (b : Tree ℕ block) → Wants w.bodies_with_faults → Wants (report_on_block_with_wanted_bodies wanted own w b).known.bodies_with_faults
     block_wanted own w (forms_block (declares cs ts vs ps) a) h =
-        let q = (reported_constants w.so_far (section_constants cs)).known in
-        let r = (reported_types q (section_types ts)).known in
-        let s = (reported_variables r (section_variables vs)).known in
-        faulty_wanted (reported_procedures_with_bodies wanted (further w s) ps).known own a (procedures_wanted (further w s) ps h)
+        let q = (report_on_constant_declarations w.so_far (section_constants cs)).known in
+        let r = (report_on_type_declarations q (section_types ts)).known in
+        let s = (report_on_variable_declarations r (section_variables vs)).known in
+        faulty_wanted (report_on_procedures_with_wanted_bodies wanted (further w s) ps).known own a (procedures_wanted (further w s) ps h)
 
-    procedures_wanted : (w : WalkProgress) (ps : Tree ℕ (items procedure)) → Wants w.bodies_with_faults → Wants (reported_procedures_with_bodies wanted w ps).known.bodies_with_faults
+    procedures_wanted : (w : WalkProgress) (ps : Tree ℕ (items procedure)) → Wants w.bodies_with_faults → Wants (report_on_procedures_with_wanted_bodies wanted w ps).known.bodies_with_faults
     procedures_wanted w end h = h
-    procedures_wanted w (more d rest) h = procedures_wanted (reported_procedure_with_bodies wanted w d).known rest (procedure_wanted w d h)
+    procedures_wanted w (more d rest) h = procedures_wanted (report_on_procedure_with_wanted_bodies wanted w d).known rest (procedure_wanted w d h)
 
-    procedure_wanted : (w : WalkProgress) (d : Tree ℕ (item procedure)) → Wants w.bodies_with_faults → Wants (reported_procedure_with_bodies wanted w d).known.bodies_with_faults
+    procedure_wanted : (w : WalkProgress) (d : Tree ℕ (item procedure)) → Wants w.bodies_with_faults → Wants (report_on_procedure_with_wanted_bodies wanted w d).known.bodies_with_faults
     procedure_wanted w (declares_procedure x fs b closing) h =
-        let g = (reported_sections (record { formals = []; following = w.so_far }) (formal_sections fs)).known in
-        block_wanted closing (further w (state_after_heading x g)) b h
+        let g = (report_on_parameter_sections (record { formals = []; following = w.so_far }) (formal_sections fs)).known in
+        block_wanted closing (further w (declarations_after_heading x g)) b h
 
 -- ---- two texts
 
@@ -127,9 +127,9 @@ one_then {Z} {A} {Y} {B} {f} {g} {h} {k} {t} {u} {v} J K next other another down
 -- If a list of faults is empty, the list of faults at the same tokens of another text is also empty.
 none_same_tokens : (old new : TextWithTokens) (before after : List Fault) → AreFaultsAtSameTokens old new before after → before ≡ [] → after ≡ []
 none_same_tokens old new before after h none =
-    let count : length before ≡ length h.tokens = ap length h.in_old ∙ length-map h.tokens (fault_at old) in
+    let count : length before ≡ length h.tokens = ap length h.in_old ∙ length-map h.tokens (fault_with_span old) in
     let nothing : length before ≡ 0 = ap length none in
-    h.in_new ∙ ap (map (fault_at new)) (nil_from_length h.tokens (omega (arith, count, nothing)))
+    h.in_new ∙ ap (map (fault_with_span new)) (nil_from_length h.tokens (omega (arith, count, nothing)))
 
 -- the state that both texts share, and the lists of bodies with faults in each of them
 record Both : Type 0 where
@@ -172,10 +172,10 @@ module _ (old new : TextWithTokens) (os ns : List (Option ℕ)) (P : ℕ → Typ
   body_with own z a each were = one (wanted own) refl each
     where
       before_faults : List Fault
-      before_faults = (reported_body (so_before z.so) a).faults
+      before_faults = (report_on_body (so_before z.so) a).faults
 
       now_faults : List Fault
-      now_faults = (reported_body (so_now z.so) a).faults
+      now_faults = (report_on_body (so_now z.so) a).faults
 
       at_end : Both
       at_end = record { so = z.so; in_old = with_body_if_faulty before_faults own z.in_old; in_new = with_body_if_faulty now_faults own z.in_new }
@@ -193,54 +193,54 @@ module _ (old new : TextWithTokens) (os ns : List (Option ℕ)) (P : ℕ → Typ
 
   -- The report of a block after a heading is the same in both texts if the report of the block is.
   inside : (closing : ℕ) (z : Both) (b : Tree ℕ block) (x : ℕ) (g : KnownHeading) → P x
-      → ((y : Both) → Were (reported_block_with_bodies every_body closing (walked_before y) b).known → With (reported_block_with_bodies every_body closing (walked_before y) b) (reported_block_with_bodies every_body closing (walked_now y) b) (reported_block_with_bodies wanted closing (walked_now y) b))
-      → Were (reported_block_with_bodies every_body closing (further (walked_before z) (state_after_heading x (heading_old old new os ns P w g))) b).known
-      → With (reported_block_with_bodies every_body closing (further (walked_before z) (state_after_heading x (heading_old old new os ns P w g))) b) (reported_block_with_bodies every_body closing (further (walked_now z) (state_after_heading x (heading_new old new os ns P w g))) b)
-      (reported_block_with_bodies wanted closing (further (walked_now z) (state_after_heading x (heading_new old new os ns P w g))) b)
+      → ((y : Both) → Were (report_on_block_with_wanted_bodies every_body closing (walked_before y) b).known → With (report_on_block_with_wanted_bodies every_body closing (walked_before y) b) (report_on_block_with_wanted_bodies every_body closing (walked_now y) b) (report_on_block_with_wanted_bodies wanted closing (walked_now y) b))
+      → Were (report_on_block_with_wanted_bodies every_body closing (further (walked_before z) (declarations_after_heading x (heading_old old new os ns P w g))) b).known
+      → With (report_on_block_with_wanted_bodies every_body closing (further (walked_before z) (declarations_after_heading x (heading_old old new os ns P w g))) b) (report_on_block_with_wanted_bodies every_body closing (further (walked_now z) (declarations_after_heading x (heading_new old new os ns P w g))) b)
+      (report_on_block_with_wanted_bodies wanted closing (further (walked_now z) (declarations_after_heading x (heading_new old new os ns P w g))) b)
   inside closing z b x g each again were =
       let a = heading_after old new os ns P w x g each in
-      let last : KnownDeclarations = state_after_heading x (heading_new old new os ns P w g) in
-      let start : Were (reported_block_with_bodies every_body closing (walked_before (further_both z a.value)) b).known = subst (λ q. Were (reported_block_with_bodies every_body closing (further (walked_before z) q) b).known) a.before were in
-      subst (λ q. With (reported_block_with_bodies every_body closing (further (walked_before z) q) b) (reported_block_with_bodies every_body closing (further (walked_now z) last) b) (reported_block_with_bodies wanted closing (further (walked_now z) last) b)) (sym a.before)
-      (subst (λ q. With (reported_block_with_bodies every_body closing (walked_before (further_both z a.value)) b) (reported_block_with_bodies every_body closing (further (walked_now z) q) b) (reported_block_with_bodies wanted closing (further (walked_now z) q) b)) (sym a.after) (again (further_both z a.value) start))
+      let last : KnownDeclarations = declarations_after_heading x (heading_new old new os ns P w g) in
+      let start : Were (report_on_block_with_wanted_bodies every_body closing (walked_before (further_both z a.value)) b).known = subst (λ q. Were (report_on_block_with_wanted_bodies every_body closing (further (walked_before z) q) b).known) a.before were in
+      subst (λ q. With (report_on_block_with_wanted_bodies every_body closing (further (walked_before z) q) b) (report_on_block_with_wanted_bodies every_body closing (further (walked_now z) last) b) (report_on_block_with_wanted_bodies wanted closing (further (walked_now z) last) b)) (sym a.before)
+      (subst (λ q. With (report_on_block_with_wanted_bodies every_body closing (walked_before (further_both z a.value)) b) (report_on_block_with_wanted_bodies every_body closing (further (walked_now z) q) b) (report_on_block_with_wanted_bodies wanted closing (further (walked_now z) q) b)) (sym a.after) (again (further_both z a.value) start))
 
   mutual
-    unfolding reported_block_with_bodies
+    unfolding report_on_block_with_wanted_bodies
 
-    block_one : (own : ℕ) (z : Both) (b : Tree ℕ block) → EachTokenOfBlockHasExceptInBodies P wanted own b → Were (reported_block_with_bodies every_body own (walked_before z) b).known
-        → With (reported_block_with_bodies every_body own (walked_before z) b) (reported_block_with_bodies every_body own (walked_now z) b) (reported_block_with_bodies wanted own (walked_now z) b)
+    block_one : (own : ℕ) (z : Both) (b : Tree ℕ block) → EachTokenOfBlockHasExceptInBodies P wanted own b → Were (report_on_block_with_wanted_bodies every_body own (walked_before z) b).known
+        → With (report_on_block_with_wanted_bodies every_body own (walked_before z) b) (report_on_block_with_wanted_bodies every_body own (walked_now z) b) (report_on_block_with_wanted_bodies wanted own (walked_now z) b)
     block_one own z (forms_block (declares cs ts vs ps) a) h =
-        one_then nothing_of Were (λ q. reported_types q (section_types ts) >>= (λ r. reported_variables r (section_variables vs) >>= (λ s. reported_procedures_with_bodies every_body (further (walked_before z) s) ps >>= (λ t. report_body_if_wanted true own t a))))
-        (λ q. reported_types q (section_types ts) >>= (λ r. reported_variables r (section_variables vs) >>= (λ s. reported_procedures_with_bodies every_body (further (walked_now z) s) ps >>= (λ t. report_body_if_wanted true own t a))))
-        (λ q. reported_types q (section_types ts) >>= (λ r. reported_variables r (section_variables vs) >>= (λ s. reported_procedures_with_bodies wanted (further (walked_now z) s) ps >>= (λ t. report_body_if_wanted (wanted own) own t a))))
+        one_then nothing_of Were (λ q. report_on_type_declarations q (section_types ts) >>= (λ r. report_on_variable_declarations r (section_variables vs) >>= (λ s. report_on_procedures_with_wanted_bodies every_body (further (walked_before z) s) ps >>= (λ t. report_body_if_wanted true own t a))))
+        (λ q. report_on_type_declarations q (section_types ts) >>= (λ r. report_on_variable_declarations r (section_variables vs) >>= (λ s. report_on_procedures_with_wanted_bodies every_body (further (walked_now z) s) ps >>= (λ t. report_body_if_wanted true own t a))))
+        (λ q. report_on_type_declarations q (section_types ts) >>= (λ r. report_on_variable_declarations r (section_variables vs) >>= (λ s. report_on_procedures_with_wanted_bodies wanted (further (walked_now z) s) ps >>= (λ t. report_body_if_wanted (wanted own) own t a))))
         (λ x k. tt) (λ k. of_alike (constants_same old new os ns P w z.so (section_constants cs) (constants_each old new os ns P w cs h.0)))
         (λ q.
-        one_then nothing_of Were (λ r. reported_variables r (section_variables vs) >>= (λ s. reported_procedures_with_bodies every_body (further (walked_before z) s) ps >>= (λ t. report_body_if_wanted true own t a)))
-        (λ r. reported_variables r (section_variables vs) >>= (λ s. reported_procedures_with_bodies every_body (further (walked_now z) s) ps >>= (λ t. report_body_if_wanted true own t a)))
-        (λ r. reported_variables r (section_variables vs) >>= (λ s. reported_procedures_with_bodies wanted (further (walked_now z) s) ps >>= (λ t. report_body_if_wanted (wanted own) own t a)))
+        one_then nothing_of Were (λ r. report_on_variable_declarations r (section_variables vs) >>= (λ s. report_on_procedures_with_wanted_bodies every_body (further (walked_before z) s) ps >>= (λ t. report_body_if_wanted true own t a)))
+        (λ r. report_on_variable_declarations r (section_variables vs) >>= (λ s. report_on_procedures_with_wanted_bodies every_body (further (walked_now z) s) ps >>= (λ t. report_body_if_wanted true own t a)))
+        (λ r. report_on_variable_declarations r (section_variables vs) >>= (λ s. report_on_procedures_with_wanted_bodies wanted (further (walked_now z) s) ps >>= (λ t. report_body_if_wanted (wanted own) own t a)))
         (λ x k. tt) (λ k. of_alike (types_same old new os ns P w q (section_types ts) (types_each old new os ns P w ts h.1)))
         (λ r.
-        one_then nothing_of Were (λ s. reported_procedures_with_bodies every_body (further (walked_before z) s) ps >>= (λ t. report_body_if_wanted true own t a)) (λ s. reported_procedures_with_bodies every_body (further (walked_now z) s) ps >>= (λ t. report_body_if_wanted true own t a))
-        (λ s. reported_procedures_with_bodies wanted (further (walked_now z) s) ps >>= (λ t. report_body_if_wanted (wanted own) own t a))
+        one_then nothing_of Were (λ s. report_on_procedures_with_wanted_bodies every_body (further (walked_before z) s) ps >>= (λ t. report_body_if_wanted true own t a)) (λ s. report_on_procedures_with_wanted_bodies every_body (further (walked_now z) s) ps >>= (λ t. report_body_if_wanted true own t a))
+        (λ s. report_on_procedures_with_wanted_bodies wanted (further (walked_now z) s) ps >>= (λ t. report_body_if_wanted (wanted own) own t a))
         (λ x k. tt) (λ k. of_alike (variables_same old new os ns P w r (section_variables vs) (variables_each old new os ns P w vs h.2)))
         (λ s.
         one_then Were Were (λ t. report_body_if_wanted true own t a) (λ t. report_body_if_wanted true own t a) (λ t. report_body_if_wanted (wanted own) own t a)
-        (λ t k. faulty_before wanted (reported_body t.so_far a).faults own t.bodies_with_faults k)
+        (λ t k. faulty_before wanted (report_on_body t.so_far a).faults own t.bodies_with_faults k)
         (procedures_one (further_both z s) ps h.3) (λ y. body_with own y a h.4))))
 
-    procedures_one : (z : Both) (ps : Tree ℕ (items procedure)) → EachTokenOfProceduresHasExceptInBodies P wanted ps → Were (reported_procedures_with_bodies every_body (walked_before z) ps).known
-        → With (reported_procedures_with_bodies every_body (walked_before z) ps) (reported_procedures_with_bodies every_body (walked_now z) ps) (reported_procedures_with_bodies wanted (walked_now z) ps)
+    procedures_one : (z : Both) (ps : Tree ℕ (items procedure)) → EachTokenOfProceduresHasExceptInBodies P wanted ps → Were (report_on_procedures_with_wanted_bodies every_body (walked_before z) ps).known
+        → With (report_on_procedures_with_wanted_bodies every_body (walked_before z) ps) (report_on_procedures_with_wanted_bodies every_body (walked_now z) ps) (report_on_procedures_with_wanted_bodies wanted (walked_now z) ps)
     procedures_one z end h were = record { value = z; before = refl; after = refl; same = refl }
     procedures_one z (more d rest) h were =
-        one_then Were Were (λ v. reported_procedures_with_bodies every_body v rest) (λ v. reported_procedures_with_bodies every_body v rest) (λ v. reported_procedures_with_bodies wanted v rest)
+        one_then Were Were (λ v. report_on_procedures_with_wanted_bodies every_body v rest) (λ v. report_on_procedures_with_wanted_bodies every_body v rest) (λ v. report_on_procedures_with_wanted_bodies wanted v rest)
         (λ v k. before_procedures wanted v rest k)
         (procedure_one z d h.0) (λ y. procedures_one y rest h.1) were
 
-    procedure_one : (z : Both) (d : Tree ℕ (item procedure)) → EachTokenOfProcedureHasExceptInBodies P wanted d → Were (reported_procedure_with_bodies every_body (walked_before z) d).known
-        → With (reported_procedure_with_bodies every_body (walked_before z) d) (reported_procedure_with_bodies every_body (walked_now z) d) (reported_procedure_with_bodies wanted (walked_now z) d)
+    procedure_one : (z : Both) (d : Tree ℕ (item procedure)) → EachTokenOfProcedureHasExceptInBodies P wanted d → Were (report_on_procedure_with_wanted_bodies every_body (walked_before z) d).known
+        → With (report_on_procedure_with_wanted_bodies every_body (walked_before z) d) (report_on_procedure_with_wanted_bodies every_body (walked_now z) d) (report_on_procedure_with_wanted_bodies wanted (walked_now z) d)
     procedure_one z (declares_procedure x fs b closing) h =
-        one_then nothing_of Were (λ g. reported_block_with_bodies every_body closing (further (walked_before z) (state_after_heading x g)) b) (λ g. reported_block_with_bodies every_body closing (further (walked_now z) (state_after_heading x g)) b)
-        (λ g. reported_block_with_bodies wanted closing (further (walked_now z) (state_after_heading x g)) b)
+        one_then nothing_of Were (λ g. report_on_block_with_wanted_bodies every_body closing (further (walked_before z) (declarations_after_heading x g)) b) (λ g. report_on_block_with_wanted_bodies every_body closing (further (walked_now z) (declarations_after_heading x g)) b)
+        (λ g. report_on_block_with_wanted_bodies wanted closing (further (walked_now z) (declarations_after_heading x g)) b)
         (λ x k. tt) (λ k. of_alike (sections_same old new os ns P w (record { formals = []; following = z.so }) (formal_sections fs) (formals_each old new os ns P w fs h.1)))
         (λ g. inside closing z b x g h.0 (λ y. block_one closing y b h.2))
 
@@ -252,10 +252,10 @@ closing_of (is_module x b closing) = closing
 -- holds if the final states in both texts come from one value
 pub record IsKnownAlike (old new : Resolution) : Type 0 where
   pub value : KnownDeclarations
-  pub before : (reported_module_with_bodies every_body old).known.so_far ≡ so_over old.module_read.source old.ordinals value
-  pub after : (reported_module_with_bodies every_body new).known.so_far ≡ so_over new.module_read.source new.ordinals value
+  pub before : (report_on_module_with_wanted_bodies every_body old).known.so_far ≡ so_over old.module_read.source old.ordinals value
+  pub after : (report_on_module_with_wanted_bodies every_body new).known.so_far ≡ so_over new.module_read.source new.ordinals value
 
-module _ (wanted : ℕ → Bool) (r : Resolution) (is : IsResolution r) (w : IncludesFaultyBodies wanted r) where
+module _ (wanted : ℕ → Bool) (r : Resolution) (is : IsResolution r) (w : IncludesChangedAndFaultyBodies wanted r) where
   abbrev old : Resolution
   old = w.old
 
@@ -272,16 +272,16 @@ module _ (wanted : ℕ → Bool) (r : Resolution) (is : IsResolution r) (w : Inc
   at_start = record { so_far = so_over r.module_read.source r.ordinals (state_at_start old); bodies_with_faults = [] }
 
   one : One (walked_before old.module_read.source r.module_read.source old.ordinals r.ordinals (IsSameTokenAt old r) likeness wanted) (walked_now old.module_read.source r.module_read.source old.ordinals r.ordinals (IsSameTokenAt old r) likeness wanted)
-      (reported_module_with_bodies every_body old) (reported_block_with_bodies every_body old.module_read.closing at_start old_block) (reported_block_with_bodies wanted old.module_read.closing at_start old_block)
+      (report_on_module_with_wanted_bodies every_body old) (report_on_block_with_wanted_bodies every_body old.module_read.closing at_start old_block) (report_on_block_with_wanted_bodies wanted old.module_read.closing at_start old_block)
   one = block_one old.module_read.source r.module_read.source old.ordinals r.ordinals (IsSameTokenAt old r) likeness wanted old.module_read.closing start old_block w.alike.alike.1 w.bodies_with_faults
 
-  as_read : (test : ℕ → Bool) → reported_module_with_bodies test r ≡ reported_block_with_bodies test old.module_read.closing at_start old_block
+  as_read : (test : ℕ → Bool) → report_on_module_with_wanted_bodies test r ≡ report_on_block_with_wanted_bodies test old.module_read.closing at_start old_block
   as_read test =
       let tree = w.alike.tree in
       let declared : r.declaration_tokens ≡ old.declaration_tokens = is.declaring ∙ (ap (λ t. declaring_names (identifiers role.Declaring t)) tree ∙ sym w.resolved.declaring) in
       let first : state_at_start r ≡ so_over r.module_read.source r.ordinals (state_at_start old) = ap (λ (ds : List ℕ). record { source = r.module_read.source; ordinals = r.ordinals; declared = predeclared_meanings ++ map (λ token. None) ds; made = [] }) declared in
       let own : r.module_read.closing ≡ old.module_read.closing = ap closing_of tree in
-      λ i. reported_block_with_bodies test (own i) (record { so_far = first i; bodies_with_faults = [] }) (module_block (tree i))
+      λ i. report_on_block_with_wanted_bodies test (own i) (record { so_far = first i; bodies_with_faults = [] }) (module_block (tree i))
 
   pub known_alike : IsKnownAlike old r
   known_alike = record {
@@ -290,11 +290,11 @@ module _ (wanted : ℕ → Bool) (r : Resolution) (is : IsResolution r) (w : Inc
     after = ap (λ (t : Reported WalkProgress). t.known.so_far) (as_read every_body) ∙ ap (λ (v : WalkProgress). v.so_far) one.after;
   }
 
-pub some_bodies_suffice : SomeBodiesSuffice
-some_bodies_suffice wanted r is w = as_read wanted r is w wanted ∙ (sym (one wanted r is w).same ∙ sym (as_read wanted r is w every_body))
+pub walking_changed_and_faulty_bodies_suffices : WalkingChangedAndFaultyBodiesSuffices
+walking_changed_and_faulty_bodies_suffices wanted r is w = as_read wanted r is w wanted ∙ (sym (one wanted r is w).same ∙ sym (as_read wanted r is w every_body))
 
 -- All faulty bodies of the new text are among the wanted bodies.
-pub faulty_stay : (wanted : ℕ → Bool) (r : Resolution) → IsResolution r → IncludesFaultyBodies wanted r → AllPass wanted (faulty_bodies r)
+pub faulty_stay : (wanted : ℕ → Bool) (r : Resolution) → IsResolution r → IncludesChangedAndFaultyBodies wanted r → AllPass wanted (faulty_bodies r)
 faulty_stay wanted r is w =
-    subst (λ (t : Reported WalkProgress). Wants wanted t.known.bodies_with_faults) (some_bodies_suffice wanted r is w)
+    subst (λ (t : Reported WalkProgress). Wants wanted t.known.bodies_with_faults) (walking_changed_and_faulty_bodies_suffices wanted r is w)
     (block_wanted wanted r.module_read.closing (record { so_far = state_at_start r; bodies_with_faults = [] }) (module_block (tree_of r.module_read)) tt)

@@ -12,7 +12,7 @@ use Rattle.ob0_language_types.specs.Expressions as meant
 use Rattle.ob0_language_types.specs.Typing.{depth, scalars}
 use Rattle.ob0_language_types.specs.WellTyped.{Signature, signature_of}
 use Rattle.ob0_types_table.specs.KnownTables.{declared_object_in, shapes_of}
-use Rattle.ob0_types_table.specs.Tables.{AreEntriesInOrder, IsValidEntry, IsTypeAmongEntries, field_shapes, formal_view, entry_shape, faulty_shape, object_view, array_or_faulty, record_or_faulty, extended_shapes, type_shape}
+use Rattle.ob0_types_table.specs.Tables.{AreEntriesInOrder, IsValidEntry, RefersOnlyToFirstEntries, field_shapes, formal_view, entry_shape, faulty_shape, object_view, array_or_faulty, record_or_faulty, extended_shapes, type_shape}
 use Rattle.ob0_types_table.specs.declared.known.Field.{Field}
 use Rattle.ob0_types_table.specs.declared.known.FormalParameter as formal
 use Rattle.ob0_types_table.specs.declared.known.Object as object
@@ -23,9 +23,9 @@ use Rattle.ob0_types_table.specs.declared.known.TypeEntry.TheVariants as made
 use Rattle.ob0_types_table.specs.declared.types.TypeId.{TypeId}
 use Rattle.ob0_types_table.specs.declared.types.TypeId.TheVariants as type
 use Rattle.ob0_language_values.specs.Values.{FieldShapes, Shape, array_shape, boolean_shape, integer_shape, next_field_shape, no_field_shape, record_shape}
-use Rattle.ob0_types_check.specs.Agreement.{DeclarationAgrees, EntriesAgree, FieldsAgree, FormalsAgree, CompositeAgrees, MeaningAgrees, as_array, as_record, is_standard_procedure, shape_in}
+use Rattle.ob0_types_check.specs.Agreement.{DeclarationAgreesWithObject, EntriesAgreeWithShapes, FieldsAgreeWithShapes, FormalsAgreeWithSignature, CompositeAgreesWithShape, MeaningAgreesWithObject, as_array, as_record, is_standard_procedure, shape_of_type_in}
 use Rattle.ob0_types_check.specs.ModuleLaws.{KnowsDeclarations}
-use Rattle.ob0_types_check.specs.CheckerViews.{fields_in, formal_of, composite_type_of, meaning_view, table_object, declarations_in_state, table_in_state, with_standard_procedures}
+use Rattle.ob0_types_check.specs.CheckerViews.{known_fields_of, formal_of, composite_type_of, meaning_view, table_object, declarations_in_state, table_in_state, with_standard_procedures}
 use Rattle.ob0_types_check.specs.declared.reporting.checker_state.Meaning.{Meaning}
 use Rattle.ob0_types_check.specs.declared.reporting.checker_state.Meaning.TheVariants as declared
 use Rattle.ob0_types_check.specs.declared.reporting.checker_state.CheckerState.{CheckerState}
@@ -54,30 +54,30 @@ place_there f [] i u e = absurd (cc)
 place_there f (x ∷ known) zero u e = omega arith
 place_there f (x ∷ known) (suc i) u e = omega (arith, place_there f known i u e)
 
-type_there : (known : List Shape) (t : TypeId) (u : Shape) → shape_in known t ≡ Some u → type_shape known t ≡ u
+type_there : (known : List Shape) (t : TypeId) (u : Shape) → shape_of_type_in known t ≡ Some u → type_shape known t ≡ u
 type_there known type.Integer u e = some-same integer_shape u e
 type_there known type.Boolean u e = some-same boolean_shape u e
 type_there known (type.Array i) u e = shape_there as_array array_or_faulty array_only known i u e
 type_there known (type.Record i) u e = shape_there as_record record_or_faulty record_only known i u e
 type_there known type.Unknown u e = absurd (cc)
 
-made_there : (known : List Shape) (t : TypeId) (u : Shape) → shape_in known t ≡ Some u → IsTypeAmongEntries (length known) t
+made_there : (known : List Shape) (t : TypeId) (u : Shape) → shape_of_type_in known t ≡ Some u → RefersOnlyToFirstEntries (length known) t
 made_there known type.Integer u e = tt
 made_there known type.Boolean u e = tt
 made_there known (type.Array i) u e = place_there as_array known i u e
 made_there known (type.Record i) u e = place_there as_record known i u e
 made_there known type.Unknown u e = absurd (cc)
 
-fields_there : (known : List Shape) (fs : List Field) (gs : FieldShapes) → FieldsAgree (shape_in known) (fields_in fs) gs → (field_shapes known fs ≡ gs) × All (λ f. IsTypeAmongEntries (length known) f.of) fs
+fields_there : (known : List Shape) (fs : List Field) (gs : FieldShapes) → FieldsAgreeWithShapes (shape_of_type_in known) (known_fields_of fs) gs → (field_shapes known fs ≡ gs) × All (λ f. RefersOnlyToFirstEntries (length known) f.of) fs
 fields_there known [] no_field_shape h = (refl, λ k d less. absurd (omega (arith, less)))
 fields_there known [] (next_field_shape x s gs) h = absurd h
 fields_there known (f ∷ fs) no_field_shape h = absurd h
 fields_there known (f ∷ fs) (next_field_shape x s gs) h =
     let rest = fields_there known fs gs h.2 in
-    ((λ i. next_field_shape (h.0 i) (type_there known f.of s h.1 i) (rest.0 i)), All-cons (λ f. IsTypeAmongEntries (length known) f.of) f fs (made_there known f.of s h.1) rest.1)
+    ((λ i. next_field_shape (h.0 i) (type_there known f.of s h.1 i) (rest.0 i)), All-cons (λ f. RefersOnlyToFirstEntries (length known) f.of) f fs (made_there known f.of s h.1) rest.1)
 
 -- An entry of the table has the shape with which it agrees.
-entry_there : (known : List Shape) (m : TypeEntry) (s : Shape) → CompositeAgrees (shape_in known) (composite_type_of m) s → (entry_shape known m ≡ s) × IsValidEntry known m
+entry_there : (known : List Shape) (m : TypeEntry) (s : Shape) → CompositeAgreesWithShape (shape_of_type_in known) (composite_type_of m) s → (entry_shape known m ≡ s) × IsValidEntry known m
 entry_there known (made.Array a) s h =
     let (u, e, there) = h.parts in
     let same : entry_shape known (made.Array a) ≡ s = ap (array_shape a.ordinal a.length) (type_there known a.element u there) ∙ sym e in
@@ -88,7 +88,7 @@ entry_there known (made.Record r) s h =
     let same : entry_shape known (made.Record r) ≡ s = ap (record_shape r.ordinal) all.0 ∙ sym e in
     (same, record { parts = all.1; counted = (h.scalars ∙ ap scalars (sym same), h.depth ∙ ap depth (sym same)) })
 
-entries_there : (known : List Shape) (ms : List TypeEntry) (ss : List Shape) → EntriesAgree known (map composite_type_of ms) ss → AreEntriesInOrder known ms × (extended_shapes known ms ≡ known ++ ss)
+entries_there : (known : List Shape) (ms : List TypeEntry) (ss : List Shape) → EntriesAgreeWithShapes known (map composite_type_of ms) ss → AreEntriesInOrder known ms × (extended_shapes known ms ≡ known ++ ss)
 entries_there known [] [] h = (tt, sym (append-nil known))
 entries_there known [] (s ∷ ss) h = absurd h
 entries_there known (m ∷ ms) [] h = absurd h
@@ -100,7 +100,7 @@ entries_there known (m ∷ ms) (s ∷ ss) h =
     )
 
 -- The object of a declaration in the table is the module's object if its meaning agrees with that object.
-formals_there : (shapes : List Shape) (fs : List formal.FormalParameter) (signature : Signature) → FormalsAgree (shape_in shapes) (map formal_of fs) signature → map (formal_view shapes) fs ≡ signature
+formals_there : (shapes : List Shape) (fs : List formal.FormalParameter) (signature : Signature) → FormalsAgreeWithSignature (shape_of_type_in shapes) (map formal_of fs) signature → map (formal_view shapes) fs ≡ signature
 formals_there shapes [] [] h = refl
 formals_there shapes [] (g ∷ gs) h = absurd h
 formals_there shapes (f ∷ fs) [] h = absurd h
@@ -114,14 +114,14 @@ procedure_there (Some (meant.a_variable s)) signature own e = absurd (cc)
 procedure_there (Some (meant.a_procedure g)) signature own e = ap (λ z. Some (meant.a_procedure z)) (sym (some-same g signature e))
 procedure_there (Some (meant.a_standard p)) signature own e = absurd (cc)
 
-object_there : (shapes : List Shape) (m : Meaning) (o : Option (meant.Object Shape Signature)) → MeaningAgrees (shape_in shapes) (meaning_view m) o → is_standard_procedure o ≡ false → object_view shapes (table_object m) ≡ o
+object_there : (shapes : List Shape) (m : Meaning) (o : Option (meant.Object Shape Signature)) → MeaningAgreesWithObject (shape_of_type_in shapes) (meaning_view m) o → is_standard_procedure o ≡ false → object_view shapes (table_object m) ≡ o
 object_there shapes (declared.Named t) o (s, there, is) own = ap (λ z. Some (meant.a_type z)) (type_there shapes t s there) ∙ sym is
 object_there shapes (declared.Constant (Some v)) o (w, there, is, scalar) own = ap (λ z. Some (meant.a_constant z)) (some-same _ w there) ∙ sym is
 object_there shapes (declared.Constant None) o (w, there, is, scalar) own = absurd (cc)
 object_there shapes (declared.Variable t) o (s, there, is) own = ap (λ z. Some (meant.a_variable z)) (type_there shapes t s there) ∙ sym is
 object_there shapes (declared.Procedure fs) o (signature, there, formals) own = ap (λ z. Some (meant.a_procedure z)) (formals_there shapes fs.items signature formals) ∙ procedure_there o signature own there
 
-declared_there : (shapes : List Shape) (m : Option Meaning) (o : Option (meant.Object Shape Signature)) → DeclarationAgrees (shape_in shapes) (option_map meaning_view m) o → is_standard_procedure o ≡ false → option_and_then (object_view shapes) (option_map table_object m) ≡ o
+declared_there : (shapes : List Shape) (m : Option Meaning) (o : Option (meant.Object Shape Signature)) → DeclarationAgreesWithObject (shape_of_type_in shapes) (option_map meaning_view m) o → is_standard_procedure o ≡ false → option_and_then (object_view shapes) (option_map table_object m) ≡ o
 declared_there shapes None o h own = sym h
 declared_there shapes (Some m) o h own = object_there shapes m o h own
 
@@ -150,7 +150,7 @@ module _ (s : CheckerState) (m : Tree Name module_text) (h : KnowsDeclarations (
   plain_there k own =
       ap (option_and_then (object_view h.shapes)) (get_or-map (option_map table_object) s.meanings.items k None)
       ∙ declared_there h.shapes (slice_index_or s.meanings.items k None) (declared_object m k)
-      (subst (λ z. DeclarationAgrees (shape_in h.shapes) z (declared_object m k)) (get_or-map (option_map meaning_view) s.meanings.items k None) (h.declared k)) own
+      (subst (λ z. DeclarationAgreesWithObject (shape_of_type_in h.shapes) z (declared_object m k)) (get_or-map (option_map meaning_view) s.meanings.items k None) (h.declared k)) own
 
   kept : (k : ℕ) → (k ≡ 4 → ⊥) → (k ≡ 5 → ⊥) → (k ≡ 6 → ⊥) → slice_index_or (with_standard_procedures objects) k None ≡ slice_index_or objects k None
   kept k a b c = apart 6 k c _ _ ∙ (apart 5 k b _ _ ∙ apart 4 k a objects _)

@@ -7,13 +7,13 @@ use Rattle.ob0_language_types.specs.Expressions.{Meanings, evaluate}
 use Rattle.ob0_language_types.specs.Typing.{array_length, constant_value, constant_meanings, outcome_value, type_of, value_type}
 use Rattle.ob0_language_types.specs.WellTyped.{Signature, TypeMeanings}
 use Rattle.ob0_language_values.specs.Values.{Shape, Value, elements, integer_shape, members, number, truth}
-use Rattle.ob0_types_check.specs.ExpressionFaults.{reported_expression}
+use Rattle.ob0_types_check.specs.ExpressionFaults.{report_on_expression}
 use Rattle.ob0_types_check.specs.Known.{Facts, Operand}
 use Rattle.ob0_types_check.specs.Operations.{required_type, without_fault}
 use Rattle.ob0_types_check.specs.KnownDeclarations.{facts_at}
-use Rattle.ob0_types_check.specs.TypeFaults.{operand_value, length_or_fault, length_by_value, length_of, reported_constant, value_or_fault}
-use Rattle.ob0_types_check.specs.Agreement.{TypesAndMeaningsAgree, shape_in}
-use Rattle.ob0_types_check.specs.WellTypedLaws.{ValuedConstantsHaveNoFault, TypedExpressionsHaveNoFault, ValidLengthsHaveNoFault}
+use Rattle.ob0_types_check.specs.TypeFaults.{operand_value, length_or_fault, length_by_value, length_by_operand, report_on_constant_expression, value_or_fault}
+use Rattle.ob0_types_check.specs.Agreement.{TypesAndMeaningsAgree, shape_of_type_in}
+use Rattle.ob0_types_check.specs.WellTypedLaws.{ConstantsWithValuesHaveNoFault, TypedExpressionsHaveNoFault, ValidLengthsHaveNoFault}
 use Rattle.ob0_types_check.proofs.FittingExpressions.{FitsExpression, expression-fits}
 use Rattle.ob0_types_check.proofs.FittingNames.{only-tokens, tokens-fit}
 use Rattle.ob0_types_check.proofs.Proved.{constants-again}
@@ -30,22 +30,22 @@ module _ {T N : Type 0} (facts : Facts T) (shape : T → Option Shape) (apart : 
   abbrev here : Tree N expression
   here = mapped_tree label (token_value_at facts.source) e
 
-  pub typed-right : facts.only_constants ≡ false → (s : Shape) → type_of meaning here ≡ Some s → (reported_expression facts e).faults ≡ []
+  pub typed-right : facts.only_constants ≡ false → (s : Shape) → type_of meaning here ≡ Some s → (report_on_expression facts e).faults ≡ []
   typed-right only s h =
       expression-right facts shape agrees.types apart label meaning e
       (tokens-fit facts shape agrees.types label meaning (identifiers role.Declaring e) agrees.tokens, names-typed facts shape label meaning only (identifiers role.Declaring e) agrees.tokens) s h
 
-  pub constant-right : (Q : Type 0) → facts.only_constants ≡ true → (s : Shape) → type_of {P = Q} (constant_meanings meaning) here ≡ Some s → (reported_expression facts e).faults ≡ []
+  pub constant-right : (Q : Type 0) → facts.only_constants ≡ true → (s : Shape) → type_of {P = Q} (constant_meanings meaning) here ≡ Some s → (report_on_expression facts e).faults ≡ []
   constant-right Q only s h =
       expression-right facts shape agrees.types apart label (constant_meanings {Q = Q} meaning) e
       (only-tokens facts shape agrees.types label meaning Q only (identifiers role.Declaring e) agrees.tokens, constants-typed facts shape label meaning Q (identifiers role.Declaring e) agrees.tokens) s h
 
   -- holds if no fault is reported for a constant expression, and its operand has this value and its type
   pub record HasValue (v : Value) : Type 0 where
-    pub none : (reported_expression facts e).faults ≡ []
+    pub none : (report_on_expression facts e).faults ≡ []
     pub of : Shape
-    pub known : shape (reported_expression facts e).known.of ≡ Some of
-    pub value : (reported_expression facts e).known.value ≡ Some v
+    pub known : shape (report_on_expression facts e).known.of ≡ Some of
+    pub value : (report_on_expression facts e).known.value ≡ Some v
     pub scalar : value_type v ≡ Some of
 
   pub value-known : facts.only_constants ≡ true → (v : Value) → constant_value meaning here ≡ Some v → HasValue v
@@ -56,7 +56,7 @@ module _ {T N : Type 0} (facts : Facts T) (shape : T → Option Shape) (apart : 
       let none = constant-right (Unit {0}) only s hs in
       let fe : FitsExpression facts shape agrees.types label among e
       = expression-fits facts shape agrees.types label among e (only-tokens facts shape agrees.types label meaning _ only (identifiers role.Declaring e) agrees.tokens) none in
-      let value : (reported_expression facts e).known.value ≡ Some v = fe.value_agrees ∙ (ap (λ m. outcome_value (evaluate {P = Unit {0}} m [] here)) (constants-again meaning) ∙ given) in
+      let value : (report_on_expression facts e).known.value ≡ Some v = fe.value_agrees ∙ (ap (λ m. outcome_value (evaluate {P = Unit {0}} m [] here)) (constants-again meaning) ∙ given) in
       record { none = none; of = fe.of; known = fe.known; value = value; scalar = fe.scalar v value }
 
 operand_value-right : {T : Type 0} (facts : Facts T) (o : Operand T) (b : Bool) (c : Option Value) (v : Value) → c ≡ Some v → (if b then without_fault None else value_or_fault facts o c).faults ≡ []
@@ -78,19 +78,19 @@ length-integer (members j ms) n s h k = absurd (cc)
 pub typed_expressions_have_no_fault-holds : {N : Type 0} → TypedExpressionsHaveNoFault N
 typed_expressions_have_no_fault-holds p true shapes label meaning e agrees h =
     let (s, hs) = is-there (type_of (constant_meanings meaning) (mapped_tree label (token_value_at p.source) e)) h in
-    constant-right (facts_at p true) (shape_in shapes) (types-apart p.made shapes) label meaning e agrees Signature refl s hs
+    constant-right (facts_at p true) (shape_of_type_in shapes) (types-apart p.made shapes) label meaning e agrees Signature refl s hs
 typed_expressions_have_no_fault-holds p false shapes label meaning e agrees h =
     let (s, hs) = is-there (type_of meaning (mapped_tree label (token_value_at p.source) e)) h in
-    typed-right (facts_at p false) (shape_in shapes) (types-apart p.made shapes) label meaning e agrees refl s hs
+    typed-right (facts_at p false) (shape_of_type_in shapes) (types-apart p.made shapes) label meaning e agrees refl s hs
 
-pub valued_constants_have_no_fault-holds : {N : Type 0} → ValuedConstantsHaveNoFault N
-unfolding reported_constant
-valued_constants_have_no_fault-holds p shapes label meaning e agrees h =
+pub constants_with_values_have_no_fault-holds : {N : Type 0} → ConstantsWithValuesHaveNoFault N
+unfolding report_on_constant_expression
+constants_with_values_have_no_fault-holds p shapes label meaning e agrees h =
     let facts = facts_at p true in
     let (v, hv) = is-there (constant_value meaning (mapped_tree label (token_value_at p.source) e)) h in
-    let c = value-known facts (shape_in shapes) (types-apart p.made shapes) label meaning e agrees refl v hv in
-    let o : Operand _ = (reported_expression facts e).known in
-    none-of-both (reported_expression facts e).faults (operand_value facts o).faults c.none (operand_value-right facts o (facts.types.same o.of facts.types.unknown) o.value v c.value)
+    let c = value-known facts (shape_of_type_in shapes) (types-apart p.made shapes) label meaning e agrees refl v hv in
+    let o : Operand _ = (report_on_expression facts e).known in
+    none-of-both (report_on_expression facts e).faults (operand_value facts o).faults c.none (operand_value-right facts o (facts.types.same o.of facts.types.unknown) o.value v c.value)
 
 pub valid_lengths_have_no_fault-holds : {N : Type 0} → ValidLengthsHaveNoFault N
 valid_lengths_have_no_fault-holds p shapes label meaning e agrees h =
@@ -99,10 +99,10 @@ valid_lengths_have_no_fault-holds p shapes label meaning e agrees h =
     let (n, hn) = is-there (option_and_then array_length (constant_value meaning (mapped_tree label (token_value_at p.source) e))) h in
     let (v, hv, counted) = and-then array_length (constant_value meaning (mapped_tree label (token_value_at p.source) e)) n hn in
     let apart = types-apart p.made shapes in
-    let c = value-known facts (shape_in shapes) apart label meaning e agrees refl v hv in
-    let o : Operand _ = (reported_expression facts e).known in
+    let c = value-known facts (shape_of_type_in shapes) apart label meaning e agrees refl v hv in
+    let o : Operand _ = (report_on_expression facts e).known in
     let integer = apart.integer o.of (c.known ∙ ap Some (length-integer v n c.of counted c.scalar)) in
     let t = (required_type after after.types.integer o).known in
-    none-of-both (reported_expression facts e).faults (length_of after o).faults c.none
-    (none-of-both (required_type after after.types.integer o).faults _ (required_type-right after (shape_in shapes) agrees.types apart after.types.integer o integer)
+    none-of-both (report_on_expression facts e).faults (length_by_operand after o).faults c.none
+    (none-of-both (required_type after after.types.integer o).faults _ (required_type-right after (shape_of_type_in shapes) agrees.types apart after.types.integer o integer)
     (bounds-right after o (after.types.same t after.types.integer) o.value v n c.value counted))

@@ -9,10 +9,10 @@ use Rattle.ob0_tree.specs.Tree.{Sort, Tree, addend, adds, compares, designator, 
 use Rattle.ob0_language_types.specs.Expressions.{Meanings}
 use Rattle.ob0_language_types.specs.Typing.{addition_type, negation_type, element_type, field_type, multiplication_type, type_of_variable_or_constant, relation_type, sign_type, type_after_selectors, type_of, type_of_addends, type_of_factor, type_of_multipliers, type_of_simple, type_of_term}
 use Rattle.ob0_language_values.specs.Values.{Shape, Value}
-use Rattle.ob0_types_check.specs.ExpressionFaults.{reported_addends, reported_expression, reported_factor, reported_multipliers, reported_selectors, reported_simple, reported_term}
+use Rattle.ob0_types_check.specs.ExpressionFaults.{report_on_addends, report_on_expression, report_on_factor, report_on_multipliers, report_on_selectors, report_on_simple_expression, report_on_term}
 use Rattle.ob0_types_check.specs.Known.{Facts, Operand}
-use Rattle.ob0_types_check.specs.Operations.{add_operands, element_operand, field_operand, multiply_operands, name_operand, sign_operand}
-use Rattle.ob0_types_check.specs.Agreement.{TypesAgree}
+use Rattle.ob0_types_check.specs.Operations.{add_operands, element_operand, field_operand, multiply_operands, name_operand, signed_operand}
+use Rattle.ob0_types_check.specs.Agreement.{TypesAgreeWithShapes}
 use Rattle.ob0_types_check.proofs.FittingExpressions.{Fits, FitsExpression, FitsFactor, FitsSimple, FitsTerm, NameFits, TokensFit, expression-fits, factor-fits, simple-fits, split-tokens, term-fits}
 use Rattle.ob0_types_check.proofs.Operands.{added-fits, element-fits, field-fits, multiplied-fits, apply_sign-fits}
 use Rattle.ob0_types_check.proofs.TypedOperands.{TypesApart, added-right, and-then, complemented-right, element-right, field-right, multiplied-right, none-of-both, related-right, apply_sign-right}
@@ -38,7 +38,7 @@ pub split-names : {T N P : Type 0} (facts : Facts T) (label : ℕ → N) (meanin
 split-names facts label meaning [] ys h = (tt, h)
 split-names facts label meaning (x ∷ xs) ys h = let rest = split-names facts label meaning xs ys h.1 in ((h.0, rest.0), rest.1)
 
-module _ {T N P : Type 0} (facts : Facts T) (shape : T → Option Shape) (types : TypesAgree facts.types shape) (apart : TypesApart facts.types shape) (label : ℕ → N) (meaning : Meanings N Shape P) where
+module _ {T N P : Type 0} (facts : Facts T) (shape : T → Option Shape) (types : TypesAgreeWithShapes facts.types shape) (apart : TypesApart facts.types shape) (label : ℕ → N) (meaning : Meanings N Shape P) where
   abbrev tree : {s : Sort} → Tree ℕ s → Tree N s
   tree t = mapped_tree label (token_value_at facts.source) t
 
@@ -57,9 +57,9 @@ module _ {T N P : Type 0} (facts : Facts T) (shape : T → Option Shape) (types 
       ((left.0, right.0), (left.1, right.1))
 
   mutual
-    unfolding reported_expression type_of
+    unfolding report_on_expression type_of
 
-    pub expression-right : (e : Tree ℕ expression) → AllTyped e → (s : Shape) → type_of meaning (tree e) ≡ Some s → (reported_expression facts e).faults ≡ []
+    pub expression-right : (e : Tree ℕ expression) → AllTyped e → (s : Shape) → type_of meaning (tree e) ≡ Some s → (report_on_expression facts e).faults ≡ []
     expression-right (compares a none) k s h = simple-right a (split (ids a) [] k).0 s h
     expression-right (compares a (one (relates r b))) k s h =
         let parts = split (ids a) (ids b) k in
@@ -69,10 +69,10 @@ module _ {T N P : Type 0} (facts : Facts T) (shape : T → Option Shape) (types 
         let right = simple-right b parts.1 v hv in
         let fa : FitsSimple facts shape types label meaning a = simple-fits facts shape types label meaning a parts.0.0 left in
         let fb : FitsSimple facts shape types label meaning b = simple-fits facts shape types label meaning b parts.1.0 right in
-        none-of-both (reported_simple facts a).faults _ left
-        (none-of-both (reported_simple facts b).faults _ right (related-right facts shape types apart r (reported_simple facts a).known (reported_simple facts b).known u v s typed (known-as u fa hu) (known-as v fb hv)))
+        none-of-both (report_on_simple_expression facts a).faults _ left
+        (none-of-both (report_on_simple_expression facts b).faults _ right (related-right facts shape types apart r (report_on_simple_expression facts a).known (report_on_simple_expression facts b).known u v s typed (known-as u fa hu) (known-as v fb hv)))
 
-    simple-right : (a : Tree ℕ simple) → AllTyped a → (s : Shape) → type_of_simple meaning (tree a) ≡ Some s → (reported_simple facts a).faults ≡ []
+    simple-right : (a : Tree ℕ simple) → AllTyped a → (s : Shape) → type_of_simple meaning (tree a) ≡ Some s → (report_on_simple_expression facts a).faults ≡ []
     simple-right (sum g t rest) k s h =
         let parts = split (ids t) (ids rest) k in
         let (u, hu, later) = and-then (λ x. option_and_then (λ y. type_of_addends meaning y (tree rest)) (sign_type g x)) (type_of_term meaning (tree t)) s h in
@@ -80,12 +80,12 @@ module _ {T N P : Type 0} (facts : Facts T) (shape : T → Option Shape) (types 
         let left = term-right t parts.0 u hu in
         let ft : FitsTerm facts shape types label meaning t = term-fits facts shape types label meaning t parts.0.0 left in
         let ht = known-as u ft hu in
-        let mid = apply_sign-right facts shape types apart g (reported_term facts t).known u v hv ht in
-        let (w, known, typed, keeps) = apply_sign-fits facts shape types g (reported_term facts t).known u ht mid in
-        none-of-both (reported_term facts t).faults _ left
-        (none-of-both (sign_operand facts g (reported_term facts t).known).faults _ mid (addends-right (sign_operand facts g (reported_term facts t).known).known v rest (known ∙ (sym typed ∙ hv)) parts.1 s last))
+        let mid = apply_sign-right facts shape types apart g (report_on_term facts t).known u v hv ht in
+        let (w, known, typed, keeps) = apply_sign-fits facts shape types g (report_on_term facts t).known u ht mid in
+        none-of-both (report_on_term facts t).faults _ left
+        (none-of-both (signed_operand facts g (report_on_term facts t).known).faults _ mid (addends-right (signed_operand facts g (report_on_term facts t).known).known v rest (known ∙ (sym typed ∙ hv)) parts.1 s last))
 
-    addends-right : (x : Operand T) (s : Shape) (rest : Tree ℕ (items addend)) → shape x.of ≡ Some s → AllTyped rest → (r : Shape) → type_of_addends meaning s (tree rest) ≡ Some r → (reported_addends facts x rest).faults ≡ []
+    addends-right : (x : Operand T) (s : Shape) (rest : Tree ℕ (items addend)) → shape x.of ≡ Some s → AllTyped rest → (r : Shape) → type_of_addends meaning s (tree rest) ≡ Some r → (report_on_addends facts x rest).faults ≡ []
     addends-right x s end hx k r h = refl
     addends-right x s (more (adds o t) rest) hx k r h =
         let parts = split (ids t) (ids rest) k in
@@ -94,20 +94,20 @@ module _ {T N P : Type 0} (facts : Facts T) (shape : T → Option Shape) (types 
         let left = term-right t parts.0 v hv in
         let ft : FitsTerm facts shape types label meaning t = term-fits facts shape types label meaning t parts.0.0 left in
         let ht = known-as v ft hv in
-        let mid = added-right facts shape types apart o x (reported_term facts t).known s v z hz hx ht in
-        let (w, known, typed, keeps) = added-fits facts shape types o x (reported_term facts t).known s v hx ht mid in
-        none-of-both (reported_term facts t).faults _ left
-        (none-of-both (add_operands facts o x (reported_term facts t).known).faults _ mid (addends-right (add_operands facts o x (reported_term facts t).known).known z rest (known ∙ (sym typed ∙ hz)) parts.1 r last))
+        let mid = added-right facts shape types apart o x (report_on_term facts t).known s v z hz hx ht in
+        let (w, known, typed, keeps) = added-fits facts shape types o x (report_on_term facts t).known s v hx ht mid in
+        none-of-both (report_on_term facts t).faults _ left
+        (none-of-both (add_operands facts o x (report_on_term facts t).known).faults _ mid (addends-right (add_operands facts o x (report_on_term facts t).known).known z rest (known ∙ (sym typed ∙ hz)) parts.1 r last))
 
-    term-right : (t : Tree ℕ term) → AllTyped t → (s : Shape) → type_of_term meaning (tree t) ≡ Some s → (reported_term facts t).faults ≡ []
+    term-right : (t : Tree ℕ term) → AllTyped t → (s : Shape) → type_of_term meaning (tree t) ≡ Some s → (report_on_term facts t).faults ≡ []
     term-right (product f rest) k s h =
         let parts = split (ids f) (ids rest) k in
         let (u, hu, last) = and-then (λ x. type_of_multipliers meaning x (tree rest)) (type_of_factor meaning (tree f)) s h in
         let left = factor-right f parts.0 u hu in
         let ff : FitsFactor facts shape types label meaning f = factor-fits facts shape types label meaning f parts.0.0 left in
-        none-of-both (reported_factor facts f).faults _ left (multipliers-right (reported_factor facts f).known u rest (known-as u ff hu) parts.1 s last)
+        none-of-both (report_on_factor facts f).faults _ left (multipliers-right (report_on_factor facts f).known u rest (known-as u ff hu) parts.1 s last)
 
-    multipliers-right : (x : Operand T) (s : Shape) (rest : Tree ℕ (items multiplier)) → shape x.of ≡ Some s → AllTyped rest → (r : Shape) → type_of_multipliers meaning s (tree rest) ≡ Some r → (reported_multipliers facts x rest).faults ≡ []
+    multipliers-right : (x : Operand T) (s : Shape) (rest : Tree ℕ (items multiplier)) → shape x.of ≡ Some s → AllTyped rest → (r : Shape) → type_of_multipliers meaning s (tree rest) ≡ Some r → (report_on_multipliers facts x rest).faults ≡ []
     multipliers-right x s end hx k r h = refl
     multipliers-right x s (more (multiplies o f) rest) hx k r h =
         let parts = split (ids f) (ids rest) k in
@@ -116,26 +116,26 @@ module _ {T N P : Type 0} (facts : Facts T) (shape : T → Option Shape) (types 
         let left = factor-right f parts.0 v hv in
         let ff : FitsFactor facts shape types label meaning f = factor-fits facts shape types label meaning f parts.0.0 left in
         let hf = known-as v ff hv in
-        let mid = multiplied-right facts shape types apart o x (reported_factor facts f).known s v z hz hx hf in
-        let (w, known, typed, keeps) = multiplied-fits facts shape types o x (reported_factor facts f).known s v hx hf mid in
-        none-of-both (reported_factor facts f).faults _ left
-        (none-of-both (multiply_operands facts o x (reported_factor facts f).known).faults _ mid (multipliers-right (multiply_operands facts o x (reported_factor facts f).known).known z rest (known ∙ (sym typed ∙ hz)) parts.1 r last))
+        let mid = multiplied-right facts shape types apart o x (report_on_factor facts f).known s v z hz hx hf in
+        let (w, known, typed, keeps) = multiplied-fits facts shape types o x (report_on_factor facts f).known s v hx hf mid in
+        none-of-both (report_on_factor facts f).faults _ left
+        (none-of-both (multiply_operands facts o x (report_on_factor facts f).known).faults _ mid (multipliers-right (multiply_operands facts o x (report_on_factor facts f).known).known z rest (known ∙ (sym typed ∙ hz)) parts.1 r last))
 
-    factor-right : (f : Tree ℕ factor) → AllTyped f → (s : Shape) → type_of_factor meaning (tree f) ≡ Some s → (reported_factor facts f).faults ≡ []
+    factor-right : (f : Tree ℕ factor) → AllTyped f → (s : Shape) → type_of_factor meaning (tree f) ≡ Some s → (report_on_factor facts f).faults ≡ []
     factor-right (designator x path) (k, n) s h =
         let (u, hu, last) = and-then (λ s. type_after_selectors meaning s (tree path)) (type_of_variable_or_constant (meaning.object_for (label x))) s h in
         let left = n.0 u hu in
         let name : NameFits facts shape label meaning x = k.0 left in
         none-of-both (name_operand facts x).faults _ left (selectors-right (name_operand facts x).known u path (known-as u name.fits hu) (k.1, n.1) s last)
     factor-right (integer n) k s h = refl
-    factor-right (parenthesised e) k s h = none-of-both (reported_expression facts e).faults [] (expression-right e k s h) refl
+    factor-right (parenthesised e) k s h = none-of-both (report_on_expression facts e).faults [] (expression-right e k s h) refl
     factor-right (negation f) k s h =
         let (u, hu, typed) = and-then negation_type (type_of_factor meaning (tree f)) s h in
         let left = factor-right f k u hu in
         let ff : FitsFactor facts shape types label meaning f = factor-fits facts shape types label meaning f k.0 left in
-        none-of-both (reported_factor facts f).faults _ left (complemented-right facts shape types apart (reported_factor facts f).known u s typed (known-as u ff hu))
+        none-of-both (report_on_factor facts f).faults _ left (complemented-right facts shape types apart (report_on_factor facts f).known u s typed (known-as u ff hu))
 
-    pub selectors-right : (x : Operand T) (s : Shape) (path : Tree ℕ (items selector)) → shape x.of ≡ Some s → AllTyped path → (r : Shape) → type_after_selectors meaning s (tree path) ≡ Some r → (reported_selectors facts x path).faults ≡ []
+    pub selectors-right : (x : Operand T) (s : Shape) (path : Tree ℕ (items selector)) → shape x.of ≡ Some s → AllTyped path → (r : Shape) → type_after_selectors meaning s (tree path) ≡ Some r → (report_on_selectors facts x path).faults ≡ []
     selectors-right x s end hx k r h = refl
     selectors-right x s (more (field n) rest) hx (k, m) r h =
         let (u, hu, last) = and-then (λ t. type_after_selectors meaning t (tree rest)) (field_type s (meaning.written (label n))) r h in
@@ -150,7 +150,7 @@ module _ {T N P : Type 0} (facts : Facts T) (shape : T → Option Shape) (types 
         let left = expression-right e parts.0 v hv in
         let fe : FitsExpression facts shape types label meaning e = expression-fits facts shape types label meaning e parts.0.0 left in
         let he = known-as v fe hv in
-        let mid = element-right facts shape types apart x (reported_expression facts e).known s v u hx he hu in
-        let (w, known, typed) = element-fits facts shape types x (reported_expression facts e).known s v hx he mid in
-        none-of-both (reported_expression facts e).faults _ left
-        (none-of-both (element_operand facts x (reported_expression facts e).known).faults _ mid (selectors-right (element_operand facts x (reported_expression facts e).known).known u rest (known ∙ (sym typed ∙ hu)) parts.1 r last))
+        let mid = element-right facts shape types apart x (report_on_expression facts e).known s v u hx he hu in
+        let (w, known, typed) = element-fits facts shape types x (report_on_expression facts e).known s v hx he mid in
+        none-of-both (report_on_expression facts e).faults _ left
+        (none-of-both (element_operand facts x (report_on_expression facts e).known).faults _ mid (selectors-right (element_operand facts x (report_on_expression facts e).known).known u rest (known ∙ (sym typed ∙ hu)) parts.1 r last))

@@ -12,7 +12,7 @@ use Rattle.ob0_types_table.specs.declared.types.TypeId.TheVariants as type
 use Rattle.ob0_language_values.specs.Values.{Shape, array_shape, boolean_shape, integer_shape, record_shape}
 use Rattle.ob0_types_check.specs.Known.{Facts, Meaning, a_constant, a_procedure, a_scalar, a_type, a_variable}
 use Rattle.ob0_types_check.specs.Operations.{typed_name_operand, fault_at_token, operand_by_meaning, without_fault}
-use Rattle.ob0_types_check.specs.Agreement.{IsKnownAndAgrees, TokenAgrees, TokensAgree, as_array, as_record, shape_in}
+use Rattle.ob0_types_check.specs.Agreement.{IsKnownAndAgreesWithObject, TokenAgreesWithLabel, TokensAgreeWithLabels, as_array, as_record, shape_of_type_in}
 use Rattle.ob0_types_check.specs.KnownDeclarations.{CompositeType, form_of_type_so_far, types_so_far}
 use Rattle.ob0_types_check.proofs.TypedExpressions.{NameTyped, NamesTyped}
 use Rattle.ob0_types_check.proofs.TypedOperands.{TypesApart, and-then}
@@ -38,28 +38,28 @@ no-record-of shapes i s h = let (r, at, is) = and-then as_record (slice_get shap
     of-record boolean_shape s e = absurd (cc)
     of-record (array_shape k n u) s e = absurd (cc)
 
-integer-alone : (made : List CompositeType) (shapes : List Shape) (t : TypeId) → shape_in shapes t ≡ Some integer_shape → (types_so_far made).same t type.Integer ≡ true
+integer-alone : (made : List CompositeType) (shapes : List Shape) (t : TypeId) → shape_of_type_in shapes t ≡ Some integer_shape → (types_so_far made).same t type.Integer ≡ true
 integer-alone made shapes type.Integer h = refl
 integer-alone made shapes type.Boolean h = absurd (cc)
 integer-alone made shapes type.Unknown h = absurd (cc)
 integer-alone made shapes (type.Array i) h = absurd (some-none integer_shape (sym (no-array-of shapes i integer_shape h)))
 integer-alone made shapes (type.Record i) h = absurd (some-none integer_shape (sym (no-record-of shapes i integer_shape h)))
 
-boolean-alone : (made : List CompositeType) (shapes : List Shape) (t : TypeId) → shape_in shapes t ≡ Some boolean_shape → (types_so_far made).same t type.Boolean ≡ true
+boolean-alone : (made : List CompositeType) (shapes : List Shape) (t : TypeId) → shape_of_type_in shapes t ≡ Some boolean_shape → (types_so_far made).same t type.Boolean ≡ true
 boolean-alone made shapes type.Boolean h = refl
 boolean-alone made shapes type.Integer h = absurd (cc)
 boolean-alone made shapes type.Unknown h = absurd (cc)
 boolean-alone made shapes (type.Array i) h = absurd (some-none boolean_shape (sym (no-array-of shapes i boolean_shape h)))
 boolean-alone made shapes (type.Record i) h = absurd (some-none boolean_shape (sym (no-record-of shapes i boolean_shape h)))
 
-scalar-alone : (made : List CompositeType) (shapes : List Shape) (t : TypeId) (s : Shape) → shape_in shapes t ≡ Some s → form_of_type_so_far made t ≡ a_scalar → (as_array s ≡ None) × (as_record s ≡ None)
+scalar-alone : (made : List CompositeType) (shapes : List Shape) (t : TypeId) (s : Shape) → shape_of_type_in shapes t ≡ Some s → form_of_type_so_far made t ≡ a_scalar → (as_array s ≡ None) × (as_record s ≡ None)
 scalar-alone made shapes type.Integer s h e = let is = some-same integer_shape s h in (sym (ap as_array is), sym (ap as_record is))
 scalar-alone made shapes type.Boolean s h e = let is = some-same boolean_shape s h in (sym (ap as_array is), sym (ap as_record is))
 scalar-alone made shapes type.Unknown s h e = absurd (cc)
 scalar-alone made shapes (type.Array i) s h e = absurd (cc)
 scalar-alone made shapes (type.Record i) s h e = absurd (cc)
 
-pub types-apart : (made : List CompositeType) (shapes : List Shape) → TypesApart (types_so_far made) (shape_in shapes)
+pub types-apart : (made : List CompositeType) (shapes : List Shape) → TypesApart (types_so_far made) (shape_of_type_in shapes)
 types-apart made shapes = record { integer = integer-alone made shapes; boolean = boolean-alone made shapes; scalar = scalar-alone made shapes }
 
 -- No fault is reported for a name that has a type.
@@ -77,7 +77,7 @@ module _ {T : Type 0} (facts : Facts T) (shape : T → Option Shape) where
   variable-named x t true e = absurd (true≢false e)
   variable-named x t false e = refl
 
-  holds-right : (x : ℕ) (m : Option (Meaning T)) (o : Option (Object Shape Signature)) → facts.only_constants ≡ false → IsKnownAndAgrees shape m o → (s : Shape) → type_of_variable_or_constant o ≡ Some s → (operand_by_meaning facts x m).faults ≡ []
+  holds-right : (x : ℕ) (m : Option (Meaning T)) (o : Option (Object Shape Signature)) → facts.only_constants ≡ false → IsKnownAndAgreesWithObject shape m o → (s : Shape) → type_of_variable_or_constant o ≡ Some s → (operand_by_meaning facts x m).faults ≡ []
   holds-right x None o only a s h = absurd a
   holds-right x (Some (a_type t)) o only (u, known, holds) s h = absurd (some-none s (sym h ∙ ap type_of_variable_or_constant holds))
   holds-right x (Some (a_procedure fs)) o only (signature, holds, formals) s h = absurd (no-procedure o signature s holds h)
@@ -89,7 +89,7 @@ module _ {T : Type 0} (facts : Facts T) (shape : T → Option Shape) where
   abbrev only : Option (Object Shape Signature) → Option (Object Shape (Unit {0}))
   only o = option_map meant.a_constant (constant_of o)
 
-  only-right : (Q : Type 0) (x : ℕ) (m : Option (Meaning T)) (o : Option (Object Shape Signature)) → IsKnownAndAgrees shape m o → (s : Shape) → type_of_variable_or_constant (option_map {U = Object Shape Q} meant.a_constant (constant_of o)) ≡ Some s → (operand_by_meaning facts x m).faults ≡ []
+  only-right : (Q : Type 0) (x : ℕ) (m : Option (Meaning T)) (o : Option (Object Shape Signature)) → IsKnownAndAgreesWithObject shape m o → (s : Shape) → type_of_variable_or_constant (option_map {U = Object Shape Q} meant.a_constant (constant_of o)) ≡ Some s → (operand_by_meaning facts x m).faults ≡ []
   only-right Q x None o a s h = absurd a
   only-right Q x (Some (a_type t)) o (u, known, holds) s h = absurd (some-none s (sym h ∙ ap (λ z. type_of_variable_or_constant (option_map {U = Object Shape Q} meant.a_constant (constant_of z))) holds))
   only-right Q x (Some (a_procedure fs)) o (signature, holds, formals) s h = absurd (no-constant o signature s holds h)
@@ -105,24 +105,24 @@ module _ {T : Type 0} (facts : Facts T) (shape : T → Option Shape) where
   only-right Q x (Some (a_variable t)) o (u, known, holds) s h = absurd (some-none s (sym h ∙ ap (λ z. type_of_variable_or_constant (option_map {U = Object Shape Q} meant.a_constant (constant_of z))) holds))
 
 module _ {T N : Type 0} (facts : Facts T) (shape : T → Option Shape) (label : ℕ → N) (meaning : TypeMeanings N) where
-  name-typed : facts.only_constants ≡ false → (r : Role) (x : ℕ) → TokenAgrees facts shape label meaning r x → NameTyped facts label meaning r x
+  name-typed : facts.only_constants ≡ false → (r : Role) (x : ℕ) → TokenAgreesWithLabel facts shape label meaning r x → NameTyped facts label meaning r x
   name-typed only role.LookedUp x a = λ s h. holds-right facts shape x (facts.object_for x) (meaning.object_for (label x)) only a s h
   name-typed only role.FieldName x a = tt
   name-typed only role.Declaring x a = tt
   name-typed only role.ClosingName x a = tt
   name-typed only role.ModuleName x a = tt
 
-  pub names-typed : facts.only_constants ≡ false → (xs : List (Role × ℕ)) → TokensAgree facts shape label meaning xs → NamesTyped facts label meaning xs
+  pub names-typed : facts.only_constants ≡ false → (xs : List (Role × ℕ)) → TokensAgreeWithLabels facts shape label meaning xs → NamesTyped facts label meaning xs
   names-typed only [] a = tt
   names-typed only (x ∷ xs) a = (name-typed only x.0 x.1 a.0, names-typed only xs a.1)
 
-  constant-typed : (Q : Type 0) (r : Role) (x : ℕ) → TokenAgrees facts shape label meaning r x → NameTyped {P = Q} facts label (constant_meanings meaning) r x
+  constant-typed : (Q : Type 0) (r : Role) (x : ℕ) → TokenAgreesWithLabel facts shape label meaning r x → NameTyped {P = Q} facts label (constant_meanings meaning) r x
   constant-typed Q role.LookedUp x a = λ s h. only-right facts shape Q x (facts.object_for x) (meaning.object_for (label x)) a s h
   constant-typed Q role.FieldName x a = tt
   constant-typed Q role.Declaring x a = tt
   constant-typed Q role.ClosingName x a = tt
   constant-typed Q role.ModuleName x a = tt
 
-  pub constants-typed : (Q : Type 0) (xs : List (Role × ℕ)) → TokensAgree facts shape label meaning xs → NamesTyped {P = Q} facts label (constant_meanings meaning) xs
+  pub constants-typed : (Q : Type 0) (xs : List (Role × ℕ)) → TokensAgreeWithLabels facts shape label meaning xs → NamesTyped {P = Q} facts label (constant_meanings meaning) xs
   constants-typed Q [] a = tt
   constants-typed Q (x ∷ xs) a = (constant-typed Q x.0 x.1 a.0, constants-typed Q xs a.1)

@@ -15,9 +15,9 @@ use Rattle.ob0_tree.specs.declared.tree.Sign.TheVariants as sign
 use Rattle.ob0_tree.specs.Places.{token_text_at}
 use Rattle.ob0_language_types.specs.Typing.{addition_type, negation_type, element_type, field_type, multiplication_type, relation_type, shape_of_field, sign_type}
 use Rattle.ob0_language_values.specs.Values.{Shape, array_shape, boolean_shape, integer_shape, record_shape}
-use Rattle.ob0_types_check.specs.Known.{Facts, Form, Operand, Reported, Types, a_record, a_scalar, an_array, unknown_form}
-use Rattle.ob0_types_check.specs.Operations.{add_operands, required_type, required_type_of_both, fault_at_operand, complement_operand, element_type_in_form, element_operand, field_type_in_form, field_operand, may_be_same_type, field_type_or_fault, multiply_operands, relate_operands, sign_operand, operand_type_of_addition, operand_type_of_equality, operand_type_of_multiplication, operand_type_of_relation}
-use Rattle.ob0_types_check.specs.Agreement.{FormAgrees, TypesAgree, as_array, as_record}
+use Rattle.ob0_types_check.specs.Known.{Facts, TypeForm, Operand, Reported, Types, a_record, a_scalar, an_array, unknown_form}
+use Rattle.ob0_types_check.specs.Operations.{add_operands, required_type, required_type_of_both, fault_at_operand, negated_operand, element_type_in_form, element_operand, field_type_in_form, field_operand, may_be_same_type, field_type_or_fault, multiply_operands, relate_operands, signed_operand, operand_type_of_addition, operand_type_of_equality, operand_type_of_multiplication, operand_type_of_relation}
+use Rattle.ob0_types_check.specs.Agreement.{FormAgreesWithShape, TypesAgreeWithShapes, as_array, as_record}
 use Rattle.ob0_types_check.proofs.Unreported.{not-true, some-none}
 
 -- If two lists of faults are empty, the joined list is.
@@ -35,7 +35,7 @@ pub record TypesApart {T : Type 0} (types : Types T) (shape : T → Option Shape
   pub boolean : (t : T) → shape t ≡ Some boolean_shape → types.same t types.boolean ≡ true
   pub scalar : (t : T) (s : Shape) → shape t ≡ Some s → types.form t ≡ a_scalar → (as_array s ≡ None) × (as_record s ≡ None)
 
-module _ {T : Type 0} (facts : Facts T) (shape : T → Option Shape) (types : TypesAgree facts.types shape) (apart : TypesApart facts.types shape) where
+module _ {T : Type 0} (facts : Facts T) (shape : T → Option Shape) (types : TypesAgreeWithShapes facts.types shape) (apart : TypesApart facts.types shape) where
   same-fits : (t u : T) → facts.types.same t u ≡ true → may_be_same_type facts.types t u ≡ true
   same-fits t u e = ap (λ b. b || (facts.types.same t facts.types.unknown || facts.types.same u facts.types.unknown)) e
 
@@ -124,18 +124,18 @@ module _ {T : Type 0} (facts : Facts T) (shape : T → Option Shape) (types : Ty
   sign-required_type sign.Minus integer_shape w e = refl
   sign-required_type _ _ w e = absurd (cc)
 
-  pub apply_sign-right : (g : Option Sign) (o : Operand T) (s w : Shape) → sign_type g s ≡ Some w → shape o.of ≡ Some s → (sign_operand facts g o).faults ≡ []
+  pub apply_sign-right : (g : Option Sign) (o : Operand T) (s w : Shape) → sign_type g s ≡ Some w → shape o.of ≡ Some s → (signed_operand facts g o).faults ≡ []
   apply_sign-right None o s w e h = refl
   apply_sign-right (Some g) o s w e h =
       none-of-both (required_type facts facts.types.integer o).faults [] (required_type-right facts.types.integer o (apart.integer o.of (h ∙ ap Some (sign-required_type g s w e)))) refl
 
-  complement-required_type : (s w : Shape) → negation_type s ≡ Some w → s ≡ boolean_shape
-  complement-required_type boolean_shape w e = refl
-  complement-required_type _ w e = absurd (cc)
+  value_of_negation-required_type : (s w : Shape) → negation_type s ≡ Some w → s ≡ boolean_shape
+  value_of_negation-required_type boolean_shape w e = refl
+  value_of_negation-required_type _ w e = absurd (cc)
 
-  pub complemented-right : (o : Operand T) (s w : Shape) → negation_type s ≡ Some w → shape o.of ≡ Some s → (complement_operand facts o).faults ≡ []
+  pub complemented-right : (o : Operand T) (s w : Shape) → negation_type s ≡ Some w → shape o.of ≡ Some s → (negated_operand facts o).faults ≡ []
   complemented-right o s w e h =
-      none-of-both (required_type facts facts.types.boolean o).faults [] (required_type-right facts.types.boolean o (apart.boolean o.of (h ∙ ap Some (complement-required_type s w e)))) refl
+      none-of-both (required_type facts facts.types.boolean o).faults [] (required_type-right facts.types.boolean o (apart.boolean o.of (h ∙ ap Some (value_of_negation-required_type s w e)))) refl
 
   -- No fault is reported for a selection that has a type.
 
@@ -156,10 +156,10 @@ module _ {T : Type 0} (facts : Facts T) (shape : T → Option Shape) (types : Ty
   no-record boolean_shape e x u h = cc
   no-record (array_shape k n s) e x u h = cc
 
-  abbrev IsApart : Form T → Shape → Type 0
+  abbrev IsApart : TypeForm T → Shape → Type 0
   IsApart f s = f ≡ a_scalar → (as_array s ≡ None) × (as_record s ≡ None)
 
-  field-found : (f : Form T) (s : Shape) → FormAgrees shape f s → IsApart f s → (x : ℕ) (u : Shape) → field_type s (token_text_at facts.source x) ≡ Some u → (field_type_in_form facts x f).faults ≡ []
+  field-found : (f : TypeForm T) (s : Shape) → FormAgreesWithShape shape f s → IsApart f s → (x : ℕ) (u : Shape) → field_type s (token_text_at facts.source x) ≡ Some u → (field_type_in_form facts x f).faults ≡ []
   field-found a_scalar s a far x u h = absurd (no-record s (far refl).1 (token_text_at facts.source x) u h)
   field-found (an_array t) s (k, n, v, e, known) far x u h = absurd (some-none u (sym h ∙ ap (λ z. field_type z (token_text_at facts.source x)) e))
   field-found (a_record fields) s (k, fs, e, each) far x u h =
@@ -171,7 +171,7 @@ module _ {T : Type 0} (facts : Facts T) (shape : T → Option Shape) (types : Ty
   field-right o s hs x u h =
       none-of-both (field_type_in_form facts x (facts.types.form o.of)).faults [] (field-found (facts.types.form o.of) s (types.form_agrees o.of s hs) (apart.scalar o.of s hs) x u h) refl
 
-  element-found : (f : Form T) (s t : Shape) → FormAgrees shape f s → IsApart f s → (i : Operand T) (n : T) (u : Shape) → element_type s t ≡ Some u → (element_type_in_form facts i n f).faults ≡ []
+  element-found : (f : TypeForm T) (s t : Shape) → FormAgreesWithShape shape f s → IsApart f s → (i : Operand T) (n : T) (u : Shape) → element_type s t ≡ Some u → (element_type_in_form facts i n f).faults ≡ []
   element-found a_scalar s t a far i n u h = absurd (no-array s (far refl).0 t u h)
   element-found (an_array e) s t a far i n u h = refl
   element-found (a_record fields) s t (k, fs, e, each) far i n u h = absurd (some-none u (sym h ∙ ap (λ z. element_type z t) e))

@@ -9,21 +9,21 @@ use Rattle.ob0_tree.specs.declared.tree.Role.{Role}
 use Rattle.ob0_tree.specs.declared.tree.Role.TheVariants as role
 use Rattle.ob0_tree.specs.Places.{token_value_at}
 use Rattle.ob0_tree.specs.Tree.{Sort, Tree, adds, arguments, assigns, branches, calls, compares, designator, else_branch, else_part, elsif_branch, elsif_part, empty, end, expression, further_statement, identifiers, integer, items, mapped_tree, maybe, more, multiplies, negation, none, one, parenthesised, product, relates, repeat_loop, runs, selector, sequence, statement, sum, then_statement, while_loop}
-use Rattle.ob0_language_types.specs.Arguments.{arguments_listed}
+use Rattle.ob0_language_types.specs.Arguments.{call_arguments}
 use Rattle.ob0_language_types.specs.Expressions as meant
 use Rattle.ob0_language_types.specs.Expressions.{Object}
 use Rattle.ob0_language_types.specs.Typing.{lone_designator, type_of_variable_or_constant, type_after_selectors, type_of, type_of_factor}
 use Rattle.ob0_language_types.specs.WellTyped.{FormalParameter, Signature, TypeMeanings, same_known_shape, argument_matches, arguments_match, by_place, by_value, call_is_well_typed, condition_is_boolean, else_is_well_typed, elsifs_are_well_typed, sequence_is_well_typed, signature_of, statement_is_well_typed, further_statements_are_well_typed, variable_type}
 use Rattle.ob0_language_types.proofs.Conditions.{same_known_shape-true}
 use Rattle.ob0_language_values.specs.Values.{Shape, array_shape, boolean_shape, integer_shape, record_shape}
-use Rattle.ob0_types_check.specs.ExpressionFaults.{reported_expression}
+use Rattle.ob0_types_check.specs.ExpressionFaults.{report_on_expression}
 use Rattle.ob0_types_check.specs.Known.{Facts, Meaning, Operand, a_constant, a_procedure, a_type, a_variable}
 use Rattle.ob0_types_check.specs.Known as known
 use Rattle.ob0_types_check.specs.Operations.{typed_name_operand, fault_at_operand, fault_at_token, name_operand, operand_by_meaning, required_type, without_fault}
 use Rattle.ob0_types_check.specs.KnownDeclarations.{CompositeType, facts_at, types_so_far}
-use Rattle.ob0_types_check.specs.StatementFaults.{call_faults_by_meaning, required_type_of_argument, faults_of_argument, argument_faults, typed_expression_faults, assignment_faults, call_faults, condition_faults, else_faults, elsif_faults, sequence_faults, statement_faults, further_statement_faults, reported_target}
-use Rattle.ob0_types_check.specs.Agreement.{FormalsAgree, IsKnownAndAgrees, TokensAgree, TypesAgree, as_array, as_record, shape_in}
-use Rattle.ob0_types_check.specs.WellTypedLaws.{HaveDistinctOrdinals, ordinal_of_shape, TypedStatementsHaveNoFault}
+use Rattle.ob0_types_check.specs.StatementFaults.{call_faults_by_meaning, required_type_of_argument, faults_of_argument, faults_of_arguments, typed_expression_faults, assignment_faults, call_faults, condition_faults, else_faults, elsif_faults, sequence_faults, statement_faults, further_statement_faults, report_on_target}
+use Rattle.ob0_types_check.specs.Agreement.{FormalsAgreeWithSignature, IsKnownAndAgreesWithObject, TokensAgreeWithLabels, TypesAgreeWithShapes, as_array, as_record, shape_of_type_in}
+use Rattle.ob0_types_check.specs.WellTypedLaws.{HaveDistinctOrdinals, ordinal_of_shape, WellTypedStatementsHaveNoFault}
 use Rattle.ob0_types_check.proofs.FittingExpressions.{parts-placed}
 use Rattle.ob0_types_check.proofs.FittingStatements.{EachAgreed, arguments-agreed, arguments-mapped_tree, split}
 use Rattle.ob0_types_check.proofs.TypedNames.{types-apart}
@@ -31,7 +31,7 @@ use Rattle.ob0_types_check.proofs.TypedOperands.{TypesApart, and-then, required_
 use Rattle.ob0_types_check.proofs.Unreported.{goes-on, some-none, some-same}
 use Rattle.ob0_types_check.proofs.TypedTargets.{expression-typed, no-signature, operand-typed, target-typed, variable-of}
 
-module _ {T N : Type 0} (facts : Facts T) (shape : T → Option Shape) (types : TypesAgree facts.types shape) (apart : TypesApart facts.types shape) (alike : (t u : T) (s : Shape) → shape t ≡ Some s → shape u ≡ Some s → facts.types.same t u ≡ true) (only : facts.only_constants ≡ false) (label : ℕ → N) (meaning : TypeMeanings N) where
+module _ {T N : Type 0} (facts : Facts T) (shape : T → Option Shape) (types : TypesAgreeWithShapes facts.types shape) (apart : TypesApart facts.types shape) (alike : (t u : T) (s : Shape) → shape t ≡ Some s → shape u ≡ Some s → facts.types.same t u ≡ true) (only : facts.only_constants ≡ false) (label : ℕ → N) (meaning : TypeMeanings N) where
   abbrev here : {s : Sort} → Tree ℕ s → Tree N s
   here t = mapped_tree label (token_value_at facts.source) t
 
@@ -39,17 +39,17 @@ module _ {T N : Type 0} (facts : Facts T) (shape : T → Option Shape) (types : 
   ids t = identifiers role.Declaring t
 
   abbrev Named : {s : Sort} → Tree ℕ s → Type 0
-  Named t = TokensAgree facts shape label meaning (identifiers role.Declaring t)
+  Named t = TokensAgreeWithLabels facts shape label meaning (identifiers role.Declaring t)
 
-  apart-in : (xs ys : List (Role × ℕ)) → TokensAgree facts shape label meaning (xs ++ ys) → TokensAgree facts shape label meaning xs × TokensAgree facts shape label meaning ys
+  apart-in : (xs ys : List (Role × ℕ)) → TokensAgreeWithLabels facts shape label meaning (xs ++ ys) → TokensAgreeWithLabels facts shape label meaning xs × TokensAgreeWithLabels facts shape label meaning ys
   apart-in = split facts shape types label meaning
 
   -- No fault is reported for an expression that has the required type.
   required_type-typed : (wanted : T) (w : Shape) (e : Tree ℕ expression) → shape wanted ≡ Some w → Named e → type_of meaning (here e) ≡ Some w → typed_expression_faults facts wanted e ≡ []
   unfolding typed_expression_faults
   required_type-typed wanted w e hw k h =
-      let o : Operand T = (reported_expression facts e).known in
-      none-of-both (reported_expression facts e).faults (required_type facts wanted o).faults (expression-typed facts shape types apart only label meaning e k w h) (required_type-right facts shape types apart wanted o (alike o.of wanted w (operand-typed facts shape types apart only label meaning e k w h) hw))
+      let o : Operand T = (report_on_expression facts e).known in
+      none-of-both (report_on_expression facts e).faults (required_type facts wanted o).faults (expression-typed facts shape types apart only label meaning e k w h) (required_type-right facts shape types apart wanted o (alike o.of wanted w (operand-typed facts shape types apart only label meaning e k w h) hw))
 
   condition-right : (e : Tree ℕ expression) → Named e → condition_is_boolean meaning (here e) ≡ true → condition_faults facts e ≡ []
   unfolding condition_is_boolean
@@ -57,13 +57,13 @@ module _ {T N : Type 0} (facts : Facts T) (shape : T → Option Shape) (types : 
       let (s, truth, typed) = same_known_shape-true (Some boolean_shape) (type_of meaning (here e)) h in
       required_type-typed facts.types.boolean boolean_shape e types.boolean k (typed ∙ sym truth)
 
-  assignment-right : (x : ℕ) (path : Tree ℕ (items selector)) (e : Tree ℕ expression) → Named (assigns x path e) → statement_is_well_typed meaning (here (assigns x path e)) ≡ true → assignment_faults facts (reported_target facts x path) e ≡ []
+  assignment-right : (x : ℕ) (path : Tree ℕ (items selector)) (e : Tree ℕ expression) → Named (assigns x path e) → statement_is_well_typed meaning (here (assigns x path e)) ≡ true → assignment_faults facts (report_on_target facts x path) e ≡ []
   unfolding statement_is_well_typed
   assignment-right x path e k h =
       let (s, left, without_fault) = same_known_shape-true (variable_type meaning (Some (label x, here path))) (type_of meaning (here e)) h in
       let rest = apart-in (ids path) (ids e) k.1 in
       let t = target-typed facts shape types apart only label meaning x path s (k.0, rest.0) left in
-      none-of-both (reported_target facts x path).faults (typed_expression_faults facts (reported_target facts x path).known.of e) t.none (required_type-typed (reported_target facts x path).known.of s e t.known rest.1 without_fault)
+      none-of-both (report_on_target facts x path).faults (typed_expression_faults facts (report_on_target facts x path).known.of e) t.none (required_type-typed (report_on_target facts x path).known.of s e t.known rest.1 without_fault)
 
   -- No fault is reported for a well-typed call.
 
@@ -71,7 +71,7 @@ module _ {T N : Type 0} (facts : Facts T) (shape : T → Option Shape) (types : 
   variable-place x t true = refl
   variable-place x t false = refl
 
-  named-place : (x : ℕ) (m : Option (Meaning T)) (o : Option (Object Shape Signature)) (v : Shape) → IsKnownAndAgrees shape m o → o ≡ Some (meant.a_variable v) → (operand_by_meaning facts x m).known.may_be_variable ≡ true
+  named-place : (x : ℕ) (m : Option (Meaning T)) (o : Option (Object Shape Signature)) (v : Shape) → IsKnownAndAgreesWithObject shape m o → o ≡ Some (meant.a_variable v) → (operand_by_meaning facts x m).known.may_be_variable ≡ true
   named-place x None o v a e = absurd a
   named-place x (Some (a_type t)) o v (s, reported, holds) e = absurd (some-none v (sym (ap type_of_variable_or_constant e) ∙ ap type_of_variable_or_constant holds))
   named-place x (Some (a_constant c)) o v (w, reported, holds, scalar) e = let same : Some (meant.a_constant w) ≡ Some (meant.a_variable v) = sym holds ∙ e in absurd (cc)
@@ -81,14 +81,14 @@ module _ {T N : Type 0} (facts : Facts T) (shape : T → Option Shape) (types : 
   -- holds if an expression has this type and its operand is a place
   pub record CanCountFrom (e : Tree ℕ expression) (s : Shape) : Type 0 where
     pub typed : type_of meaning (here e) ≡ Some s
-    pub placed : (reported_expression facts e).known.may_be_variable ≡ true
+    pub placed : (report_on_expression facts e).known.may_be_variable ≡ true
 
   no-designator : {A : Type 0} (s : Shape) → variable_type meaning None ≡ Some s → A
   unfolding variable_type
   no-designator s h = absurd (some-none s (sym h))
 
   place-known : (e : Tree ℕ expression) → Named e → (s : Shape) → variable_type meaning (lone_designator (here e)) ≡ Some s → CanCountFrom e s
-  unfolding reported_expression type_of variable_type
+  unfolding report_on_expression type_of variable_type
   place-known (compares (sum (Some g) t rest) c) k s h = no-designator s h
   place-known (compares (sum None (product (integer n) factors) rest) c) k s h = no-designator s h
   place-known (compares (sum None (product (parenthesised a) factors) rest) c) k s h = no-designator s h
@@ -105,28 +105,28 @@ module _ {T N : Type 0} (facts : Facts T) (shape : T → Option Shape) (types : 
       }
 
   required_type_of_argument-right : (b : Bool) (of : T) (g : FormalParameter) (e : Tree ℕ expression) → g.mode ≡ mode_of b → shape of ≡ Some g.shape → Named e → argument_matches meaning g (here e) ≡ true
-      → (reported_expression facts e).faults ++ (required_type_of_argument facts (record { by_place = b; of = of }) (reported_expression facts e).known).faults ≡ []
+      → (report_on_expression facts e).faults ++ (required_type_of_argument facts (record { by_place = b; of = of }) (report_on_expression facts e).known).faults ≡ []
   unfolding argument_matches
   required_type_of_argument-right true of g e mode wanted k h =
-      let o : Operand T = (reported_expression facts e).known in
+      let o : Operand T = (report_on_expression facts e).known in
       let (s, own, given) = same_known_shape-true (Some g.shape) (variable_type meaning (lone_designator (here e))) (sym (λ i. same_known_shape (Some g.shape) (elim (mode i) [ by_value ↦ type_of meaning (here e) | by_place ↦ variable_type meaning (lone_designator (here e)) ])) ∙ h) in
       let p : CanCountFrom e g.shape = place-known e k g.shape (given ∙ sym own) in
-      none-of-both (reported_expression facts e).faults _ (expression-typed facts shape types apart only label meaning e k g.shape p.typed)
+      none-of-both (report_on_expression facts e).faults _ (expression-typed facts shape types apart only label meaning e k g.shape p.typed)
       (ap (λ b. (if not b then record { known = facts.types.unknown; faults = fault_at_operand facts code.NotVariable o } else required_type facts of o).faults) p.placed
       ∙ required_type-right facts shape types apart of o (alike o.of of g.shape (operand-typed facts shape types apart only label meaning e k g.shape p.typed) wanted))
   required_type_of_argument-right false of g e mode wanted k h =
-      let o : Operand T = (reported_expression facts e).known in
+      let o : Operand T = (report_on_expression facts e).known in
       let (s, own, given) = same_known_shape-true (Some g.shape) (type_of meaning (here e)) (sym (λ i. same_known_shape (Some g.shape) (elim (mode i) [ by_value ↦ type_of meaning (here e) | by_place ↦ variable_type meaning (lone_designator (here e)) ])) ∙ h) in
       let typed : type_of meaning (here e) ≡ Some g.shape = given ∙ sym own in
-      none-of-both (reported_expression facts e).faults _ (expression-typed facts shape types apart only label meaning e k g.shape typed)
+      none-of-both (report_on_expression facts e).faults _ (expression-typed facts shape types apart only label meaning e k g.shape typed)
       (required_type-right facts shape types apart of o (alike o.of of g.shape (operand-typed facts shape types apart only label meaning e k g.shape typed) wanted))
 
   argument-right : (f : known.KnownParameter T) (g : FormalParameter) (e : Tree ℕ expression) → g.mode ≡ mode_of f.by_place → shape f.of ≡ Some g.shape → Named e → argument_matches meaning g (here e) ≡ true → faults_of_argument facts f e ≡ []
   unfolding faults_of_argument
   argument-right f g e mode wanted k h = required_type_of_argument-right f.by_place f.of g e mode wanted k h
 
-  arguments-right : (fs : List (known.KnownParameter T)) (gs : Signature) (es : List (Tree ℕ expression)) → FormalsAgree shape fs gs → EachAgreed facts shape types label meaning es → arguments_match meaning gs (map here es) ≡ true
-      → (length fs ≡ length es) × (argument_faults facts fs es ≡ [])
+  arguments-right : (fs : List (known.KnownParameter T)) (gs : Signature) (es : List (Tree ℕ expression)) → FormalsAgreeWithSignature shape fs gs → EachAgreed facts shape types label meaning es → arguments_match meaning gs (map here es) ≡ true
+      → (length fs ≡ length es) × (faults_of_arguments facts fs es ≡ [])
   unfolding arguments_match
   arguments-right [] [] [] a k h = (refl, refl)
   arguments-right [] [] (e ∷ es) a k h = absurd (true≢false (sym h))
@@ -136,13 +136,13 @@ module _ {T N : Type 0} (facts : Facts T) (shape : T → Option Shape) (types : 
   arguments-right (f ∷ fs) (g ∷ gs) (e ∷ es) a k h =
       let parts = and_parts (argument_matches meaning g (here e)) (arguments_match meaning gs (map here es)) h in
       let rest = arguments-right fs gs es a.2 k.1 parts.1 in
-      (λ i. suc (rest.0 i), none-of-both (faults_of_argument facts f e) (argument_faults facts fs es) (argument-right f g e a.0 a.1 k.0 parts.0) rest.1)
+      (λ i. suc (rest.0 i), none-of-both (faults_of_argument facts f e) (faults_of_arguments facts fs es) (argument-right f g e a.0 a.1 k.0 parts.0) rest.1)
 
   not-called : {A : Type 0} (o p : Option (Object Shape Signature)) (es : List (Tree ℕ expression)) → o ≡ p → signature_of p ≡ None → call_is_well_typed meaning (signature_of o) (map here es) ≡ true → A
   unfolding call_is_well_typed
   not-called o p es e unsigned h = absurd (true≢false (sym (sym (ap (λ s. call_is_well_typed meaning s (map here es)) (ap signature_of e ∙ unsigned)) ∙ h)))
 
-  called-right : (x : ℕ) (m : Option (Meaning T)) (o : Option (Object Shape Signature)) (es : List (Tree ℕ expression)) → IsKnownAndAgrees shape m o → EachAgreed facts shape types label meaning es → call_is_well_typed meaning (signature_of o) (map here es) ≡ true → call_faults_by_meaning facts x m es ≡ []
+  called-right : (x : ℕ) (m : Option (Meaning T)) (o : Option (Object Shape Signature)) (es : List (Tree ℕ expression)) → IsKnownAndAgreesWithObject shape m o → EachAgreed facts shape types label meaning es → call_is_well_typed meaning (signature_of o) (map here es) ≡ true → call_faults_by_meaning facts x m es ≡ []
   unfolding call_is_well_typed
   called-right x None o es a k h = absurd a
   called-right x (Some (a_type t)) o es (s, reported, holds) k h = not-called o (Some (meant.a_type s)) es holds refl h
@@ -150,12 +150,12 @@ module _ {T N : Type 0} (facts : Facts T) (shape : T → Option Shape) (types : 
   called-right x (Some (a_variable t)) o es (s, reported, holds) k h = not-called o (Some (meant.a_variable s)) es holds refl h
   called-right x (Some (a_procedure fs)) o es (signature, holds, formals) k h =
       let parts = arguments-right fs signature es formals k (sym (ap (λ s. call_is_well_typed meaning s (map here es)) holds) ∙ h) in
-      ap (λ b. if b then argument_faults facts fs es else fault_at_token facts code.ArgumentCount x) (eq-eqb (length fs) (length es) parts.0) ∙ parts.1
+      ap (λ b. if b then faults_of_arguments facts fs es else fault_at_token facts code.ArgumentCount x) (eq-eqb (length fs) (length es) parts.0) ∙ parts.1
 
-  call-right : (x : ℕ) (es : Tree ℕ (maybe arguments)) → Named (calls x es) → statement_is_well_typed meaning (here (calls x es)) ≡ true → call_faults facts x (arguments_listed es) ≡ []
+  call-right : (x : ℕ) (es : Tree ℕ (maybe arguments)) → Named (calls x es) → statement_is_well_typed meaning (here (calls x es)) ≡ true → call_faults facts x (call_arguments es) ≡ []
   unfolding statement_is_well_typed
   call-right x es k h =
-      called-right x (facts.object_for x) (meaning.object_for (label x)) (arguments_listed es) k.0 (arguments-agreed facts shape types label meaning es k.1)
+      called-right x (facts.object_for x) (meaning.object_for (label x)) (call_arguments es) k.0 (arguments-agreed facts shape types label meaning es k.1)
       (sym (ap (call_is_well_typed meaning (signature_of (meaning.object_for (label x)))) (arguments-mapped_tree facts shape types label meaning es)) ∙ h)
 
   mutual
@@ -265,7 +265,7 @@ records-once shapes once i j s p q =
     let (k, number) = record-number s left.1 in
     once i j k s s left.0 (record-at shapes j s q).0 number number
 
-pub once-alike : (made : List CompositeType) (shapes : List Shape) → HaveDistinctOrdinals shapes → (t u : TypeId) (s : Shape) → shape_in shapes t ≡ Some s → shape_in shapes u ≡ Some s → (types_so_far made).same t u ≡ true
+pub once-alike : (made : List CompositeType) (shapes : List Shape) → HaveDistinctOrdinals shapes → (t u : TypeId) (s : Shape) → shape_of_type_in shapes t ≡ Some s → shape_of_type_in shapes u ≡ Some s → (types_so_far made).same t u ≡ true
 once-alike made shapes once type.Unknown u s p q = absurd (some-none s (sym p))
 once-alike made shapes once type.Integer type.Unknown s p q = absurd (some-none s (sym q))
 once-alike made shapes once type.Integer type.Integer s p q = refl
@@ -288,6 +288,6 @@ once-alike made shapes once (type.Record i) type.Boolean s p q = (types-apart ma
 once-alike made shapes once (type.Record i) (type.Array j) s p q = no-both s (array-at shapes j s q).1 (record-at shapes i s p).1
 once-alike made shapes once (type.Record i) (type.Record j) s p q = eq-eqb i j (records-once shapes once i j s p q)
 
-pub typed_statements_have_no_fault-holds : {N : Type 0} → TypedStatementsHaveNoFault N
-typed_statements_have_no_fault-holds p shapes label meaning statements once agrees h =
-    sequence-right (facts_at p false) (shape_in shapes) agrees.types (types-apart p.made shapes) (once-alike p.made shapes once) refl label meaning statements agrees.tokens h
+pub well_typed_statements_have_no_fault-holds : {N : Type 0} → WellTypedStatementsHaveNoFault N
+well_typed_statements_have_no_fault-holds p shapes label meaning statements once agrees h =
+    sequence-right (facts_at p false) (shape_of_type_in shapes) agrees.types (types-apart p.made shapes) (once-alike p.made shapes once) refl label meaning statements agrees.tokens h

@@ -9,37 +9,37 @@ use Rattle.ob0_language_names.specs.Scopes.{Scope}
 use Rattle.ob0_types_table.specs.declared.types.TypeId.{TypeId}
 use Rattle.ob0_language_types.specs.Environments.{meanings}
 use Rattle.ob0_language_types.specs.Expressions as meant
-use Rattle.ob0_language_types.specs.Typing.{array_length, constant_value, denoted_type, denoted_group_fields, denoted_further_fields, depth, group_constructor_count, groups_constructor_count, scalars, type_of_name, prepend_fields, type_within_limits}
+use Rattle.ob0_language_types.specs.Typing.{array_length, constant_value, denoted_type, denoted_group_fields, denoted_further_fields, depth, group_constructor_count, groups_constructor_count, scalars, type_of_type_object, prepend_fields, type_within_limits}
 use Rattle.ob0_language_types.specs.WellTyped.{Signature, TypeEnvironment, TypeMeanings, signature_of}
 use Rattle.ob0_language_values.specs.Values.{FieldShapes, Shape, Value, array_shape, no_field_shape, record_shape}
-use Rattle.ob0_types_check.specs.ExpressionFaults.{reported_expression}
+use Rattle.ob0_types_check.specs.ExpressionFaults.{report_on_expression}
 use Rattle.ob0_types_check.specs.Known.{Meaning, Operand, Reported, a_constant, a_procedure, a_type, a_variable}
 use Rattle.ob0_types_check.specs.Operations.{without_fault}
-use Rattle.ob0_types_check.specs.KnownDeclarations.{PartTypes, Size, KnownDeclarations, facts_at, is_within_limits, append_composite, make_type, of_elements, size_of_type_so_far, reported_too_large_type}
+use Rattle.ob0_types_check.specs.KnownDeclarations.{PartTypes, Size, KnownDeclarations, facts_at, is_within_limits, append_composite, make_type, of_elements, size_of_type_so_far, report_on_too_large_type}
 use Rattle.ob0_types_check.specs.KnownDeclarations as so_far
-use Rattle.ob0_types_check.specs.TypeFaults.{length_of, type_by_meaning}
-use Rattle.ob0_types_check.specs.WrittenTypeFaults.{KnownFields, made_array_type, array_size, no_known_fields, made_record_type, record_size, record_keyword, reported_fields, reported_groups, next_type_ordinal, reported_type, token_before_group}
-use Rattle.ob0_types_check.specs.Agreement.{IsKnownAndAgrees, shape_in}
-use Rattle.ob0_types_check.specs.WellTypedLaws.{ValuedConstantsHaveNoFault, ValidLengthsHaveNoFault, TypedStatementsHaveNoFault}
+use Rattle.ob0_types_check.specs.TypeFaults.{length_by_operand, type_by_meaning}
+use Rattle.ob0_types_check.specs.WrittenTypeFaults.{KnownFields, made_array_type, array_size, no_known_fields, made_record_type, record_size, record_keyword_token, report_on_field_group, report_on_further_field_groups, next_type_ordinal, report_on_written_type, token_before_group}
+use Rattle.ob0_types_check.specs.Agreement.{IsKnownAndAgreesWithObject, shape_of_type_in}
+use Rattle.ob0_types_check.specs.WellTypedLaws.{ConstantsWithValuesHaveNoFault, ValidLengthsHaveNoFault, WellTypedStatementsHaveNoFault}
 use Rattle.ob0_types_check.proofs.DeclaredNames.{AreSeen, IsSeen, Numbering, each_part}
 use Rattle.ob0_types_check.proofs.DeclaredShapes.{GatheredAgrees, SizeAgrees, array_sized, followed, record_sized, size_agrees}
 use Rattle.ob0_types_check.proofs.DeclaredKnown.{IsKnownAt, agrees_where_seen, seen_holds, holds_later}
 use Rattle.ob0_types_check.proofs.DeclaredTypes.{array_given, both_gather, group_gathers, grouped, groups_gather, nothing_agrees, of_limits, type_denotes}
 use Rattle.ob0_types_check.proofs.PartsFitting.{PartsFit}
-use Rattle.ob0_types_check.proofs.TypedConstants.{valued_constants_have_no_fault-holds, valid_lengths_have_no_fault-holds}
+use Rattle.ob0_types_check.proofs.TypedConstants.{constants_with_values_have_no_fault-holds, valid_lengths_have_no_fault-holds}
 use Rattle.ob0_types_check.proofs.TypedOperands.{and-then, none-of-both}
-use Rattle.ob0_types_check.proofs.TypedStatements.{typed_statements_have_no_fault-holds}
+use Rattle.ob0_types_check.proofs.TypedStatements.{well_typed_statements_have_no_fault-holds}
 use Rattle.ob0_types_check.proofs.Unreported.{some-none, none-reported}
 
 -- The laws about expressions and statements that the proofs about declarations use: no fault is reported for them if
 -- they are well-typed.
 pub record PartsRight : Type 0 where
-  pub constants : ValuedConstantsHaveNoFault Name
+  pub constants : ConstantsWithValuesHaveNoFault Name
   pub lengths : ValidLengthsHaveNoFault Name
-  pub statements : TypedStatementsHaveNoFault Name
+  pub statements : WellTypedStatementsHaveNoFault Name
 
 pub parts_right : PartsRight
-parts_right = record { constants = valued_constants_have_no_fault-holds; lengths = valid_lengths_have_no_fault-holds; statements = typed_statements_have_no_fault-holds }
+parts_right = record { constants = constants_with_values_have_no_fault-holds; lengths = valid_lengths_have_no_fault-holds; statements = well_typed_statements_have_no_fault-holds }
 
 -- The result of two steps is the result of the second step, applied to the first step's value.
 pub given-again : {A B : Type 0} (next : A → Option B) (o : Option A) (a : A) (r : Option B) → o ≡ Some a → option_and_then next o ≡ r → next a ≡ r
@@ -58,9 +58,9 @@ is-within z s t h e =
     (λ i. nat_le (h.scalars_are i) 65536 && nat_le (h.depth_is i) 100) ∙ within (nat_le (scalars s) 65536 && nat_le (depth s) 100) s t e
 
 make_type-right : (p : KnownDeclarations) (word ordinal : ℕ) (parts : PartTypes) (size : Size) → is_within_limits size ≡ true → (make_type p word ordinal parts size).faults ≡ []
-make_type-right p word ordinal parts size e = ap (λ b. (if b then without_fault (append_composite p ordinal parts size) else reported_too_large_type p word).faults) e
+make_type-right p word ordinal parts size e = ap (λ b. (if b then without_fault (append_composite p ordinal parts size) else report_on_too_large_type p word).faults) e
 
-no-type : {A : Type 0} (o : Option (meant.Object Shape Signature)) (signature : Signature) (s : Shape) → signature_of o ≡ Some signature → type_of_name o ≡ Some s → A
+no-type : {A : Type 0} (o : Option (meant.Object Shape Signature)) (signature : Signature) (s : Shape) → signature_of o ≡ Some signature → type_of_type_object o ≡ Some s → A
 no-type None signature s e h = absurd (some-none s (sym h))
 no-type (Some (meant.a_type t)) signature s e h = absurd (some-none signature (sym e))
 no-type (Some (meant.a_constant v)) signature s e h = absurd (some-none s (sym h))
@@ -69,11 +69,11 @@ no-type (Some (meant.a_procedure p)) signature s e h = absurd (some-none s (sym 
 no-type (Some (meant.a_standard p)) signature s e h = absurd (some-none s (sym h))
 
 -- No fault is reported for a name that denotes a type.
-meant-right : (p : KnownDeclarations) (before : List Shape) (x : ℕ) (m : Option (Meaning TypeId)) (o : Option (meant.Object Shape Signature)) → IsKnownAndAgrees (shape_in before) m o → (s : Shape) → type_of_name o ≡ Some s → (type_by_meaning (facts_at p false) x m).faults ≡ []
+meant-right : (p : KnownDeclarations) (before : List Shape) (x : ℕ) (m : Option (Meaning TypeId)) (o : Option (meant.Object Shape Signature)) → IsKnownAndAgreesWithObject (shape_of_type_in before) m o → (s : Shape) → type_of_type_object o ≡ Some s → (type_by_meaning (facts_at p false) x m).faults ≡ []
 meant-right p before x None o a s h = refl
 meant-right p before x (Some (a_type t)) o a s h = refl
-meant-right p before x (Some (a_constant c)) o (v, reported, holds, scalar) s h = absurd (some-none s (sym h ∙ ap type_of_name holds))
-meant-right p before x (Some (a_variable t)) o (u, reported, holds) s h = absurd (some-none s (sym h ∙ ap type_of_name holds))
+meant-right p before x (Some (a_constant c)) o (v, reported, holds, scalar) s h = absurd (some-none s (sym h ∙ ap type_of_type_object holds))
+meant-right p before x (Some (a_variable t)) o (u, reported, holds) s h = absurd (some-none s (sym h ∙ ap type_of_type_object holds))
 meant-right p before x (Some (a_procedure fs)) o (signature, holds, formals) s h = no-type o signature s holds h
 
 -- No fault is reported for an array with a known length that isn't too large.
@@ -85,9 +85,9 @@ module _ (w : Numbering) (fit : PartsFit) (fine : PartsRight) (n : ℕ) (scope :
   here = meanings naming_by_spelling env
 
   mutual
-    unfolding reported_type denoted_type
+    unfolding report_on_written_type denoted_type
 
-    pub type_right : (around k : ℕ) (t : Tree ℕ written_type) (p : KnownDeclarations) (before : List Shape) → length before + around ≡ k → IsKnownAt w p before n scope env → AreSeen w scope t → (s : Shape) → denoted_type (meanings naming_by_spelling env) k (tree_with_names w.source t) ≡ Some s → (reported_type around p t).faults ≡ []
+    pub type_right : (around k : ℕ) (t : Tree ℕ written_type) (p : KnownDeclarations) (before : List Shape) → length before + around ≡ k → IsKnownAt w p before n scope env → AreSeen w scope t → (s : Shape) → denoted_type (meanings naming_by_spelling env) k (tree_with_names w.source t) ≡ Some s → (report_on_written_type around p t).faults ≡ []
     type_right around k (named_type x) p before at st seen s h =
         none-of-both (type_by_meaning (facts_at p false) x ((facts_at p false).object_for x)).faults []
         (meant-right p before x ((facts_at p false).object_for x) ((meanings naming_by_spelling env).object_for (token_text_at w.source x)) (seen_holds w p false before n scope env st x seen.0) s h) refl
@@ -97,15 +97,15 @@ module _ (w : Numbering) (fit : PartsFit) (fine : PartsRight) (n : ℕ) (scope :
         let value : Option Value = constant_value here (tree_with_names w.source e) in
         let (v, hv, later) = and-then (λ v. option_and_then (λ c. of_limits k c given) (array_length v)) value s h in
         let (c, hc, last) = and-then (λ c. of_limits k c given) (array_length v) s later in
-        let o : Operand TypeId = (reported_expression (facts_at p true) e).known in
-        let l : Reported (Option ℕ) = length_of (facts_at p false) o in
-        let el : Reported so_far.TypeWithState = reported_type (suc around) p u in
+        let o : Operand TypeId = (report_on_expression (facts_at p true) e).known in
+        let l : Reported (Option ℕ) = length_by_operand (facts_at p false) o in
+        let el : Reported so_far.TypeWithState = report_on_written_type (suc around) p u in
         let agrees = agrees_where_seen w p true before n scope env st fit e parts.0 in
         let there : is_some (option_and_then array_length (constant_value here (mapped_tree (token_text_at w.source) (token_value_at p.source) e))) ≡ true =
         some-there (option_and_then array_length (constant_value here (mapped_tree (token_text_at w.source) (token_value_at p.source) e))) c
         (ap (λ z. option_and_then array_length (constant_value here (mapped_tree (token_text_at w.source) (token_value_at z) e))) st.source ∙ (ap (option_and_then array_length) hv ∙ hc)) in
         let none = fine.lengths p before (token_text_at w.source) here e agrees there in
-        let a = none-reported (reported_expression (facts_at p true) e).faults l.faults none in
+        let a = none-reported (report_on_expression (facts_at p true) e).faults l.faults none in
         let long = fit.lengths p before (token_text_at w.source) here e agrees none in
         let known : value ≡ Some long.value = ap (λ z. constant_value here (mapped_tree (token_text_at w.source) (token_value_at z) e)) (sym st.source) ∙ long.given in
         let limited : of_limits k long.length given ≡ Some s = sym (array_given k value long.value long.length given known long.counted) ∙ h in
@@ -114,7 +114,7 @@ module _ (w : Numbering) (fit : PartsFit) (fine : PartsRight) (n : ℕ) (scope :
         let d = type_denotes w fit n scope env (suc around) (suc k) u p before (omega (arith, at)) st parts.1 inner in
         let size = array_sized (size_of_type_so_far el.known.following.made el.known.of) k long.length d.shape (size_agrees el.known.following.made d.after el.known.of d.shape d.later.table d.known) in
         let small = is-within (array_size long.length (size_of_type_so_far el.known.following.made el.known.of)) (array_shape k long.length d.shape) s size (given-again (λ s. type_within_limits (array_shape k long.length s)) given d.shape (Some s) d.given_is limited) in
-        none-of-both (reported_expression (facts_at p true) e).faults _ a.0
+        none-of-both (report_on_expression (facts_at p true) e).faults _ a.0
         (none-of-both l.faults _ a.1 (none-of-both el.faults (made_array_type (next_type_ordinal around p) o l.known el.known).faults inner (array-right (next_type_ordinal around p) o l.known long.length el.known long.known small)))
     type_right around k (record_type g rest) p before at st seen s h =
         let parts = each_part (IsSeen w scope) (occurrences g) (occurrences rest) seen in
@@ -124,9 +124,9 @@ module _ (w : Numbering) (fit : PartsFit) (fine : PartsRight) (n : ℕ) (scope :
         let others : Option FieldShapes = denoted_further_fields here (suc k + c) (tree_with_names w.source rest) in
         let (ys, hy, later) = and-then (λ ys. option_and_then (λ fs. type_within_limits (record_shape k fs)) (own ys)) others s h in
         let (fs, hf, last) = and-then (λ fs. type_within_limits (record_shape k fs)) (own ys) s later in
-        let word : ℕ = token_before_group g (record_keyword rest) in
-        let first : Reported KnownFields = reported_fields (suc around) (no_known_fields p) g in
-        let all : Reported KnownFields = reported_groups (suc around) first.known rest in
+        let word : ℕ = token_before_group g (record_keyword_token rest) in
+        let first : Reported KnownFields = report_on_field_group (suc around) (no_known_fields p) g in
+        let all : Reported KnownFields = report_on_further_field_groups (suc around) first.known rest in
         let none = group_right (suc around) (suc k) g (no_known_fields p) before (omega (arith, at)) st parts.0 ys fs hf in
         let one = group_gathers w fit n scope env (suc around) (suc k) g (no_known_fields p) before no_field_shape (omega (arith, at)) st parts.0 (nothing_agrees before p) none in
         let following = holds_later w n n n p first.known.following before one.gathers.after scope env (le_refl n) (le_refl n) st one.gathers.later in
@@ -137,21 +137,21 @@ module _ (w : Numbering) (fit : PartsFit) (fine : PartsRight) (n : ℕ) (scope :
         let small = is-within (record_size all.known.size) (record_shape k whole.own) s (record_sized whole.gathers.after all.known k whole.own whole.gathers.agrees) limited in
         none-of-both first.faults _ none (none-of-both all.faults (made_record_type word (next_type_ordinal around p) all.known).faults rests (make_type-right all.known.following word (next_type_ordinal around p) (so_far.of_fields all.known.fields) (record_size all.known.size) small))
 
-    group_right : (around k : ℕ) (t : Tree ℕ fields) (g : KnownFields) (before : List Shape) → length before + around ≡ k → IsKnownAt w g.following before n scope env → AreSeen w scope t → (later fs : FieldShapes) → denoted_group_fields (meanings naming_by_spelling env) k later (tree_with_names w.source t) ≡ Some fs → (reported_fields around g t).faults ≡ []
+    group_right : (around k : ℕ) (t : Tree ℕ fields) (g : KnownFields) (before : List Shape) → length before + around ≡ k → IsKnownAt w g.following before n scope env → AreSeen w scope t → (later fs : FieldShapes) → denoted_group_fields (meanings naming_by_spelling env) k later (tree_with_names w.source t) ≡ Some fs → (report_on_field_group around g t).faults ≡ []
     group_right around k no_fields g before at st seen later fs h = refl
     group_right around k (some_fields ns t) g before at st seen later fs h =
         let (s, hs, last) = and-then (λ s. Some (prepend_fields (map (λ x. x) (names_in_list (tree_with_names w.source ns))) s later)) (denoted_type here k (tree_with_names w.source t)) fs h in
-        none-of-both (reported_type around g.following t).faults [] (type_right around k t g.following before at st seen s hs) refl
+        none-of-both (report_on_written_type around g.following t).faults [] (type_right around k t g.following before at st seen s hs) refl
 
     groups_right : (around k : ℕ) (t : Tree ℕ (items further_fields)) (g : KnownFields) (before : List Shape) (first : FieldShapes) → length before + around ≡ k → IsKnownAt w g.following before n scope env → AreSeen w scope t → GatheredAgrees before g first
-        → (fs : FieldShapes) → denoted_further_fields (meanings naming_by_spelling env) k (tree_with_names w.source t) ≡ Some fs → (reported_groups around g t).faults ≡ []
+        → (fs : FieldShapes) → denoted_further_fields (meanings naming_by_spelling env) k (tree_with_names w.source t) ≡ Some fs → (report_on_further_field_groups around g t).faults ≡ []
     groups_right around k end g before first at st seen agrees fs h = refl
     groups_right around k (more (then_fields f) rest) g before first at st seen agrees fs h =
         let parts = each_part (IsSeen w scope) (occurrences f) (occurrences rest) seen in
         let c : ℕ = group_constructor_count (tree_with_names w.source f) in
-        let next : Reported KnownFields = reported_fields around g f in
+        let next : Reported KnownFields = report_on_field_group around g f in
         let (ys, hy, hf) = and-then (λ ys. denoted_group_fields here k ys (tree_with_names w.source f)) (denoted_further_fields here (k + c) (tree_with_names w.source rest)) fs h in
         let none = group_right around k f g before at st parts.0 ys fs hf in
         let one = group_gathers w fit n scope env around k f g before first at st parts.0 agrees none in
         let following = holds_later w n n n g.following next.known.following before one.gathers.after scope env (le_refl n) (le_refl n) st one.gathers.later in
-        none-of-both next.faults (reported_groups around next.known rest).faults none (groups_right around (k + c) rest next.known one.gathers.after (followed first one.own) (omega (arith, at, one.gathers.apart.counted)) following parts.1 one.gathers.agrees ys hy)
+        none-of-both next.faults (report_on_further_field_groups around next.known rest).faults none (groups_right around (k + c) rest next.known one.gathers.after (followed first one.own) (omega (arith, at, one.gathers.apart.counted)) following parts.1 one.gathers.agrees ys hy)

@@ -1,6 +1,7 @@
--- The values of expressions over constants, part by part, as the operands have them. In a list of terms or factors, the
--- part before an operator is also an operand. The value of the list depends on that operand's value, an Option. So one
--- lemma for each operator connects the operand with the evaluation, without a case distinction.
+-- The values of expressions over constants, operand by operand, as the operands have them. In a
+-- list of terms or factors, everything before an operator is also an operand. The value of the list
+-- depends on that operand's value, an Option. So one lemma for each operator connects the operand
+-- with the evaluation, without a case distinction.
 use Rattle.std.proofs.Common.{◌≡◌, Bool, true, false, cond, [], ◌∷◌, Option, Some, None, option_and_then, option_map, is_some, refl, ap, ◌∙◌}
 use Rattle.ob0_tree.specs.declared.tree.AddOperator.{AddOperator}
 use Rattle.ob0_tree.specs.declared.tree.MultiplyOperator.{MultiplyOperator}
@@ -11,7 +12,7 @@ use Rattle.ob0_types_table.specs.Operators.{product_value, sum_value}
 use Rattle.ob0_language_types.specs.Expressions.{Meanings, a_constant, element_step, evaluate, evaluate_addends, evaluate_factor, evaluate_multipliers, evaluate_simple, evaluate_term, evaluate_selectors, object_value}
 use Rattle.ob0_language_types.specs.Selected.{apply_to_both}
 use Rattle.ob0_language_types.specs.Typing.{outcome_value, value_type}
-use Rattle.ob0_language_values.specs.Values.{Outcome, Place, Value, add, add_short_circuits, value_at_path, elements, ends_run_with, succeeds_with, members, multiply, multiply_short_circuits, negate, number, or_stuck, part, apply_relation, apply_sign, truth, ◌>>=◌}
+use Rattle.ob0_language_values.specs.Values.{Outcome, Place, Value, add, add_short_circuits, value_at_path, elements, ends_run_with, succeeds_with, members, multiply, multiply_short_circuits, negate, number, or_stuck, value_at_step, apply_relation, apply_sign, truth, ◌>>=◌}
 
 given_step : (o : Outcome Value) (next : Value → Outcome Value) → outcome_value (o >>= next) ≡ option_and_then (λ x. outcome_value (next x)) (outcome_value o)
 given_step (succeeds_with v) next = refl
@@ -71,26 +72,26 @@ module _ {N : Type 0} (among : Meanings N Place (Unit {0})) where
 
   -- Selecting from a constant gives no value, because a constant has no parts.
   index-none : (v : Value) (o : Outcome Value) (ts : Tree N (items selector)) → is_some (value_type v) ≡ true
-      → outcome_value ((o >>= (λ i. element_step v i >>= (λ s. or_stuck (part v s) >>= (λ w. evaluate_selectors among [] w ts >>= (λ steps. succeeds_with (s ∷ steps)))))) >>= (λ steps. or_stuck (value_at_path steps v))) ≡ None
+      → outcome_value ((o >>= (λ i. element_step v i >>= (λ s. or_stuck (value_at_step v s) >>= (λ w. evaluate_selectors among [] w ts >>= (λ steps. succeeds_with (s ∷ steps)))))) >>= (λ steps. or_stuck (value_at_path steps v))) ≡ None
   index-none v (ends_run_with e) ts h = refl
   index-none (number n) (succeeds_with i) ts h = refl
   index-none (truth b) (succeeds_with i) ts h = refl
   index-none (elements vs) (succeeds_with i) ts h = absurd (cc)
   index-none (members k ms) (succeeds_with i) ts h = absurd (cc)
 
-  part-value : (v : Value) (s : Tree N (item selector)) (ts : Tree N (items selector)) → is_some (value_type v) ≡ true
+  value_at_step-value : (v : Value) (s : Tree N (item selector)) (ts : Tree N (items selector)) → is_some (value_type v) ≡ true
       → outcome_value (evaluate_selectors among [] v (more s ts) >>= (λ steps. or_stuck (value_at_path steps v))) ≡ None
   unfolding evaluate
-  part-value (number n) (field x) ts h = refl
-  part-value (truth b) (field x) ts h = refl
-  part-value (elements vs) (field x) ts h = absurd (cc)
-  part-value (members k ms) (field x) ts h = absurd (cc)
-  part-value v (index e) ts h = index-none v (evaluate among [] e) ts h
+  value_at_step-value (number n) (field x) ts h = refl
+  value_at_step-value (truth b) (field x) ts h = refl
+  value_at_step-value (elements vs) (field x) ts h = absurd (cc)
+  value_at_step-value (members k ms) (field x) ts h = absurd (cc)
+  value_at_step-value v (index e) ts h = index-none v (evaluate among [] e) ts h
 
   parts-value : (c : Option Value) → ((v : Value) → c ≡ Some v → is_some (value_type v) ≡ true) → (s : Tree N (item selector)) (ts : Tree N (items selector))
       → outcome_value (object_value {P = Unit {0}} [] (option_map a_constant c) >>= (λ v. evaluate_selectors among [] v (more s ts) >>= (λ steps. or_stuck (value_at_path steps v)))) ≡ None
   parts-value None scalar s ts = refl
-  parts-value (Some v) scalar s ts = part-value v s ts (scalar v refl)
+  parts-value (Some v) scalar s ts = value_at_step-value v s ts (scalar v refl)
 
   pub parts-value_agrees : (x : N) (c : Option Value) (s : Tree N (item selector)) (ts : Tree N (items selector)) → among.object_for x ≡ option_map a_constant c
       → ((v : Value) → c ≡ Some v → is_some (value_type v) ≡ true) → outcome_value (evaluate_factor among [] (designator x (more s ts))) ≡ None

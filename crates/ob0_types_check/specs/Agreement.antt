@@ -1,4 +1,5 @@
--- States when the types and the meanings of names that the checker has found agree with the definitions.
+-- Defines when the types and the meanings of names that the checker has found agree with the
+-- definitions.
 -- Rule: none; used in laws about the types and meanings that the checker has found.
 use Rattle.std.specs.Prelude.{◌≡◌, ℕ, Bool, true, false, List, [], ◌∷◌, ◌++◌, Option, Some, None, option_map, option_and_then, is_some, slice_get}
 use Rattle.ob0_language_names.specs.Names.{Name}
@@ -14,58 +15,58 @@ use Rattle.ob0_language_types.specs.Typing as typing
 use Rattle.ob0_language_types.specs.Typing.{shape_of_field, value_type}
 use Rattle.ob0_language_types.specs.WellTyped.{Signature, TypeMeanings, signature_of}
 use Rattle.ob0_language_values.specs.Values.{FieldShapes, Shape, Value, array_shape, boolean_shape, integer_shape, next_field_shape, no_field_shape, record_shape}
-use Rattle.ob0_types_check.specs.Known.{Facts, Form, KnownParameter, Meaning, Types, a_constant, a_procedure, a_record, a_scalar, a_type, a_variable, an_array, unknown_form}
+use Rattle.ob0_types_check.specs.Known.{Facts, TypeForm, KnownParameter, Meaning, Types, a_constant, a_procedure, a_record, a_scalar, a_type, a_variable, an_array, unknown_form}
 use Rattle.ob0_types_check.specs.KnownDeclarations.{CompositeType, PartTypes, KnownField, of_elements, of_fields}
 
 -- States that the form of a type has the same parts as a shape. The function `shape` returns the shape of a type, or
 -- None if the type is unknown. A scalar's form agrees with every shape. The unknown form agrees with no shape.
-abbrev pub FormAgrees : {T : Type 0} → (T → Option Shape) → Form T → Shape → Type 0
-FormAgrees shape a_scalar s = Unit {0}
-FormAgrees shape (an_array t) s =
+abbrev pub FormAgreesWithShape : {T : Type 0} → (T → Option Shape) → TypeForm T → Shape → Type 0
+FormAgreesWithShape shape a_scalar s = Unit {0}
+FormAgreesWithShape shape (an_array t) s =
     (k : ℕ) × (n : ℕ) × (u : Shape) × (s ≡ array_shape k n u) × (shape t ≡ Some u)
-FormAgrees shape (a_record fields) s =
+FormAgreesWithShape shape (a_record fields) s =
     (k : ℕ)
     × (fs : FieldShapes)
     × (s ≡ record_shape k fs)
     × ((x : Name) → option_map shape (fields x) ≡ option_map Some (shape_of_field fs x))
-FormAgrees shape unknown_form s = ⊥
+FormAgreesWithShape shape unknown_form s = ⊥
 
 -- States that types agree with their shapes. Equal types have the same shape, and the form of a type has the parts of
 -- the type's shape. The unknown type has no shape.
-pub record TypesAgree {T : Type 0} (types : Types T) (shape : T → Option Shape) : Type 0 where
+pub record TypesAgreeWithShapes {T : Type 0} (types : Types T) (shape : T → Option Shape) : Type 0 where
   pub integer : shape types.integer ≡ Some integer_shape
   pub boolean : shape types.boolean ≡ Some boolean_shape
   pub unknown : shape types.unknown ≡ None
   pub integer_same : types.same types.integer types.integer ≡ true
   pub same : (s t : T) → types.same s t ≡ true → shape s ≡ shape t
-  pub form_agrees : (t : T) (s : Shape) → shape t ≡ Some s → FormAgrees shape (types.form t) s
+  pub form_agrees : (t : T) (s : Shape) → shape t ≡ Some s → FormAgreesWithShape shape (types.form t) s
 
 -- states that formal parameters agree one by one with the parameters of a signature, in mode and type
-abbrev pub FormalsAgree : {T : Type 0}
+abbrev pub FormalsAgreeWithSignature : {T : Type 0}
     → (T → Option Shape)
     → List (KnownParameter T)
     → Signature
     → Type 0
-FormalsAgree shape [] [] = Unit {0}
-FormalsAgree shape [] (g ∷ gs) = ⊥
-FormalsAgree shape (f ∷ fs) [] = ⊥
-FormalsAgree shape (f ∷ fs) (g ∷ gs) =
-    (g.mode ≡ mode_of f.by_place) × (shape f.of ≡ Some g.shape) × FormalsAgree shape fs gs
+FormalsAgreeWithSignature shape [] [] = Unit {0}
+FormalsAgreeWithSignature shape [] (g ∷ gs) = ⊥
+FormalsAgreeWithSignature shape (f ∷ fs) [] = ⊥
+FormalsAgreeWithSignature shape (f ∷ fs) (g ∷ gs) =
+    (g.mode ≡ mode_of f.by_place) × (shape f.of ≡ Some g.shape) × FormalsAgreeWithSignature shape fs gs
 
 -- States that the meaning of a name agrees with the object to which the name refers. A type or variable has the
 -- object's shape. A constant has the object's value, which is a scalar. A procedure has the object's parameters.
-abbrev pub MeaningAgrees : {T : Type 0}
+abbrev pub MeaningAgreesWithObject : {T : Type 0}
     → (T → Option Shape)
     → Meaning T
     → Option (meant.Object Shape Signature)
     → Type 0
-MeaningAgrees shape (a_type t) o = (s : Shape) × (shape t ≡ Some s) × (o ≡ Some (meant.a_type s))
-MeaningAgrees shape (a_constant c) o =
+MeaningAgreesWithObject shape (a_type t) o = (s : Shape) × (shape t ≡ Some s) × (o ≡ Some (meant.a_type s))
+MeaningAgreesWithObject shape (a_constant c) o =
     (v : Value) × (c ≡ Some v) × (o ≡ Some (meant.a_constant v)) × (is_some (value_type v) ≡ true)
-MeaningAgrees shape (a_variable t) o =
+MeaningAgreesWithObject shape (a_variable t) o =
     (s : Shape) × (shape t ≡ Some s) × (o ≡ Some (meant.a_variable s))
-MeaningAgrees shape (a_procedure fs) o =
-    (signature : Signature) × (signature_of o ≡ Some signature) × FormalsAgree shape fs signature
+MeaningAgreesWithObject shape (a_procedure fs) o =
+    (signature : Signature) × (signature_of o ≡ Some signature) × FormalsAgreeWithSignature shape fs signature
 
 -- returns whether an object is a predeclared procedure; false for None
 abbrev pub is_standard_procedure : Option (meant.Object Shape Signature) → Bool
@@ -77,27 +78,27 @@ is_standard_procedure (Some (meant.a_procedure signature)) = false
 is_standard_procedure (Some (meant.a_standard p)) = true
 
 -- states that the meaning of a declaration agrees with its object, or that both are None
-abbrev pub DeclarationAgrees : (TypeId → Option Shape)
+abbrev pub DeclarationAgreesWithObject : (TypeId → Option Shape)
     → Option (Meaning TypeId)
     → Option (meant.Object Shape Signature)
     → Type 0
-DeclarationAgrees shape None o = o ≡ None
-DeclarationAgrees shape (Some m) o = MeaningAgrees shape m o
+DeclarationAgreesWithObject shape None o = o ≡ None
+DeclarationAgreesWithObject shape (Some m) o = MeaningAgreesWithObject shape m o
 
 -- states that a name has a meaning, and that this meaning agrees with the object
-abbrev pub IsKnownAndAgrees : {T : Type 0}
+abbrev pub IsKnownAndAgreesWithObject : {T : Type 0}
     → (T → Option Shape)
     → Option (Meaning T)
     → Option (meant.Object Shape Signature)
     → Type 0
-IsKnownAndAgrees shape None o = ⊥
-IsKnownAndAgrees shape (Some m) o = MeaningAgrees shape m o
+IsKnownAndAgreesWithObject shape None o = ⊥
+IsKnownAndAgreesWithObject shape (Some m) o = MeaningAgreesWithObject shape m o
 
 -- States that the meaning that `facts` has for the identifier at a token agrees with the identifier's label, which
 -- `label` returns. The label replaces the identifier in another tree. A looked-up name must have a meaning that agrees
 -- with the label's object. A field's label must be spelled like the token. An identifier with any other role always
 -- agrees.
-abbrev pub TokenAgrees : {T N : Type 0}
+abbrev pub TokenAgreesWithLabel : {T N : Type 0}
     → Facts T
     → (T → Option Shape)
     → (ℕ → N)
@@ -105,33 +106,33 @@ abbrev pub TokenAgrees : {T N : Type 0}
     → Role
     → ℕ
     → Type 0
-TokenAgrees facts shape label meaning role.LookedUp x =
-    IsKnownAndAgrees shape (facts.object_for x) (meaning.object_for (label x))
-TokenAgrees facts shape label meaning role.FieldName x =
+TokenAgreesWithLabel facts shape label meaning role.LookedUp x =
+    IsKnownAndAgreesWithObject shape (facts.object_for x) (meaning.object_for (label x))
+TokenAgreesWithLabel facts shape label meaning role.FieldName x =
     meaning.written (label x) ≡ token_text_at facts.source x
-TokenAgrees facts shape label meaning role.Declaring x = Unit {0}
-TokenAgrees facts shape label meaning role.ClosingName x = Unit {0}
-TokenAgrees facts shape label meaning role.ModuleName x = Unit {0}
+TokenAgreesWithLabel facts shape label meaning role.Declaring x = Unit {0}
+TokenAgreesWithLabel facts shape label meaning role.ClosingName x = Unit {0}
+TokenAgreesWithLabel facts shape label meaning role.ModuleName x = Unit {0}
 
--- states that each identifier in the list agrees with its label (`TokenAgrees`)
-abbrev pub TokensAgree : {T N : Type 0}
+-- states that each identifier in the list agrees with its label (`TokenAgreesWithLabel`)
+abbrev pub TokensAgreeWithLabels : {T N : Type 0}
     → Facts T
     → (T → Option Shape)
     → (ℕ → N)
     → TypeMeanings N
     → List (Role × ℕ)
     → Type 0
-TokensAgree facts shape label meaning [] = Unit {0}
-TokensAgree facts shape label meaning (x ∷ xs) =
-    TokenAgrees facts shape label meaning x.0 x.1 × TokensAgree facts shape label meaning xs
+TokensAgreeWithLabels facts shape label meaning [] = Unit {0}
+TokensAgreeWithLabels facts shape label meaning (x ∷ xs) =
+    TokenAgreesWithLabel facts shape label meaning x.0 x.1 × TokensAgreeWithLabels facts shape label meaning xs
 
 -- states that the types in `facts` agree with their shapes, and that the meaning that `facts` has for each identifier
--- in the tree `t` agrees with the identifier's label (`TokensAgree`)
+-- in the tree `t` agrees with the identifier's label (`TokensAgreeWithLabels`)
 pub record TypesAndMeaningsAgree
     {T N : Type 0} (facts : Facts T) (shape : T → Option Shape) (label : ℕ → N) (meaning : TypeMeanings N)
     {s : Sort} (t : Tree ℕ s) : Type 0 where
-  pub types : TypesAgree facts.types shape
-  pub tokens : TokensAgree facts shape label meaning (identifiers role.Declaring t)
+  pub types : TypesAgreeWithShapes facts.types shape
+  pub tokens : TokensAgreeWithLabels facts shape label meaning (identifiers role.Declaring t)
 
 -- returns the shape if it is an array's, otherwise None
 abbrev pub as_array : Shape → Option Shape
@@ -149,44 +150,44 @@ as_record (record_shape k fs) = Some (record_shape k fs)
 
 -- Returns the shape of a type. `shapes` has the shapes of the array and record types found so far, in order. Returns
 -- None for the unknown type, and if `shapes` has no array or record at the type's index.
-abbrev pub shape_in : List Shape → TypeId → Option Shape
-shape_in shapes type.Integer = Some integer_shape
-shape_in shapes type.Boolean = Some boolean_shape
-shape_in shapes (type.Array i) = option_and_then as_array (slice_get shapes i)
-shape_in shapes (type.Record i) = option_and_then as_record (slice_get shapes i)
-shape_in shapes type.Unknown = None
+abbrev pub shape_of_type_in : List Shape → TypeId → Option Shape
+shape_of_type_in shapes type.Integer = Some integer_shape
+shape_of_type_in shapes type.Boolean = Some boolean_shape
+shape_of_type_in shapes (type.Array i) = option_and_then as_array (slice_get shapes i)
+shape_of_type_in shapes (type.Record i) = option_and_then as_record (slice_get shapes i)
+shape_of_type_in shapes type.Unknown = None
 
 -- states that the fields in the list have, one by one, the names and shapes of a record's fields
-abbrev pub FieldsAgree : (TypeId → Option Shape) → List KnownField → FieldShapes → Type 0
-FieldsAgree shape [] no_field_shape = Unit {0}
-FieldsAgree shape [] (next_field_shape x s fs) = ⊥
-FieldsAgree shape (f ∷ fields) no_field_shape = ⊥
-FieldsAgree shape (f ∷ fields) (next_field_shape x s fs) =
-    (f.name ≡ x) × (shape f.of ≡ Some s) × FieldsAgree shape fields fs
+abbrev pub FieldsAgreeWithShapes : (TypeId → Option Shape) → List KnownField → FieldShapes → Type 0
+FieldsAgreeWithShapes shape [] no_field_shape = Unit {0}
+FieldsAgreeWithShapes shape [] (next_field_shape x s fs) = ⊥
+FieldsAgreeWithShapes shape (f ∷ fields) no_field_shape = ⊥
+FieldsAgreeWithShapes shape (f ∷ fields) (next_field_shape x s fs) =
+    (f.name ≡ x) × (shape f.of ≡ Some s) × FieldsAgreeWithShapes shape fields fs
 
 -- States that the parts of an array or record type agree with its shape. `k` is the ordinal of the type's word ARRAY or
 -- RECORD: the number of such words before this one in the text.
-abbrev pub PartsAgree : (TypeId → Option Shape) → ℕ → PartTypes → Shape → Type 0
-PartsAgree shape k (of_elements n t) s = (u : Shape) × (s ≡ array_shape k n u) × (shape t ≡ Some u)
-PartsAgree shape k (of_fields fields) s =
-    (fs : FieldShapes) × (s ≡ record_shape k fs) × FieldsAgree shape fields fs
+abbrev pub PartsAgreeWithShape : (TypeId → Option Shape) → ℕ → PartTypes → Shape → Type 0
+PartsAgreeWithShape shape k (of_elements n t) s = (u : Shape) × (s ≡ array_shape k n u) × (shape t ≡ Some u)
+PartsAgreeWithShape shape k (of_fields fields) s =
+    (fs : FieldShapes) × (s ≡ record_shape k fs) × FieldsAgreeWithShapes shape fields fs
 
 -- states that an array or record type has the parts, the number of scalars and the depth of its shape
-pub record CompositeAgrees (shape : TypeId → Option Shape) (m : CompositeType) (s : Shape) : Type 0 where
-  pub parts : PartsAgree shape m.ordinal m.parts s
+pub record CompositeAgreesWithShape (shape : TypeId → Option Shape) (m : CompositeType) (s : Shape) : Type 0 where
+  pub parts : PartsAgreeWithShape shape m.ordinal m.parts s
   pub scalars : m.size.scalars ≡ typing.scalars s
   pub depth : m.size.depth ≡ typing.depth s
 
 -- States that each array or record type in the second list agrees with the shape at the same index of the third list.
 -- The first list (`known`) has the shapes of the types that precede the second list in the table. The parts of a type
 -- may only refer to earlier types.
-abbrev pub EntriesAgree : List Shape → List CompositeType → List Shape → Type 0
-EntriesAgree known [] [] = Unit {0}
-EntriesAgree known [] (s ∷ ss) = ⊥
-EntriesAgree known (m ∷ ms) [] = ⊥
-EntriesAgree known (m ∷ ms) (s ∷ ss) =
-    CompositeAgrees (shape_in known) m s × EntriesAgree (known ++ s ∷ []) ms ss
+abbrev pub EntriesAgreeWithShapes : List Shape → List CompositeType → List Shape → Type 0
+EntriesAgreeWithShapes known [] [] = Unit {0}
+EntriesAgreeWithShapes known [] (s ∷ ss) = ⊥
+EntriesAgreeWithShapes known (m ∷ ms) [] = ⊥
+EntriesAgreeWithShapes known (m ∷ ms) (s ∷ ss) =
+    CompositeAgreesWithShape (shape_of_type_in known) m s × EntriesAgreeWithShapes (known ++ s ∷ []) ms ss
 
 -- states that each array or record type in the first list agrees with the shape at the same index of the second list
-abbrev pub TableAgrees : List CompositeType → List Shape → Type 0
-TableAgrees made shapes = EntriesAgree [] made shapes
+abbrev pub TableAgreesWithShapes : List CompositeType → List Shape → Type 0
+TableAgreesWithShapes made shapes = EntriesAgreeWithShapes [] made shapes

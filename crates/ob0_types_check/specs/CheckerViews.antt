@@ -5,7 +5,7 @@ use Rattle.std.specs.Prelude.{◌≡◌, ℕ, ◌-◌, ◌^◌, Bool, List, map,
 use Rattle.ob0_scan.specs.declared.fault.Fault.{Fault}
 use Rattle.ob0_language_names.specs.Names.{Name}
 use Rattle.ob0_scope_table.specs.Resolution.{ordinal_in}
-use Rattle.ob0_types_table.specs.FieldIndex.{first_field_type}
+use Rattle.ob0_types_table.specs.FieldIndex.{type_of_first_field_named}
 use Rattle.ob0_types_table.specs.declared.known.Field.{Field}
 use Rattle.ob0_types_table.specs.declared.known.FormalParameter as formal
 use Rattle.ob0_types_table.specs.declared.known.TypeEntry.{TypeEntry}
@@ -23,7 +23,7 @@ use Rattle.ob0_types_check.specs.declared.reporting.checker_state.Meaning.TheVar
 use Rattle.ob0_types_check.specs.declared.reporting.checker_state.Size as code_size
 use Rattle.ob0_types_check.specs.declared.reporting.checker_state.CheckerState.{CheckerState}
 use Rattle.ob0_types_check.specs.declared.reporting.written_types.KnownFields as gathering
-use Rattle.ob0_types_check.specs.Known.{Facts, Form, KnownParameter, Meaning, Operand, Reported, Types, a_constant, a_procedure, a_record, a_scalar, a_type, a_variable, an_array, unknown_form}
+use Rattle.ob0_types_check.specs.Known.{Facts, TypeForm, KnownParameter, Meaning, Operand, Reported, Types, a_constant, a_procedure, a_record, a_scalar, a_type, a_variable, an_array, unknown_form}
 use Rattle.ob0_types_check.specs.DeclarationFaults.{KnownHeading}
 use Rattle.ob0_types_check.specs.KnownDeclarations.{CompositeType, Size, KnownDeclarations, KnownField, of_elements, of_fields, same_type}
 use Rattle.ob0_types_check.specs.WrittenTypeFaults.{KnownFields}
@@ -39,10 +39,10 @@ entry_element_type (Some (made.Record r)) = type.Unknown
 abbrev pub entry_field_type : Option TypeEntry → Name → Option TypeId
 entry_field_type None x = None
 entry_field_type (Some (made.Array a)) x = None
-entry_field_type (Some (made.Record r)) x = first_field_type r.fields x
+entry_field_type (Some (made.Record r)) x = type_of_first_field_named r.fields x
 
 -- returns the form of a type, given the code's list of array and record types
-abbrev pub form_of_type_in : List TypeEntry → TypeId → Form TypeId
+abbrev pub form_of_type_in : List TypeEntry → TypeId → TypeForm TypeId
 form_of_type_in composites type.Integer = a_scalar
 form_of_type_in composites type.Boolean = a_scalar
 form_of_type_in composites (type.Array i) = an_array (entry_element_type (slice_get composites i))
@@ -50,8 +50,8 @@ form_of_type_in composites (type.Record i) = a_record (entry_field_type (slice_g
 form_of_type_in composites type.Unknown = unknown_form
 
 -- returns the representation of types (`Types`) by the code's `TypeId`, given the code's list of array and record types
-abbrev pub known_types : List TypeEntry → Types TypeId
-known_types composites =
+abbrev pub type_id_representation : List TypeEntry → Types TypeId
+type_id_representation composites =
     record {
       integer = type.Integer;
       boolean = type.Boolean;
@@ -77,12 +77,12 @@ meaning_in_state s token =
     option_and_then (λ k. slice_index_or s.meanings.items k None)
     (ordinal_in s.resolved.now.ordinals token)
 
--- returns the data with which a part of a text is checked (`Facts`), given the code's state before this part; if the
--- Bool is true, names in this part may only refer to constants
+-- returns the data with which an expression, statement or type name is checked (`Facts`), given the
+-- code's state before it; if the Bool is true, names may only refer to constants
 abbrev pub facts_in : CheckerState → Bool → Facts TypeId
 facts_in s only_constants = record {
   source = s.resolved.now.module_read.source;
-  types = known_types s.composites.items;
+  types = type_id_representation s.composites.items;
   object_for = λ token. option_map meaning_view (meaning_in_state s token);
   only_constants = only_constants;
 }
@@ -103,8 +103,8 @@ abbrev pub size_of : code_size.Size → Size
 size_of z = record { scalars = z.scalars; depth = z.depth }
 
 -- converts fields of the code to fields of the definitions
-abbrev pub fields_in : List Field → List KnownField
-fields_in fields = map (λ f. record { name = string_bytes f.name; of = f.of }) fields
+abbrev pub known_fields_of : List Field → List KnownField
+known_fields_of fields = map (λ f. record { name = string_bytes f.name; of = f.of }) fields
 
 -- converts an array or record type of the code to an array or record type of the definitions
 abbrev pub composite_type_of : TypeEntry → CompositeType
@@ -117,7 +117,7 @@ composite_type_of (made.Array a) =
 composite_type_of (made.Record r) =
     record {
       ordinal = r.ordinal;
-      parts = of_fields (fields_in r.fields);
+      parts = of_fields (known_fields_of r.fields);
       size = record { scalars = r.scalars; depth = r.depth };
     }
 
@@ -143,7 +143,7 @@ capped_size z = record { scalars = min z.scalars (2 ^ 64 - 1); depth = min z.dep
 -- in `g`, capped at 2^64 - 1. Also states that the code's state `s` is the state in `g`, which is the state after these
 -- fields.
 pub record HasKnownFields (g : KnownFields) (s : CheckerState) (now : gathering.KnownFields) : Type 0 where
-  pub fields : fields_in now.fields.items ≡ g.fields
+  pub fields : known_fields_of now.fields.items ≡ g.fields
   pub size : size_of now.size ≡ capped_size g.size
   pub following : declarations_in_state s ≡ g.following
 

@@ -1,5 +1,4 @@
--- States when two modules have the same tree and the same tokens, except in the statements of
--- certain bodies.
+-- Defines when two modules have the same tree and the same tokens, except in certain bodies.
 -- Rule: none; used in contracts about a module in which the names and numbers of some bodies changed.
 use Rattle.std.specs.Prelude.{◌≡◌, ℕ, Bool, true, false, length}
 use Rattle.ob0_tree.specs.ParsedModule.{tree_of}
@@ -52,7 +51,7 @@ pub record IsSameTokenAt (old new : Resolution) (token : ℕ) : Type 0 where
 
 -- States that two modules have the same tree and the same number of tokens, and that each token is the same in both
 -- (`IsSameTokenAt`). Tokens may differ in the statements of the blocks whose closing names pass the test `left_out`.
-pub record AreEqualExceptBodies (left_out : ℕ → Bool) (old new : Resolution) : Type 0 where
+pub record AreEqualExceptInBodies (left_out : ℕ → Bool) (old new : Resolution) : Type 0 where
   pub tree : tree_of new.module_read ≡ tree_of old.module_read
   pub count : length new.module_read.source.tokens ≡ length old.module_read.source.tokens
   pub alike : EachTokenOfModuleHasExceptInBodies (IsSameTokenAt old new) left_out (tree_of old.module_read)

@@ -9,11 +9,11 @@ use Rattle.ob0_language_values.specs.Values.{Value}
 
 -- the form of a type: a scalar, an array with its element type, a record with the type of each
 -- field by name, or unknown
-pub data Form (T : Type 0) : Type 0 where
-  a_scalar : Form T
-  an_array : T → Form T
-  a_record : (Name → Option T) → Form T
-  unknown_form : Form T
+pub data TypeForm (T : Type 0) : Type 0 where
+  a_scalar : TypeForm T
+  an_array : T → TypeForm T
+  a_record : (Name → Option T) → TypeForm T
+  unknown_form : TypeForm T
 
 -- a representation of types by values of `T`: INTEGER, BOOLEAN, the unknown type, equality of
 -- types, and the form of each type
@@ -22,7 +22,7 @@ pub record Types (T : Type 0) : Type 0 where
   pub boolean : T
   pub unknown : T
   pub same : T → T → Bool
-  pub form : T → Form T
+  pub form : T → TypeForm T
 
 -- a formal parameter: its type, and whether it is passed by reference (VAR) or by value
 pub record KnownParameter (T : Type 0) : Type 0 where
@@ -37,9 +37,9 @@ pub data Meaning (T : Type 0) : Type 0 where
   a_variable : T → Meaning T
   a_procedure : List (KnownParameter T) → Meaning T
 
--- The data with which a part of a text is checked: the text with its tokens, the types, and the meaning of the name at
--- each token (`object_for`). The meaning is None if it isn't known. If `only_constants` is true, names may only refer
--- to constants.
+-- The data with which expressions, statements and type names are checked: the text with its tokens,
+-- the types, and the meaning of the name at each token (`object_for`). The meaning is None if it
+-- isn't known. If `only_constants` is true, names may only refer to constants.
 pub record Facts (T : Type 0) : Type 0 where
   pub source : TextWithTokens
   pub types : Types T

@@ -10,7 +10,7 @@ use Rattle.ob0_language_types.specs.Typing.{max_depth, max_scalars}
 use Rattle.ob0_types_table.specs.declared.types.TypeId.{TypeId}
 use Rattle.ob0_types_table.specs.declared.types.TypeId.TheVariants as type
 use Rattle.ob0_language_values.specs.Values.{truth}
-use Rattle.ob0_types_check.specs.Known.{Facts, Form, Meaning, Reported, Types, a_constant, a_procedure, a_record, a_scalar, a_type, an_array, unknown_form}
+use Rattle.ob0_types_check.specs.Known.{Facts, TypeForm, Meaning, Reported, Types, a_constant, a_procedure, a_record, a_scalar, a_type, an_array, unknown_form}
 use Rattle.ob0_types_check.specs.Operations.{fault_at_token, without_fault}
 
 -- the size of a type: the number of INTEGER and BOOLEAN values in it (its scalars), and the depth to which its arrays
@@ -64,16 +64,17 @@ abbrev pub element_type_of_composite : Option CompositeType → TypeId
 element_type_of_composite None = type.Unknown
 element_type_of_composite (Some m) = element_type_of_parts m.parts
 
--- returns the type of the first field with this name, or None if the list has no such field
-abbrev pub type_of_first_field : List KnownField → Name → Option TypeId
-type_of_first_field [] x = None
-type_of_first_field (f ∷ fields) x = if same_name x f.name then Some f.of else type_of_first_field fields x
+-- returns the type of the first field with the name `x` in a list; None if the list has no such
+-- field
+abbrev pub type_of_field_named : List KnownField → Name → Option TypeId
+type_of_field_named [] x = None
+type_of_field_named (f ∷ fields) x = if same_name x f.name then Some f.of else type_of_field_named fields x
 
 -- returns the type of the first field with the name `x`, given the parts of a record; None if the record has no such
 -- field, and for the parts of an array
 abbrev pub field_type_of_parts : PartTypes → Name → Option TypeId
 field_type_of_parts (of_elements n t) x = None
-field_type_of_parts (of_fields fields) x = type_of_first_field fields x
+field_type_of_parts (of_fields fields) x = type_of_field_named fields x
 
 -- returns the type of the first field with this name in a record type; None if the type has no such field, for an
 -- array type, and for None
@@ -82,7 +83,7 @@ field_type_of_composite None x = None
 field_type_of_composite (Some m) x = field_type_of_parts m.parts x
 
 -- returns the form of a type, given the array and record types found so far
-abbrev pub form_of_type_so_far : List CompositeType → TypeId → Form TypeId
+abbrev pub form_of_type_so_far : List CompositeType → TypeId → TypeForm TypeId
 form_of_type_so_far made type.Integer = a_scalar
 form_of_type_so_far made type.Boolean = a_scalar
 form_of_type_so_far made (type.Array i) = an_array (element_type_of_composite (slice_get made i))
@@ -105,8 +106,8 @@ abbrev pub meaning_at : KnownDeclarations → ℕ → Option (Meaning TypeId)
 meaning_at p token =
     option_and_then (λ k. slice_index_or p.declared k None) (ordinal_in p.ordinals token)
 
--- returns the data with which a part of a text is checked (`Facts`), given the declarations known before this part; if
--- the Bool is true, names in this part may only refer to constants
+-- returns the data with which an expression, statement or type name is checked (`Facts`), given the
+-- declarations known before it; if the Bool is true, names may only refer to constants
 abbrev pub facts_at : KnownDeclarations → Bool → Facts TypeId
 facts_at p only_constants =
     record {
@@ -190,8 +191,8 @@ append_composite p ordinal parts size = record {
 
 -- reports `TypeTooLarge` at `word`, the token ARRAY or RECORD of a type; returns the unknown type, with the known
 -- declarations `p` unchanged
-abbrev pub reported_too_large_type : KnownDeclarations → ℕ → Reported TypeWithState
-reported_too_large_type p word =
+abbrev pub report_on_too_large_type : KnownDeclarations → ℕ → Reported TypeWithState
+report_on_too_large_type p word =
     record {
       known = record { of = type.Unknown; following = p };
       faults = fault_at_token (facts_at p false) code.TypeTooLarge word;
@@ -201,7 +202,7 @@ reported_too_large_type p word =
 -- at `word`, its word ARRAY or RECORD, instead
 abbrev pub make_type : KnownDeclarations → ℕ → ℕ → PartTypes → Size → Reported TypeWithState
 make_type p word ordinal parts size =
-    if is_within_limits size then without_fault (append_composite p ordinal parts size) else reported_too_large_type p word
+    if is_within_limits size then without_fault (append_composite p ordinal parts size) else report_on_too_large_type p word
 
 -- returns the meanings of the predeclared names, by ordinal: INTEGER, BOOLEAN, TRUE, FALSE, Read,
 -- Write, WriteLn

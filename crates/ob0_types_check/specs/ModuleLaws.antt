@@ -13,8 +13,8 @@ use Rattle.ob0_language_types.specs.Environments.{outermost_environment}
 use Rattle.ob0_language_types.specs.WellTyped.{passes_type_check}
 use Rattle.ob0_types_table.specs.KnownTables.{Tables, declared_object_in}
 use Rattle.ob0_language_values.specs.Values.{Shape}
-use Rattle.ob0_types_check.specs.Agreement.{DeclarationAgrees, TableAgrees, is_standard_procedure, shape_in}
-use Rattle.ob0_types_check.specs.DeclarationFaults.{reported_block, module_faults}
+use Rattle.ob0_types_check.specs.Agreement.{DeclarationAgreesWithObject, TableAgreesWithShapes, is_standard_procedure, shape_of_type_in}
+use Rattle.ob0_types_check.specs.DeclarationFaults.{report_on_block, undeclared_name_and_type_faults}
 use Rattle.ob0_types_check.specs.KnownDeclarations.{KnownDeclarations, state_at_start}
 
 -- States that a module passes the type check if no fault of types and no undeclared name is reported for it. The type
@@ -23,7 +23,7 @@ abbrev pub ModulesWithoutFaultPassTypeCheck : Type 0
 ModulesWithoutFaultPassTypeCheck =
     (r : Resolution)
     → IsResolution r
-    → module_faults r ≡ []
+    → undeclared_name_and_type_faults r ≡ []
     → passes_type_check naming_by_spelling (named_tree_of r.module_read) ≡ true
 
 -- States that the state `p`, at the end of a walk over the module `m`, agrees with the declarations of `m`. Each array
@@ -32,9 +32,9 @@ ModulesWithoutFaultPassTypeCheck =
 -- names. No other declaration is a standard procedure.
 pub record KnowsDeclarations (p : KnownDeclarations) (m : Tree Name module_text) : Type 0 where
   pub shapes : List Shape
-  pub table : TableAgrees p.made shapes
+  pub table : TableAgreesWithShapes p.made shapes
   pub declared : (k : ℕ)
-      → DeclarationAgrees (shape_in shapes) (slice_index_or p.declared k None) (declared_object m k)
+      → DeclarationAgreesWithObject (shape_of_type_in shapes) (slice_index_or p.declared k None) (declared_object m k)
   pub standards : (k : ℕ) → predeclared_count ≤ k → is_standard_procedure (declared_object m k) ≡ false
   pub predeclared : (k : ℕ) → k < predeclared_count → declared_object m k ≡ object_of_ordinal (outermost_environment naming_by_label) k
   pub room : predeclared_count ≤ length p.declared
@@ -45,10 +45,10 @@ HasDeclarations m t = (k : ℕ) → declared_object_in t k ≡ declared_object m
 
 -- States that if no fault of types and no undeclared name is reported for a module, the walk over the module has found
 -- the right meaning of each declaration (`KnowsDeclarations`).
-abbrev pub WalkWithoutFaultFindsMeanings : Type 0
-WalkWithoutFaultFindsMeanings =
+abbrev pub WalkWithoutFaultFindsCorrectMeanings : Type 0
+WalkWithoutFaultFindsCorrectMeanings =
     (r : Resolution)
     → IsResolution r
-    → module_faults r ≡ []
-    → KnowsDeclarations (reported_block (state_at_start r) (module_block (tree_of r.module_read))).known
+    → undeclared_name_and_type_faults r ≡ []
+    → KnowsDeclarations (report_on_block (state_at_start r) (module_block (tree_of r.module_read))).known
     (named_tree_of r.module_read)

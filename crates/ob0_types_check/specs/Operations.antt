@@ -19,7 +19,7 @@ use Rattle.ob0_language_types.specs.Selected.{apply_to_both}
 use Rattle.ob0_language_types.specs.Typing.{outcome_value}
 use Rattle.ob0_language_values.specs.Values.{Value, elements, members, negate, number, apply_relation, truth}
 use Rattle.ob0_language_values.specs.Values.{apply_sign as with_sign}
-use Rattle.ob0_types_check.specs.Known.{Facts, Form, Meaning, Operand, Reported, Types, a_constant, a_procedure, a_record, a_scalar, a_type, a_variable, an_array, unknown_form}
+use Rattle.ob0_types_check.specs.Known.{Facts, TypeForm, Meaning, Operand, Reported, Types, a_constant, a_procedure, a_record, a_scalar, a_type, a_variable, an_array, unknown_form}
 
 -- returns the result `t` with the faults `before` put before its own faults
 abbrev pub with_earlier_faults : {A : Type 0} → List Fault → Reported A → Reported A
@@ -69,20 +69,21 @@ fault_at_token facts c token = fault_at_tokens facts c token token
 abbrev pub fault_at_operand : {T : Type 0} → Facts T → FaultCode → Operand T → List Fault
 fault_at_operand facts c o = fault_at_tokens facts c o.first o.last
 
--- returns whether two types are equal or one of them is unknown; if not, a type is a mismatch for the other
+-- returns whether two types are equal or one of them is unknown; if not, an expression of one type
+-- is a mismatch if the other type is required
 abbrev pub may_be_same_type : {T : Type 0} → Types T → T → T → Bool
 may_be_same_type types s t = types.same s t || (types.same s types.unknown || types.same t types.unknown)
 
--- Requires the type `wanted` of an operand. A mismatch is reported if the operand's type and `wanted` are both known
--- and differ. The result is `wanted` if the operand has this type, otherwise the unknown type.
+-- Returns `wanted` if the operand has this type, otherwise the unknown type. A mismatch is reported
+-- if the operand's type and `wanted` are both known and differ.
 abbrev pub required_type : {T : Type 0} → Facts T → T → Operand T → Reported T
 required_type facts wanted o = record {
   known = if facts.types.same o.of wanted then wanted else facts.types.unknown;
   faults = if may_be_same_type facts.types o.of wanted then [] else fault_at_operand facts code.TypeMismatch o;
 }
 
--- Requires the type `wanted` of two operands. A mismatch is reported at the left operand, or at the right operand if
--- the left operand has none. The result is `wanted` if both operands have this type, otherwise the unknown type.
+-- Returns `wanted` if both operands have this type, otherwise the unknown type. A mismatch is
+-- reported at the left operand or, if the left operand has no mismatch, at the right operand.
 abbrev pub required_type_of_both : {T : Type 0} → Facts T → T → Operand T → Operand T → Reported T
 required_type_of_both facts wanted a b =
     if may_be_same_type facts.types a.of wanted
@@ -141,8 +142,8 @@ abbrev pub prefixed_operand : {T : Type 0} → T → Option Value → Operand T 
 prefixed_operand of value o =
     record { of = of; value = value; may_be_variable = false; first = token_before o.first; last = o.last }
 
--- returns the fault if the operands of `+`, `-` or OR don't have the required type, and the operand for the whole
--- expression
+-- returns the operand for the whole expression, with a fault if the operands of `+`, `-` or OR
+-- don't have the required type
 abbrev pub add_operands : {T : Type 0}
     → Facts T
     → AddOperator
@@ -153,8 +154,8 @@ add_operands facts o a b = do
   t ← required_type_of_both facts (operand_type_of_addition facts.types o) a b
   without_fault (operand_of_operation t (option_and_then (sum_value o b.value) a.value) a b)
 
--- returns the fault if the operands of `*`, DIV, MOD or `&` don't have the required type, and the operand for the whole
--- expression
+-- returns the operand for the whole expression, with a fault if the operands of `*`, DIV, MOD or
+-- `&` don't have the required type
 abbrev pub multiply_operands : {T : Type 0}
     → Facts T
     → MultiplyOperator
@@ -165,8 +166,8 @@ multiply_operands facts o a b = do
   t ← required_type_of_both facts (operand_type_of_multiplication facts.types o) a b
   without_fault (operand_of_operation t (option_and_then (product_value o b.value) a.value) a b)
 
--- returns the fault if the operands of a relation don't have the required type, and the operand for the whole
--- comparison
+-- returns the operand for the whole comparison, with a fault if the operands of the relation don't
+-- have the required type
 abbrev pub relate_operands : {T : Type 0}
     → Facts T
     → Relation
@@ -178,16 +179,18 @@ relate_operands facts r a b = do
   without_fault (operand_of_operation (comparison_type facts.types t)
       (apply_to_both (λ x y. outcome_value (apply_relation r x y)) a.value b.value) a b)
 
--- returns the operand for an optional sign and the operand after it; a sign requires INTEGER, and a mismatch is a fault
-abbrev pub sign_operand : {T : Type 0} → Facts T → Option Sign → Operand T → Reported (Operand T)
-sign_operand facts None o = without_fault o
-sign_operand facts (Some s) o = do
+-- returns the operand for an expression that consists of an optional sign and the operand `o`; a
+-- sign requires INTEGER, and a mismatch is a fault
+abbrev pub signed_operand : {T : Type 0} → Facts T → Option Sign → Operand T → Reported (Operand T)
+signed_operand facts None o = without_fault o
+signed_operand facts (Some s) o = do
   t ← required_type facts facts.types.integer o
   without_fault (prefixed_operand t (option_and_then (λ x. outcome_value (with_sign (Some s) x)) o.value) o)
 
--- returns the operand for `~` and the operand after it, with a fault if the operand has a known type other than BOOLEAN
-abbrev pub complement_operand : {T : Type 0} → Facts T → Operand T → Reported (Operand T)
-complement_operand facts o = do
+-- returns the operand for the negation `~` of the operand `o`, with a fault if `o` has a known type
+-- other than BOOLEAN
+abbrev pub negated_operand : {T : Type 0} → Facts T → Operand T → Reported (Operand T)
+negated_operand facts o = do
   t ← required_type facts facts.types.boolean o
   without_fault (prefixed_operand t (option_and_then (λ x. outcome_value (negate x)) o.value) o)
 
@@ -271,7 +274,7 @@ field_type_or_fault facts token (Some t) = without_fault t
 -- Returns the type of the field with the name at a token, given the form of the type before the `.`. `NotRecord` is
 -- reported at the `.` if that type is known and isn't a record, and `NoField` at the name if the record has no such
 -- field. In both cases, and if the type before the `.` is unknown, the result is the unknown type.
-abbrev pub field_type_in_form : {T : Type 0} → Facts T → ℕ → Form T → Reported T
+abbrev pub field_type_in_form : {T : Type 0} → Facts T → ℕ → TypeForm T → Reported T
 field_type_in_form facts token (a_record fields) =
     field_type_or_fault facts token (fields (token_text_at facts.source token))
 field_type_in_form facts token unknown_form = without_fault facts.types.unknown
@@ -291,7 +294,7 @@ field_operand facts o token = do
 -- Returns the type of an element, given the operand `i` for the index, the index's type `of`, and the form of the
 -- indexed type. The result is the unknown type if the index isn't INTEGER or the indexed type isn't an array. If the
 -- indexed type is known and isn't an array, `NotArray` is reported at the `[`.
-abbrev pub element_type_in_form : {T : Type 0} → Facts T → Operand T → T → Form T → Reported T
+abbrev pub element_type_in_form : {T : Type 0} → Facts T → Operand T → T → TypeForm T → Reported T
 element_type_in_form facts i of (an_array t) =
     without_fault (if facts.types.same of facts.types.integer then t else facts.types.unknown)
 element_type_in_form facts i of unknown_form = without_fault facts.types.unknown

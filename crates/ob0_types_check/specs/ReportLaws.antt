@@ -8,13 +8,13 @@ use Rattle.ob0_language_types.specs.Expressions.{Meanings, evaluate}
 use Rattle.ob0_language_types.specs.Typing.{array_length, constant_value, constant_meanings, lone_designator, outcome_value, type_of, value_type}
 use Rattle.ob0_language_types.specs.WellTyped.{TypeMeanings, sequence_is_well_typed, variable_type}
 use Rattle.ob0_language_values.specs.Values.{Shape, Value}
-use Rattle.ob0_types_check.specs.ExpressionFaults.{reported_expression}
+use Rattle.ob0_types_check.specs.ExpressionFaults.{report_on_expression}
 use Rattle.ob0_types_check.specs.Known.{Operand}
 use Rattle.ob0_types_check.specs.Operations.{◌>>=◌}
 use Rattle.ob0_types_check.specs.KnownDeclarations.{CompositeType, KnownDeclarations, facts_at, types_so_far}
 use Rattle.ob0_types_check.specs.StatementFaults.{sequence_faults}
-use Rattle.ob0_types_check.specs.TypeFaults.{length_of, reported_constant}
-use Rattle.ob0_types_check.specs.Agreement.{TypesAndMeaningsAgree, TableAgrees, TypesAgree, shape_in}
+use Rattle.ob0_types_check.specs.TypeFaults.{length_by_operand, report_on_constant_expression}
+use Rattle.ob0_types_check.specs.Agreement.{TypesAndMeaningsAgree, TableAgreesWithShapes, TypesAgreeWithShapes, shape_of_type_in}
 
 -- returns the meanings of names in `meaning`; if the Bool is true, returns only the meanings of constants
 abbrev pub allowed_meanings : {N : Type 0} → Bool → TypeMeanings N → TypeMeanings N
@@ -24,7 +24,7 @@ allowed_meanings false meaning = meaning
 -- States that the operand `o` has the type and the value of the expression `e`. The value is None if the expression
 -- isn't constant or its evaluation fails. Otherwise the value is a scalar of the operand's type. If `may_be_variable`
 -- is true, the expression is a variable or parameter with its selectors.
-pub record OperandAgrees
+pub record OperandAgreesWithExpression
     {T N P : Type 0} (shape : T → Option Shape) (meaning : Meanings N Shape P) (o : Operand T)
     (e : Tree N expression) : Type 0 where
   pub of : Shape
@@ -36,18 +36,18 @@ pub record OperandAgrees
 
 -- States that if no fault is reported for an expression, the operand found agrees with the expression. The types and
 -- meanings known for the names in the expression must be correct (`TypesAndMeaningsAgree`).
-abbrev pub ExpressionsWithoutFaultAgree : Type 0 → Type 0
-ExpressionsWithoutFaultAgree N =
+abbrev pub FaultlessExpressionsHaveCorrectTypesAndValues : Type 0 → Type 0
+FaultlessExpressionsHaveCorrectTypesAndValues N =
     (p : KnownDeclarations) (only_constants : Bool) (shapes : List Shape) (label : ℕ → N) (meaning : TypeMeanings N)
     (e : Tree ℕ expression)
-    → TypesAndMeaningsAgree (facts_at p only_constants) (shape_in shapes) label meaning e
-    → (reported_expression (facts_at p only_constants) e).faults ≡ []
-    → OperandAgrees (shape_in shapes) (allowed_meanings only_constants meaning)
-    (reported_expression (facts_at p only_constants) e).known (mapped_tree label (token_value_at p.source) e)
+    → TypesAndMeaningsAgree (facts_at p only_constants) (shape_of_type_in shapes) label meaning e
+    → (report_on_expression (facts_at p only_constants) e).faults ≡ []
+    → OperandAgreesWithExpression (shape_of_type_in shapes) (allowed_meanings only_constants meaning)
+    (report_on_expression (facts_at p only_constants) e).known (mapped_tree label (token_value_at p.source) e)
 
 -- states that the expression `e`, the right side of a constant's declaration, has a value, that this value is a scalar,
 -- and that `reported` is this value
-pub record ConstantAgrees
+pub record ConstantAgreesWithExpression
     {N : Type 0} (meaning : TypeMeanings N) (reported : Option Value) (e : Tree N expression)
     : Type 0 where
   pub value : Value
@@ -58,17 +58,17 @@ pub record ConstantAgrees
 -- States that if no fault is reported for the right side of a constant's declaration, the value found is the value of
 -- the right side. The types and meanings known for the names in the right side must be correct
 -- (`TypesAndMeaningsAgree`).
-abbrev pub ConstantsWithoutFaultAgree : Type 0 → Type 0
-ConstantsWithoutFaultAgree N =
+abbrev pub FaultlessConstantsHaveCorrectValues : Type 0 → Type 0
+FaultlessConstantsHaveCorrectValues N =
     (p : KnownDeclarations) (shapes : List Shape) (label : ℕ → N) (meaning : TypeMeanings N) (e : Tree ℕ expression)
-    → TypesAndMeaningsAgree (facts_at p true) (shape_in shapes) label meaning e
-    → (reported_constant (facts_at p true) e).faults ≡ []
-    → ConstantAgrees meaning (reported_constant (facts_at p true) e).known
+    → TypesAndMeaningsAgree (facts_at p true) (shape_of_type_in shapes) label meaning e
+    → (report_on_constant_expression (facts_at p true) e).faults ≡ []
+    → ConstantAgreesWithExpression meaning (report_on_constant_expression (facts_at p true) e).known
     (mapped_tree label (token_value_at p.source) e)
 
 -- states that the value of the expression `e`, the length in an array type, is a valid length, and that `reported` is
 -- this length
-pub record LengthAgrees
+pub record LengthAgreesWithExpression
     {N : Type 0} (meaning : TypeMeanings N) (reported : Option ℕ) (e : Tree N expression) : Type 0 where
   pub value : Value
   pub length : ℕ
@@ -78,29 +78,29 @@ pub record LengthAgrees
 
 -- States that if no fault is reported for the length in an array type, the length found is the value of its expression.
 -- The types and meanings known for the names in that expression must be correct (`TypesAndMeaningsAgree`).
-abbrev pub LengthsWithoutFaultAgree : Type 0 → Type 0
-LengthsWithoutFaultAgree N =
+abbrev pub FaultlessLengthsHaveCorrectValues : Type 0 → Type 0
+FaultlessLengthsHaveCorrectValues N =
     (p : KnownDeclarations) (shapes : List Shape) (label : ℕ → N) (meaning : TypeMeanings N) (e : Tree ℕ expression)
-    → TypesAndMeaningsAgree (facts_at p true) (shape_in shapes) label meaning e
-    → (reported_expression (facts_at p true) e >>= length_of (facts_at p false)).faults ≡ []
-    → LengthAgrees meaning
-    (reported_expression (facts_at p true) e >>= length_of (facts_at p false)).known
+    → TypesAndMeaningsAgree (facts_at p true) (shape_of_type_in shapes) label meaning e
+    → (report_on_expression (facts_at p true) e >>= length_by_operand (facts_at p false)).faults ≡ []
+    → LengthAgreesWithExpression meaning
+    (report_on_expression (facts_at p true) e >>= length_by_operand (facts_at p false)).known
     (mapped_tree label (token_value_at p.source) e)
 
 -- States that statements are well-typed if no fault is reported for them. The types and meanings known for the names in
 -- the statements must be correct (`TypesAndMeaningsAgree`).
-abbrev pub StatementsWithoutFaultAreTyped : Type 0 → Type 0
-StatementsWithoutFaultAreTyped N =
+abbrev pub FaultlessStatementsAreWellTyped : Type 0 → Type 0
+FaultlessStatementsAreWellTyped N =
     (p : KnownDeclarations) (shapes : List Shape) (label : ℕ → N) (meaning : TypeMeanings N)
     (statements : Tree ℕ sequence)
-    → TypesAndMeaningsAgree (facts_at p false) (shape_in shapes) label meaning statements
+    → TypesAndMeaningsAgree (facts_at p false) (shape_of_type_in shapes) label meaning statements
     → sequence_faults (facts_at p false) statements ≡ []
     → sequence_is_well_typed meaning (mapped_tree label (token_value_at p.source) statements) ≡ true
 
 -- States that every type agrees with its shape if each array and record type in the list `made` agrees with the shape
 -- at the same index of `shapes`.
-abbrev pub TableTypesAgree : Type 0
-TableTypesAgree =
+abbrev pub TypesAgreeWithShapesIfTableDoes : Type 0
+TypesAgreeWithShapesIfTableDoes =
     (made : List CompositeType) (shapes : List Shape)
-    → TableAgrees made shapes
-    → TypesAgree (types_so_far made) (shape_in shapes)
+    → TableAgreesWithShapes made shapes
+    → TypesAgreeWithShapes (types_so_far made) (shape_of_type_in shapes)

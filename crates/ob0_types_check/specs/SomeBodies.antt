@@ -8,8 +8,8 @@ use Rattle.ob0_language_names.specs.Parts.{formal_sections, module_block, sectio
 use Rattle.ob0_scope_table.specs.Resolution.{IsResolution, Resolution}
 use Rattle.ob0_tree.specs.ParsedModule.{named_tree_of, tree_of}
 use Rattle.ob0_tree.specs.Tree.{Tree, block, body, declares, declares_procedure, end, forms_block, item, items, maybe, more, procedure}
-use Rattle.ob0_types_check.specs.EqualExceptBodies.{AreEqualExceptBodies}
-use Rattle.ob0_types_check.specs.DeclarationFaults.{state_after_heading, reported_block, reported_body, reported_constants, module_faults, reported_sections, reported_types, reported_variables}
+use Rattle.ob0_types_check.specs.EqualExceptBodies.{AreEqualExceptInBodies}
+use Rattle.ob0_types_check.specs.DeclarationFaults.{declarations_after_heading, report_on_block, report_on_body, report_on_constant_declarations, undeclared_name_and_type_faults, report_on_parameter_sections, report_on_type_declarations, report_on_variable_declarations}
 use Rattle.ob0_types_check.specs.Known.{Reported}
 use Rattle.ob0_types_check.specs.ModuleLaws.{HasDeclarations}
 use Rattle.ob0_types_check.specs.Operations.{without_fault, ◌>>=◌}
@@ -39,46 +39,46 @@ report_body_if_wanted true own w statements =
       known =
           record {
             so_far = w.so_far;
-            bodies_with_faults = with_body_if_faulty (reported_body w.so_far statements).faults own w.bodies_with_faults;
+            bodies_with_faults = with_body_if_faulty (report_on_body w.so_far statements).faults own w.bodies_with_faults;
           };
-      faults = (reported_body w.so_far statements).faults;
+      faults = (report_on_body w.so_far statements).faults;
     }
 
 unfoldable mutual
-  unfolding reported_constants reported_types reported_variables reported_sections reported_body
+  unfolding report_on_constant_declarations report_on_type_declarations report_on_variable_declarations report_on_parameter_sections report_on_body
 
   -- Returns the faults of a block's declarations, and of its statements if the block's closing name `own` passes the
   -- test `wanted`. The statements of a procedure inside the block are walked only if the procedure's own closing name
   -- passes the test.
-  pub reported_block_with_bodies : (ℕ → Bool) → ℕ → WalkProgress → Tree ℕ block → Reported WalkProgress
-  reported_block_with_bodies wanted own w (forms_block (declares cs ts vs ps) statements) = do
-    with_constants ← reported_constants w.so_far (section_constants cs)
-    with_types ← reported_types with_constants (section_types ts)
-    with_variables ← reported_variables with_types (section_variables vs)
+  pub report_on_block_with_wanted_bodies : (ℕ → Bool) → ℕ → WalkProgress → Tree ℕ block → Reported WalkProgress
+  report_on_block_with_wanted_bodies wanted own w (forms_block (declares cs ts vs ps) statements) = do
+    with_constants ← report_on_constant_declarations w.so_far (section_constants cs)
+    with_types ← report_on_type_declarations with_constants (section_types ts)
+    with_variables ← report_on_variable_declarations with_types (section_variables vs)
     with_procedures ←
-        reported_procedures_with_bodies wanted (record { so_far = with_variables; bodies_with_faults = w.bodies_with_faults }) ps
+        report_on_procedures_with_wanted_bodies wanted (record { so_far = with_variables; bodies_with_faults = w.bodies_with_faults }) ps
     report_body_if_wanted (wanted own) own with_procedures statements
 
   -- returns the faults of procedures, one after another; a body is walked only if the closing name of its block passes
   -- the test `wanted`
-  pub reported_procedures_with_bodies : (ℕ → Bool) → WalkProgress → Tree ℕ (items procedure) → Reported WalkProgress
-  reported_procedures_with_bodies wanted w end = without_fault w
-  reported_procedures_with_bodies wanted w (more d rest) = do
-    v ← reported_procedure_with_bodies wanted w d
-    reported_procedures_with_bodies wanted v rest
+  pub report_on_procedures_with_wanted_bodies : (ℕ → Bool) → WalkProgress → Tree ℕ (items procedure) → Reported WalkProgress
+  report_on_procedures_with_wanted_bodies wanted w end = without_fault w
+  report_on_procedures_with_wanted_bodies wanted w (more d rest) = do
+    v ← report_on_procedure_with_wanted_bodies wanted w d
+    report_on_procedures_with_wanted_bodies wanted v rest
 
   -- returns the faults of a procedure's parameters, and then of its block; a body is walked only if the closing name of
   -- its block passes the test `wanted`
-  pub reported_procedure_with_bodies : (ℕ → Bool) → WalkProgress → Tree ℕ (item procedure) → Reported WalkProgress
-  reported_procedure_with_bodies wanted w (declares_procedure x fs b closing) = do
-    h ← reported_sections (record { formals = []; following = w.so_far }) (formal_sections fs)
-    reported_block_with_bodies wanted closing (record { so_far = state_after_heading x h; bodies_with_faults = w.bodies_with_faults }) b
+  pub report_on_procedure_with_wanted_bodies : (ℕ → Bool) → WalkProgress → Tree ℕ (item procedure) → Reported WalkProgress
+  report_on_procedure_with_wanted_bodies wanted w (declares_procedure x fs b closing) = do
+    h ← report_on_parameter_sections (record { formals = []; following = w.so_far }) (formal_sections fs)
+    report_on_block_with_wanted_bodies wanted closing (record { so_far = declarations_after_heading x h; bodies_with_faults = w.bodies_with_faults }) b
 
 -- returns the faults of a module's declarations, and of the bodies whose closing names pass the
 -- test `wanted`
-abbrev pub reported_module_with_bodies : (ℕ → Bool) → Resolution → Reported WalkProgress
-reported_module_with_bodies wanted r =
-    reported_block_with_bodies wanted r.module_read.closing (record { so_far = state_at_start r; bodies_with_faults = [] })
+abbrev pub report_on_module_with_wanted_bodies : (ℕ → Bool) → Resolution → Reported WalkProgress
+report_on_module_with_wanted_bodies wanted r =
+    report_on_block_with_wanted_bodies wanted r.module_read.closing (record { so_far = state_at_start r; bodies_with_faults = [] })
     (module_block (tree_of r.module_read))
 
 -- returns true for every closing name, so that all bodies are walked
@@ -87,7 +87,7 @@ every_body closing = true
 
 -- returns the closing names of a module's bodies in which a fault is reported, in text order
 abbrev pub faulty_bodies : Resolution → List ℕ
-faulty_bodies r = (reported_module_with_bodies every_body r).known.bodies_with_faults
+faulty_bodies r = (report_on_module_with_wanted_bodies every_body r).known.bodies_with_faults
 
 -- returns whether the closing name `closing` is in the list `bodies`
 abbrev pub is_among : List ℕ → ℕ → Bool
@@ -104,27 +104,27 @@ includes_body w closing = w.every_body || is_among w.these.now closing
 
 -- States that the module `r` has an older version (`old`), and that each faulty body of the older version passes the
 -- test `wanted`. The two versions are equal except in the statements of bodies that pass this test.
-pub record IncludesFaultyBodies (wanted : ℕ → Bool) (r : Resolution) : Type 0 where
+pub record IncludesChangedAndFaultyBodies (wanted : ℕ → Bool) (r : Resolution) : Type 0 where
   pub old : Resolution
   pub resolved : IsResolution old
   pub bodies_with_faults : AllPass wanted (faulty_bodies old)
-  pub alike : AreEqualExceptBodies wanted old r
+  pub alike : AreEqualExceptInBodies wanted old r
 
 -- States that walking only the bodies that pass the test `wanted` gives the same report as walking all bodies. Every
 -- body that changed, and every body that had a fault before the change, must pass the test.
-abbrev pub SomeBodiesSuffice : Type 0
-SomeBodiesSuffice =
+abbrev pub WalkingChangedAndFaultyBodiesSuffices : Type 0
+WalkingChangedAndFaultyBodiesSuffices =
     (wanted : ℕ → Bool) (r : Resolution)
     → IsResolution r
-    → IncludesFaultyBodies wanted r
-    → reported_module_with_bodies wanted r ≡ reported_module_with_bodies every_body r
+    → IncludesChangedAndFaultyBodies wanted r
+    → report_on_module_with_wanted_bodies wanted r ≡ report_on_module_with_wanted_bodies every_body r
 
 -- States that a report has the faults of the module `r` and the closing names of the bodies with faults. The report has
 -- a table with the objects of all declarations exactly if there are no faults.
 pub record IsReportOf (r : Resolution) (report : Report) : Type 0 where
-  pub faults : report.faults.items ≡ module_faults r
-  pub known : MatchOption report.known (module_faults r ≡ [] → ⊥)
-      (λ t. (module_faults r ≡ []) × HasDeclarations (named_tree_of r.module_read) t)
+  pub faults : report.faults.items ≡ undeclared_name_and_type_faults r
+  pub known : MatchOption report.known (undeclared_name_and_type_faults r ≡ [] → ⊥)
+      (λ t. (undeclared_name_and_type_faults r ≡ []) × HasDeclarations (named_tree_of r.module_read) t)
   pub bodies_with_faults : report.bodies_with_faults.items ≡ faulty_bodies r
 
 -- converts the state of the code's walk, with the closing names of the faulty bodies found so far, to a state of the
@@ -136,6 +136,6 @@ walk_progress_of s bodies_with_faults = record { so_far = declarations_in_state 
 -- names of its faulty bodies. The code's state `s` has the module's declarations.
 pub record IsFinishedWalk
     (r : Resolution) (found : List Fault) (s : CheckerState) (bodies_with_faults : List ℕ) : Type 0 where
-  pub faults : found ≡ module_faults r
-  pub known : declarations_in_state s ≡ (reported_block (state_at_start r) (module_block (tree_of r.module_read))).known
+  pub faults : found ≡ undeclared_name_and_type_faults r
+  pub known : declarations_in_state s ≡ (report_on_block (state_at_start r) (module_block (tree_of r.module_read))).known
   pub faulty_bodies_are : bodies_with_faults ≡ faulty_bodies r

@@ -5,15 +5,15 @@ use Rattle.std.specs.Prelude.{ℕ, nat_eq, ◌&&◌, not, List, [], ◌∷◌, �
 use Rattle.ob0_scan.specs.declared.fault.FaultCode.TheVariants as code
 use Rattle.ob0_scan.specs.declared.fault.Fault.{Fault}
 use Rattle.ob0_tree.specs.Tree.{Tree, assigns, branches, calls, else_branch, else_part, elsif_branch, elsif_part, empty, end, expression, further_statement, items, maybe, more, none, one, repeat_loop, runs, selector, sequence, statement, then_statement, while_loop}
-use Rattle.ob0_language_types.specs.Arguments.{arguments_listed}
+use Rattle.ob0_language_types.specs.Arguments.{call_arguments}
 use Rattle.ob0_types_check.specs.Known.{Facts, KnownParameter, Meaning, Operand, Reported, a_constant, a_procedure, a_type, a_variable}
-use Rattle.ob0_types_check.specs.ExpressionFaults.{reported_expression, reported_selectors}
+use Rattle.ob0_types_check.specs.ExpressionFaults.{report_on_expression, report_on_selectors}
 use Rattle.ob0_types_check.specs.Operations.{typed_name_operand, required_type, fault_at_operand, fault_at_token, without_fault, ◌>>=◌}
 
 -- returns the faults of an expression that must have the type `wanted`
 unfoldable pub typed_expression_faults : {T : Type 0} → Facts T → T → Tree ℕ expression → List Fault
-unfolding reported_expression
-typed_expression_faults facts wanted e = (reported_expression facts e >>= required_type facts wanted).faults
+unfolding report_on_expression
+typed_expression_faults facts wanted e = (report_on_expression facts e >>= required_type facts wanted).faults
 
 -- returns the faults of a condition, which must be BOOLEAN
 abbrev pub condition_faults : {T : Type 0} → Facts T → Tree ℕ expression → List Fault
@@ -38,15 +38,15 @@ abbrev pub target_name_type : {T : Type 0} → Facts T → ℕ → Reported T
 target_name_type facts token = target_type_by_meaning facts token (facts.object_for token)
 
 -- returns the operand for an assignment's target, and the faults of the target's name and selectors
-unfoldable pub reported_target : {T : Type 0}
+unfoldable pub report_on_target : {T : Type 0}
     → Facts T
     → ℕ
     → Tree ℕ (items selector)
     → Reported (Operand T)
-unfolding reported_expression
-reported_target facts x path = do
+unfolding report_on_expression
+report_on_target facts x path = do
   t ← target_name_type facts x
-  reported_selectors facts (typed_name_operand t x) path
+  report_on_selectors facts (typed_name_operand t x) path
 
 -- returns the faults of an assignment's target, and then of its right side, which must have the
 -- type of the target
@@ -71,25 +71,25 @@ unfoldable pub faults_of_argument : {T : Type 0}
     → KnownParameter T
     → Tree ℕ expression
     → List Fault
-unfolding reported_expression
-faults_of_argument facts f e = (reported_expression facts e >>= required_type_of_argument facts f).faults
+unfolding report_on_expression
+faults_of_argument facts f e = (report_on_expression facts e >>= required_type_of_argument facts f).faults
 
 -- returns the faults of arguments, each checked against the parameter at the same index; surplus arguments or
 -- parameters are ignored
-abbrev pub argument_faults : {T : Type 0}
+abbrev pub faults_of_arguments : {T : Type 0}
     → Facts T
     → List (KnownParameter T)
     → List (Tree ℕ expression)
     → List Fault
-argument_faults facts [] es = []
-argument_faults facts (f ∷ fs) [] = []
-argument_faults facts (f ∷ fs) (e ∷ es) =
-    faults_of_argument facts f e ++ argument_faults facts fs es
+faults_of_arguments facts [] es = []
+faults_of_arguments facts (f ∷ fs) [] = []
+faults_of_arguments facts (f ∷ fs) (e ∷ es) =
+    faults_of_argument facts f e ++ faults_of_arguments facts fs es
 
 -- returns the faults of arguments that may have any type
 abbrev pub untyped_argument_faults : {T : Type 0} → Facts T → List (Tree ℕ expression) → List Fault
 untyped_argument_faults facts [] = []
-untyped_argument_faults facts (e ∷ es) = (reported_expression facts e).faults ++ untyped_argument_faults facts es
+untyped_argument_faults facts (e ∷ es) = (report_on_expression facts e).faults ++ untyped_argument_faults facts es
 
 -- Returns the faults of a call of the name at token `p`, given the name's meaning. A procedure needs as many arguments
 -- as it has parameters. If their numbers differ, only `ArgumentCount` is reported. A name that isn't a procedure's is
@@ -103,7 +103,7 @@ abbrev pub call_faults_by_meaning : {T : Type 0}
     → List Fault
 call_faults_by_meaning facts p (Some (a_procedure fs)) es =
     if nat_eq (length fs) (length es)
-    then argument_faults facts fs es
+    then faults_of_arguments facts fs es
     else fault_at_token facts code.ArgumentCount p
 call_faults_by_meaning facts p (Some (a_type t)) es =
     fault_at_token facts code.WrongKind p ++ untyped_argument_faults facts es
@@ -118,14 +118,14 @@ abbrev pub call_faults : {T : Type 0} → Facts T → ℕ → List (Tree ℕ exp
 call_faults facts p es = call_faults_by_meaning facts p (facts.object_for p) es
 
 unfoldable mutual
-  unfolding typed_expression_faults reported_target faults_of_argument
+  unfolding typed_expression_faults report_on_target faults_of_argument
 
   -- returns the faults of a statement, including the faults of the statements in it
   pub statement_faults : {T : Type 0} → Facts T → Tree ℕ statement → List Fault
   statement_faults facts empty = []
   statement_faults facts (assigns x path e) =
-      assignment_faults facts (reported_target facts x path) e
-  statement_faults facts (calls p es) = call_faults facts p (arguments_listed es)
+      assignment_faults facts (report_on_target facts x path) e
+  statement_faults facts (calls p es) = call_faults facts p (call_arguments es)
   statement_faults facts (branches e statements rest last) =
       condition_faults facts e
       ++ (sequence_faults facts statements

@@ -5,7 +5,7 @@ use Rattle.ob0_scan.specs.declared.fault.FaultCode.TheVariants as code
 use Rattle.ob0_tree.specs.Tree.{Tree, expression}
 use Rattle.ob0_language_types.specs.Typing.{array_length}
 use Rattle.ob0_language_values.specs.Values.{Value}
-use Rattle.ob0_types_check.specs.ExpressionFaults.{reported_expression}
+use Rattle.ob0_types_check.specs.ExpressionFaults.{report_on_expression}
 use Rattle.ob0_types_check.specs.Known.{Facts, Meaning, Operand, Reported, a_constant, a_procedure, a_type, a_variable}
 use Rattle.ob0_types_check.specs.Operations.{required_type, fault_at_operand, fault_at_token, without_fault, ◌>>=◌}
 
@@ -37,12 +37,12 @@ operand_value facts o =
     if facts.types.same o.of facts.types.unknown then without_fault None else value_or_fault facts o o.value
 
 -- returns the faults and the value of a constant's right side, in which names may only refer to constants
-unfoldable pub reported_constant : {T : Type 0}
+unfoldable pub report_on_constant_expression : {T : Type 0}
     → Facts T
     → Tree ℕ expression
     → Reported (Option Value)
-unfolding reported_expression
-reported_constant facts e = reported_expression facts e >>= operand_value facts
+unfolding report_on_expression
+report_on_constant_expression facts e = report_on_expression facts e >>= operand_value facts
 
 -- returns this length of an array unchanged; for None, reports `ArrayLength` at the operand `o` of the length's
 -- expression
@@ -59,7 +59,7 @@ length_by_value facts o (Some v) = length_or_fault facts o (array_length v)
 -- Returns the length of an array, given the operand of its length expression. Returns None if the
 -- operand isn't INTEGER, has no value or isn't a valid length. Each of these is reported, unless
 -- the operand's type is unknown.
-abbrev pub length_of : {T : Type 0} → Facts T → Operand T → Reported (Option ℕ)
-length_of facts o = do
+abbrev pub length_by_operand : {T : Type 0} → Facts T → Operand T → Reported (Option ℕ)
+length_by_operand facts o = do
   t ← required_type facts facts.types.integer o
   if facts.types.same t facts.types.integer then length_by_value facts o o.value else without_fault None

@@ -1,5 +1,5 @@
--- Laws about well-typed modules and well-typed parts of modules: no fault of types is reported for them. `N` is the
--- type of names.
+-- Laws about well-typed modules, expressions and statements: no fault of types is reported for
+-- them. `N` is the type of names.
 -- Rule: docs/LANGUAGE.md, Types 8; states laws about the faults that are reported.
 use Rattle.std.specs.Prelude.{◌≡◌, ℕ, Bool, true, false, [], List, Option, Some, None, option_and_then, is_some, slice_get}
 use Rattle.std.specs.List.{filter}
@@ -11,14 +11,14 @@ use Rattle.ob0_tree.specs.Tree.{Tree, designator, expression, items, mapped_tree
 use Rattle.ob0_language_types.specs.Typing.{array_length, constant_value, type_of}
 use Rattle.ob0_language_types.specs.WellTyped.{TypeMeanings, passes_type_check, sequence_is_well_typed, variable_type}
 use Rattle.ob0_language_values.specs.Values.{Shape, array_shape, boolean_shape, integer_shape, record_shape}
-use Rattle.ob0_types_check.specs.DeclarationFaults.{module_faults}
-use Rattle.ob0_types_check.specs.ExpressionFaults.{reported_expression}
+use Rattle.ob0_types_check.specs.DeclarationFaults.{undeclared_name_and_type_faults}
+use Rattle.ob0_types_check.specs.ExpressionFaults.{report_on_expression}
 use Rattle.ob0_types_check.specs.Operations.{◌>>=◌}
 use Rattle.ob0_types_check.specs.ReportLaws.{allowed_meanings}
 use Rattle.ob0_types_check.specs.KnownDeclarations.{KnownDeclarations, facts_at}
-use Rattle.ob0_types_check.specs.StatementFaults.{sequence_faults, reported_target}
-use Rattle.ob0_types_check.specs.TypeFaults.{length_of, reported_constant}
-use Rattle.ob0_types_check.specs.Agreement.{TypesAndMeaningsAgree, shape_in}
+use Rattle.ob0_types_check.specs.StatementFaults.{sequence_faults, report_on_target}
+use Rattle.ob0_types_check.specs.TypeFaults.{length_by_operand, report_on_constant_expression}
+use Rattle.ob0_types_check.specs.Agreement.{TypesAndMeaningsAgree, shape_of_type_in}
 
 -- States that no fault is reported for an expression that has a type. The types and meanings known for the names in the
 -- expression must be correct (`TypesAndMeaningsAgree`).
@@ -26,30 +26,30 @@ abbrev pub TypedExpressionsHaveNoFault : Type 0 → Type 0
 TypedExpressionsHaveNoFault N =
     (p : KnownDeclarations) (only_constants : Bool) (shapes : List Shape) (label : ℕ → N) (meaning : TypeMeanings N)
     (e : Tree ℕ expression)
-    → TypesAndMeaningsAgree (facts_at p only_constants) (shape_in shapes) label meaning e
+    → TypesAndMeaningsAgree (facts_at p only_constants) (shape_of_type_in shapes) label meaning e
     → is_some (type_of (allowed_meanings only_constants meaning) (mapped_tree label (token_value_at p.source) e))
     ≡ true
-    → (reported_expression (facts_at p only_constants) e).faults ≡ []
+    → (report_on_expression (facts_at p only_constants) e).faults ≡ []
 
 -- States that no fault is reported for a constant expression that has a value. The types and meanings known for the
 -- names in the expression must be correct (`TypesAndMeaningsAgree`).
-abbrev pub ValuedConstantsHaveNoFault : Type 0 → Type 0
-ValuedConstantsHaveNoFault N =
+abbrev pub ConstantsWithValuesHaveNoFault : Type 0 → Type 0
+ConstantsWithValuesHaveNoFault N =
     (p : KnownDeclarations) (shapes : List Shape) (label : ℕ → N) (meaning : TypeMeanings N) (e : Tree ℕ expression)
-    → TypesAndMeaningsAgree (facts_at p true) (shape_in shapes) label meaning e
+    → TypesAndMeaningsAgree (facts_at p true) (shape_of_type_in shapes) label meaning e
     → is_some (constant_value meaning (mapped_tree label (token_value_at p.source) e)) ≡ true
-    → (reported_constant (facts_at p true) e).faults ≡ []
+    → (report_on_constant_expression (facts_at p true) e).faults ≡ []
 
 -- States that no fault is reported for a valid array length. The types and meanings known for the names in the length's
 -- expression must be correct (`TypesAndMeaningsAgree`).
 abbrev pub ValidLengthsHaveNoFault : Type 0 → Type 0
 ValidLengthsHaveNoFault N =
     (p : KnownDeclarations) (shapes : List Shape) (label : ℕ → N) (meaning : TypeMeanings N) (e : Tree ℕ expression)
-    → TypesAndMeaningsAgree (facts_at p true) (shape_in shapes) label meaning e
+    → TypesAndMeaningsAgree (facts_at p true) (shape_of_type_in shapes) label meaning e
     → is_some
     (option_and_then array_length (constant_value meaning (mapped_tree label (token_value_at p.source) e)))
     ≡ true
-    → (reported_expression (facts_at p true) e >>= length_of (facts_at p false)).faults ≡ []
+    → (report_on_expression (facts_at p true) e >>= length_by_operand (facts_at p false)).faults ≡ []
 
 -- States that no fault is reported for an assignment's target that is a variable or parameter with well-typed
 -- selectors. The types and meanings known for the names in the target must be correct (`TypesAndMeaningsAgree`).
@@ -57,9 +57,9 @@ abbrev pub TypedTargetsHaveNoFault : Type 0 → Type 0
 TypedTargetsHaveNoFault N =
     (p : KnownDeclarations) (shapes : List Shape) (label : ℕ → N) (meaning : TypeMeanings N) (x : ℕ)
     (path : Tree ℕ (items selector))
-    → TypesAndMeaningsAgree (facts_at p false) (shape_in shapes) label meaning (designator x path)
+    → TypesAndMeaningsAgree (facts_at p false) (shape_of_type_in shapes) label meaning (designator x path)
     → is_some (variable_type meaning (Some (label x, mapped_tree label (token_value_at p.source) path))) ≡ true
-    → (reported_target (facts_at p false) x path).faults ≡ []
+    → (report_on_target (facts_at p false) x path).faults ≡ []
 
 -- returns the ordinal of the word ARRAY or RECORD that makes a type; None for INTEGER and BOOLEAN
 abbrev pub ordinal_of_shape : Shape → Option ℕ
@@ -68,20 +68,22 @@ ordinal_of_shape boolean_shape = None
 ordinal_of_shape (array_shape k n s) = Some k
 ordinal_of_shape (record_shape k fs) = Some k
 
--- states that no two shapes in the list are made by the same word ARRAY or RECORD
+-- states that no two array or record shapes in the list have the same ordinal, so that each comes
+-- from a different occurrence of ARRAY or RECORD in the text
 abbrev pub HaveDistinctOrdinals : List Shape → Type 0
 HaveDistinctOrdinals shapes =
     (i j k : ℕ) (s t : Shape) → slice_get shapes i ≡ Some s → slice_get shapes j ≡ Some t
     → ordinal_of_shape s ≡ Some k → ordinal_of_shape t ≡ Some k → i ≡ j
 
--- States that no fault is reported for well-typed statements. The types and meanings known for the names in the
--- statements must be correct (`TypesAndMeaningsAgree`), and no two types may be made by the same word ARRAY or RECORD.
-abbrev pub TypedStatementsHaveNoFault : Type 0 → Type 0
-TypedStatementsHaveNoFault N =
+-- States that no fault is reported for well-typed statements. The types and meanings known for the
+-- names in the statements must be correct (`TypesAndMeaningsAgree`), and no two array or record
+-- types may have the same ordinal (`HaveDistinctOrdinals`).
+abbrev pub WellTypedStatementsHaveNoFault : Type 0 → Type 0
+WellTypedStatementsHaveNoFault N =
     (p : KnownDeclarations) (shapes : List Shape) (label : ℕ → N) (meaning : TypeMeanings N)
     (statements : Tree ℕ sequence)
     → HaveDistinctOrdinals shapes
-    → TypesAndMeaningsAgree (facts_at p false) (shape_in shapes) label meaning statements
+    → TypesAndMeaningsAgree (facts_at p false) (shape_of_type_in shapes) label meaning statements
     → sequence_is_well_typed meaning (mapped_tree label (token_value_at p.source) statements) ≡ true
     → sequence_faults (facts_at p false) statements ≡ []
 
@@ -99,4 +101,4 @@ TypedModulesHaveNoFault =
     (r : Resolution)
     → IsResolution r
     → passes_type_check naming_by_spelling (named_tree_of r.module_read) ≡ true
-    → module_faults r ≡ []
+    → undeclared_name_and_type_faults r ≡ []

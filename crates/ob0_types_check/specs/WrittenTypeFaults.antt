@@ -7,19 +7,20 @@ use Rattle.ob0_types_table.specs.declared.types.TypeId.{TypeId}
 use Rattle.ob0_types_table.specs.declared.types.TypeId.TheVariants as type
 use Rattle.ob0_tree.specs.Places.{token_text_at}
 use Rattle.ob0_tree.specs.Tree.{Tree, array_type, end, fields, further_fields, item, items, listed, more, named_type, names, no_fields, record_type, some_fields, then_fields, written_type}
-use Rattle.ob0_types_check.specs.ExpressionFaults.{reported_expression}
+use Rattle.ob0_types_check.specs.ExpressionFaults.{report_on_expression}
 use Rattle.ob0_types_check.specs.Known.{Operand, Reported}
 use Rattle.ob0_types_check.specs.Operations.{without_fault, token_before, ◌>>=◌}
 use Rattle.ob0_types_check.specs.KnownDeclarations.{Size, KnownDeclarations, TypeWithState, KnownField, facts_at, make_type, zero_size, of_elements, of_fields, size_of_type_so_far}
-use Rattle.ob0_types_check.specs.TypeFaults.{length_of, type_named_at}
+use Rattle.ob0_types_check.specs.TypeFaults.{length_by_operand, type_named_at}
 
 -- returns the size of an array of `n` elements that each have this size
 abbrev pub array_size : ℕ → Size → Size
 array_size n z = record { scalars = z.scalars * n; depth = z.depth + 1 }
 
--- Returns the number of array and record types made so far plus `around`, the number of types around the next word
--- ARRAY or RECORD. Each such word makes one type, and inner types are made first. So, if nothing is reported, this sum
--- is the ordinal of the next word: the number of such words before it in the text.
+-- Returns the number of array and record types made so far plus `around`, the number of types that
+-- enclose the next word ARRAY or RECORD. Each such word makes one type, and inner types are made
+-- first. So, if nothing is reported, this sum is the ordinal of the next word: the number of such
+-- words before it in the text.
 abbrev pub next_type_ordinal : ℕ → KnownDeclarations → ℕ
 next_type_ordinal around p = length p.made + around
 
@@ -82,12 +83,13 @@ abbrev pub token_before_group : Tree ℕ fields → ℕ → ℕ
 token_before_group (some_fields ns t) following = token_before (token_of_first_name ns)
 token_before_group no_fields following = token_before following
 
--- Returns the token before these groups of fields. For all groups of a record, this token is the word RECORD. Between
--- this token and the first field's name there are only semicolons, one for each empty group before the name. If there
--- are no fields, the result is 0. A record without fields is never too large, so nothing is reported at that token.
-abbrev pub record_keyword : Tree ℕ (items further_fields) → ℕ
-record_keyword end = 0
-record_keyword (more (then_fields g) rest) = token_before_group g (record_keyword rest)
+-- Returns the token before these groups of fields. If these are all the groups of a record, it is
+-- the word RECORD. Between this token and the first field's name there are only semicolons, one for
+-- each empty group before the name. If there are no fields, the result is 0. A record without
+-- fields is never too large, so nothing is reported at that token.
+abbrev pub record_keyword_token : Tree ℕ (items further_fields) → ℕ
+record_keyword_token end = 0
+record_keyword_token (more (then_fields g) rest) = token_before_group g (record_keyword_token rest)
 
 -- Makes a record type of the gathered fields `g`, or reports `TypeTooLarge` at its token RECORD (`word`). `ordinal` is
 -- the number of words ARRAY and RECORD before this token in the text.
@@ -96,41 +98,41 @@ made_record_type word ordinal g = make_type g.following word ordinal (of_fields 
 
 -- Returns the faults of a type. `around` is the number of arrays and records that enclose the type.
 unfoldable mutual
-  unfolding reported_expression
+  unfolding report_on_expression
 
   -- returns the faults of a type, and the type with the declarations known after it; the faults of the parts of an
   -- array or record come first
-  pub reported_type : ℕ → KnownDeclarations → Tree ℕ written_type → Reported TypeWithState
-  reported_type around p (named_type x) = do
+  pub report_on_written_type : ℕ → KnownDeclarations → Tree ℕ written_type → Reported TypeWithState
+  report_on_written_type around p (named_type x) = do
     t ← type_named_at (facts_at p false) x
     without_fault (record { of = t; following = p })
-  reported_type around p (array_type e u) = do
-    o ← reported_expression (facts_at p true) e
-    n ← length_of (facts_at p false) o
-    element ← reported_type (suc around) p u
+  report_on_written_type around p (array_type e u) = do
+    o ← report_on_expression (facts_at p true) e
+    n ← length_by_operand (facts_at p false) o
+    element ← report_on_written_type (suc around) p u
     made_array_type (next_type_ordinal around p) o n element
-  reported_type around p (record_type g rest) = do
-    first ← reported_fields (suc around) (no_known_fields p) g
-    all ← reported_groups (suc around) first rest
-    made_record_type (token_before_group g (record_keyword rest)) (next_type_ordinal around p) all
+  report_on_written_type around p (record_type g rest) = do
+    first ← report_on_field_group (suc around) (no_known_fields p) g
+    all ← report_on_further_field_groups (suc around) first rest
+    made_record_type (token_before_group g (record_keyword_token rest)) (next_type_ordinal around p) all
 
   -- returns the faults of a group of fields, and the earlier fields with the group's fields added
-  pub reported_fields : ℕ → KnownFields → Tree ℕ fields → Reported KnownFields
-  reported_fields around so_far no_fields = without_fault so_far
-  reported_fields around so_far (some_fields ns t) = do
-    u ← reported_type around so_far.following t
+  pub report_on_field_group : ℕ → KnownFields → Tree ℕ fields → Reported KnownFields
+  report_on_field_group around so_far no_fields = without_fault so_far
+  report_on_field_group around so_far (some_fields ns t) = do
+    u ← report_on_written_type around so_far.following t
     without_fault (with_field_group so_far (names_in_list ns) u)
 
   -- returns the faults of further groups of fields, and the earlier fields with the fields of these
   -- groups added
-  pub reported_groups : ℕ → KnownFields → Tree ℕ (items further_fields) → Reported KnownFields
-  reported_groups around so_far end = without_fault so_far
-  reported_groups around so_far (more (then_fields g) rest) = do
-    next ← reported_fields around so_far g
-    reported_groups around next rest
+  pub report_on_further_field_groups : ℕ → KnownFields → Tree ℕ (items further_fields) → Reported KnownFields
+  report_on_further_field_groups around so_far end = without_fault so_far
+  report_on_further_field_groups around so_far (more (then_fields g) rest) = do
+    next ← report_on_field_group around so_far g
+    report_on_further_field_groups around next rest
 
 -- returns the faults of one more group of fields, and the earlier fields with the fields of this
 -- group added
-unfoldable pub reported_group : ℕ → KnownFields → Tree ℕ (item further_fields) → Reported KnownFields
-unfolding reported_type
-reported_group around so_far (then_fields g) = reported_fields around so_far g
+unfoldable pub report_on_further_field_group : ℕ → KnownFields → Tree ℕ (item further_fields) → Reported KnownFields
+unfolding report_on_written_type
+report_on_further_field_group around so_far (then_fields g) = report_on_field_group around so_far g

@@ -1,44 +1,44 @@
 //! States laws that connect the faults reported for a module with the definition of a well-typed
 //! module. Each function does nothing. The function's contract is the law.
 
-ghost use Rattle.ob0_types_check.specs.ModuleLaws.{WalkWithoutFaultFindsMeanings, ModulesWithoutFaultPassTypeCheck};
-ghost use Rattle.ob0_types_check.specs.ReportLaws.{ConstantsWithoutFaultAgree, ExpressionsWithoutFaultAgree, LengthsWithoutFaultAgree, StatementsWithoutFaultAreTyped, TableTypesAgree};
-ghost use Rattle.ob0_types_check.specs.SomeBodies.{SomeBodiesSuffice};
-ghost use Rattle.ob0_types_check.specs.WellTypedLaws.{TypedModulesHaveBoundNames, ValuedConstantsHaveNoFault, TypedExpressionsHaveNoFault, ValidLengthsHaveNoFault, TypedModulesHaveNoFault, TypedStatementsHaveNoFault, TypedTargetsHaveNoFault};
+ghost use Rattle.ob0_types_check.specs.ModuleLaws.{WalkWithoutFaultFindsCorrectMeanings, ModulesWithoutFaultPassTypeCheck};
+ghost use Rattle.ob0_types_check.specs.ReportLaws.{FaultlessConstantsHaveCorrectValues, FaultlessExpressionsHaveCorrectTypesAndValues, FaultlessLengthsHaveCorrectValues, FaultlessStatementsAreWellTyped, TypesAgreeWithShapesIfTableDoes};
+ghost use Rattle.ob0_types_check.specs.SomeBodies.{WalkingChangedAndFaultyBodiesSuffices};
+ghost use Rattle.ob0_types_check.specs.WellTypedLaws.{TypedModulesHaveBoundNames, ConstantsWithValuesHaveNoFault, TypedExpressionsHaveNoFault, ValidLengthsHaveNoFault, TypedModulesHaveNoFault, WellTypedStatementsHaveNoFault, TypedTargetsHaveNoFault};
 ghost use Rattle.ob0_language_names.specs.Names.{Name};
 
 /// Proves that if no fault is reported for an expression, the type and value found for the
 /// expression are correct. The law assumes that the types and meanings found for the names in the
 /// expression are correct (`TypesAndMeaningsAgree`).
-pub fn expressions_without_fault_agree()
-    ensures { ExpressionsWithoutFaultAgree Name }
+pub fn faultless_expressions_have_correct_types_and_values()
+    ensures { FaultlessExpressionsHaveCorrectTypesAndValues Name }
 {}
 
 /// Proves that if no fault is reported for the right side of a constant's declaration, the value
 /// found is the value of the right side. The law assumes that the types and meanings found for the
 /// names in the right side are correct (`TypesAndMeaningsAgree`).
-pub fn constants_without_fault_agree()
-    ensures { ConstantsWithoutFaultAgree Name }
+pub fn faultless_constants_have_correct_values()
+    ensures { FaultlessConstantsHaveCorrectValues Name }
 {}
 
 /// Proves that if no fault is reported for the length in an array type, the length found is the
 /// value of its expression. The law assumes that the types and meanings found for the names in that
 /// expression are correct (`TypesAndMeaningsAgree`).
-pub fn lengths_without_fault_agree()
-    ensures { LengthsWithoutFaultAgree Name }
+pub fn faultless_lengths_have_correct_values()
+    ensures { FaultlessLengthsHaveCorrectValues Name }
 {}
 
 /// Proves that statements are well-typed if no fault is reported for them. The law assumes that the
 /// types and meanings found for the names in the statements are correct (`TypesAndMeaningsAgree`).
-pub fn statements_without_fault_are_typed()
-    ensures { StatementsWithoutFaultAreTyped Name }
+pub fn faultless_statements_are_well_typed()
+    ensures { FaultlessStatementsAreWellTyped Name }
 {}
 
 /// Proves that every type of the checker agrees with its shape if each array and record type in the
 /// checker's list does. A shape (`Shape`) is the definitions' representation of a type, with all
 /// its parts.
-pub fn table_types_agree()
-    ensures { TableTypesAgree }
+pub fn types_agree_with_shapes_if_table_does()
+    ensures { TypesAgreeWithShapesIfTableDoes }
 {}
 
 /// Proves that a module passes the type check if no fault of types and no undeclared name is
@@ -49,8 +49,8 @@ pub fn modules_without_fault_pass_type_check()
 
 /// Proves that if no fault of types and no undeclared name is reported for a module, the walk over
 /// the module has found the right meaning of each declaration (`KnowsDeclarations`).
-pub fn walk_without_fault_finds_meanings()
-    ensures { WalkWithoutFaultFindsMeanings }
+pub fn walk_without_fault_finds_correct_meanings()
+    ensures { WalkWithoutFaultFindsCorrectMeanings }
 {}
 
 /// Proves that no fault is reported for an expression that has a type. The law assumes that the
@@ -62,8 +62,8 @@ pub fn typed_expressions_have_no_fault()
 /// Proves that no fault is reported for a constant expression that has a value. The law assumes
 /// that the types and meanings found for the names in the expression are correct
 /// (`TypesAndMeaningsAgree`).
-pub fn valued_constants_have_no_fault()
-    ensures { ValuedConstantsHaveNoFault Name }
+pub fn constants_with_values_have_no_fault()
+    ensures { ConstantsWithValuesHaveNoFault Name }
 {}
 
 /// Proves that no fault is reported for a valid array length. The law assumes that the types and
@@ -81,9 +81,9 @@ pub fn typed_targets_have_no_fault()
 
 /// Proves that no fault is reported for well-typed statements. The law assumes that the types and
 /// meanings found for the names in the statements are correct (`TypesAndMeaningsAgree`). It also
-/// assumes that no two types are made by the same word ARRAY or RECORD.
-pub fn typed_statements_have_no_fault()
-    ensures { TypedStatementsHaveNoFault Name }
+/// assumes that no two array or record types have the same ordinal (`HaveDistinctOrdinals`).
+pub fn well_typed_statements_have_no_fault()
+    ensures { WellTypedStatementsHaveNoFault Name }
 {}
 
 /// Proves that every name of a module that passes the type check is bound.
@@ -100,6 +100,6 @@ pub fn typed_modules_have_no_fault()
 /// Proves that, after a change of a module's text, a walk over only some bodies gives the same
 /// report as a walk over all bodies. The walked bodies must include every body whose tokens changed
 /// and every body that had a fault before the change.
-pub fn some_bodies_suffice()
-    ensures { SomeBodiesSuffice }
+pub fn walking_changed_and_faulty_bodies_suffices()
+    ensures { WalkingChangedAndFaultyBodiesSuffices }
 {}

@@ -8,7 +8,7 @@
 //! connect this walk with the definition of the check. If no fault is reported, the module passes
 //! (`modules_without_fault_pass_type_check`). If the module passes, no fault is reported
 //! (`typed_modules_have_no_fault`). If no fault is reported, the walk has found the meaning of
-//! every declaration (`walk_without_fault_finds_meanings`).
+//! every declaration (`walk_without_fault_finds_correct_meanings`).
 //!
 //! The definitions give the faults of each production of the grammar, in order, with codes and
 //! spans. They also give the result of the production, for example the type of an expression. A
@@ -22,8 +22,8 @@
 //!
 //! The definitions work over any representation of types that has an unknown type (`Types`). One
 //! such representation is the code's `TypeId`, which refers to array and record types by their
-//! indexes in a list (`known_types`). Another is `Option Shape`, which needs no list and has
-//! None for the unknown type.
+//! indexes in a list (`type_id_representation`). Another is `Option Shape`, which needs no list and
+//! has None for the unknown type.
 //!
 //! The faults of written types, declarations and blocks depend on a state, `KnownDeclarations`.
 //! This state has the meanings of the declarations, by ordinal, and a list of the array and record
@@ -36,15 +36,15 @@
 //! The trees of the definitions don't contain the tokens ARRAY and RECORD. Definitions and code
 //! both find these tokens from their neighbors. ARRAY is the token before the array's length.
 //! Between RECORD and the name of the first field there are only semicolons, one for each empty
-//! group of fields before that name (`record_keyword`). Every token has a next token, because
-//! `token_after` returns the end of the text unchanged. Every fault has a place, because `span_at`
-//! returns the start of the text if there is no token.
+//! group of fields before that name (`record_keyword_token`). Every token has a next token, because
+//! `token_after` returns the end of the text unchanged. Every fault has a span, because `span_at`
+//! returns an empty span at the text's start if there is no token.
 //!
 //! A body declares nothing. So if only the tokens of one body changed, the types and meanings known
-//! at every other place are unchanged. Any other body that had no faults still has none
-//! (`some_bodies_suffice`). `report_some_bodies` therefore walks the declarations, the changed body
-//! and the bodies that had faults, and skips all others. The report lists the bodies with faults,
-//! for the next change.
+//! everywhere else are unchanged. Any other body that had no faults still has none
+//! (`walking_changed_and_faulty_bodies_suffices`). `report_some_bodies` therefore walks the
+//! declarations, the changed body and the bodies that had faults, and skips all others. The report
+//! lists the bodies with faults, for the next change.
 //!
 //! If the statements of one body were replaced, and the module passes the type check without them,
 //! only these statements can have faults (`NewBody` of the proofs). `report_one_body` walks the
@@ -53,9 +53,9 @@
 //! The ordinal of a word ARRAY or RECORD is the number of such words before it in the text. The
 //! walk doesn't count these words. Each word makes one type, and inner types are made first. So, if
 //! nothing is reported, a word's ordinal is the number of types made so far plus the number of
-//! types around the word (`next_type_ordinal`). If this sum doesn't fit 64 bits, the function fails
-//! as if memory had run out, so the definition needs no upper limit. No text is long enough for
-//! such a sum.
+//! types around the word (`next_type_ordinal`). If this sum doesn't fit in 64 bits, the function
+//! fails as if memory had run out, so the definition needs no upper limit. No text is long enough
+//! for such a sum.
 //!
 //! The faults at undeclared names are copied from the faults that were found when the names were
 //! bound (`Resolved::faults`). The walk itself reports nothing at such a name.
@@ -73,10 +73,12 @@ ghost use Rattle.ob0_scope_table.specs.Resolution.{is_undeclared_fault};
 ghost use Rattle.ob0_types_table.specs.Tables.{AreEntriesInOrder};
 ghost use Rattle.ob0_types_check.specs.NewBody.{PassesTypeCheckWithoutBody};
 ghost use Rattle.ob0_types_check.specs.KnownDeclarations.{state_at_start};
-ghost use Rattle.ob0_types_check.specs.SomeBodies.{IsFinishedWalk, IsReportOf, IncludesFaultyBodies, every_body, is_among, reported_module_with_bodies, includes_body};
+ghost use Rattle.ob0_types_check.specs.SomeBodies.{IsFinishedWalk, IsReportOf, IncludesChangedAndFaultyBodies, every_body, is_among, report_on_module_with_wanted_bodies, includes_body};
 ghost use Rattle.ob0_types_check.specs.CheckerViews.{meaning_view, declarations_in_state, table_in_state};
 
-use crate::laws::{some_bodies_suffice, walk_without_fault_finds_meanings};
+use crate::laws::{
+    walk_without_fault_finds_correct_meanings, walking_changed_and_faulty_bodies_suffices,
+};
 use crate::reporting::checker_state::{CheckerState, Meaning, predeclared_meanings};
 use crate::reporting::objects::{define_standard_procedures, objects_of};
 use ob0_scan::{Fault, FaultCode};
@@ -137,10 +139,10 @@ pub fn report_some_bodies<'t>(
     resolved: &'t Resolved<'t>,
     bodies: &[usize],
 ) -> Result<Report, AllocError>
-    requires { IncludesFaultyBodies (is_among bodies.now) resolved.now }
+    requires { IncludesChangedAndFaultyBodies (is_among bodies.now) resolved.now }
     ensures { IfOk result (IsReportOf resolved.now) }
 {
-    some_bodies_suffice();
+    walking_changed_and_faulty_bodies_suffices();
     // The proof needs this call: its contract states the module's invariant.
     let _module = resolved.module();
     let these = BodiesToWalk {
@@ -178,7 +180,7 @@ fn report_wanted_bodies<'t>(
     resolved: &'t Resolved<'t>,
     wanted: &BodiesToWalk<'_>,
 ) -> Result<Report, AllocError>
-    requires { reported_module_with_bodies (includes_body wanted.now) resolved.now ≡ reported_module_with_bodies every_body resolved.now }
+    requires { report_on_module_with_wanted_bodies (includes_body wanted.now) resolved.now ≡ report_on_module_with_wanted_bodies every_body resolved.now }
     ensures { IfOk result (IsReportOf resolved.now) }
 {
     let read = resolved.module();
@@ -252,7 +254,7 @@ impl<'t> Reporter<'t> {
         requires { IsFinishedWalk resolved.now self.faults.items self.checker_state bodies_with_faults.items }
         ensures { IfOk result (IsReportOf resolved.now) }
     {
-        walk_without_fault_finds_meanings();
+        walk_without_fault_finds_correct_meanings();
         // The proof needs this call: its contract states the module's invariant.
         let _module = resolved.module();
         let Reporter {

@@ -4,7 +4,7 @@ use Rattle.std.proofs.lemmas.Bool.{ne_eqb}
 use Rattle.ob0_tree.specs.Tree.{Tree, block, constant, declares, declares_constant, declares_type, declares_variable, end, forms_block, items, more, type_definition, variable}
 use Rattle.ob0_language_names.specs.Names.{Label, Name, naming_by_label, naming_by_spelling, as_written, declared, same_label}
 use Rattle.ob0_language_names.specs.Parts.{block_constants, block_types, block_variables, constant_names, declared_type_names, names_in_list, section_constants, section_types, section_variables, variable_names}
-use Rattle.ob0_language_names.specs.Scopes.{Scope, ordinal_after_names, label_from_ordinal, declare_names, first_procedure_ordinal, first_type_ordinal, first_variable_ordinal, label_names, relabel_block, relabel_constants, relabel_names, relabel_types, relabel_uses, relabel_variables, types_scope, variables_scope}
+use Rattle.ob0_language_names.specs.Scopes.{Scope, ordinal_after_names, label_from_ordinal, declare_names, first_procedure_ordinal, first_type_ordinal, first_variable_ordinal, labels_of_declared_names, relabel_block, relabel_constants, relabel_names, relabel_types, relabel_uses, relabel_variables, scope_before_types, scope_before_variables}
 use Rattle.ob0_language_names.proofs.Ordinals.{ordinal_after_names-append}
 use Rattle.ob0_language_names.proofs.Relabelled.{constants-section, names-relabel, types-section, variables-section}
 use Rattle.ob0_language_types.specs.Bindings.{object_of_ordinal}
@@ -54,10 +54,10 @@ grown_then k m n env mid after a b =
       descends = descends_join n m k b.bound a.bound b.descends a.descends;
     }
 
-names_grow : (k : ℕ) (xs : List Name) (o : Object Shape Signature) (env : TypeEnvironment Label) → Grown k (ordinal_after_names k xs) env (bind_names (label_names (label_from_ordinal naming_by_spelling) k xs) o env)
+names_grow : (k : ℕ) (xs : List Name) (o : Object Shape Signature) (env : TypeEnvironment Label) → Grown k (ordinal_after_names k xs) env (bind_names (labels_of_declared_names (label_from_ordinal naming_by_spelling) k xs) o env)
 names_grow k [] o env = grown_nothing k env
 names_grow k (x ∷ xs) o env =
-    grown_then k (suc k) (ordinal_after_names (suc k) xs) env ((declared k, o) ∷ env) (bind_names (label_names (label_from_ordinal naming_by_spelling) (suc k) xs) o ((declared k, o) ∷ env)) (grown_one k o env) (names_grow (suc k) xs o ((declared k, o) ∷ env))
+    grown_then k (suc k) (ordinal_after_names (suc k) xs) env ((declared k, o) ∷ env) (bind_names (labels_of_declared_names (label_from_ordinal naming_by_spelling) (suc k) xs) o ((declared k, o) ∷ env)) (grown_one k o env) (names_grow (suc k) xs o ((declared k, o) ∷ env))
 
 constants_grow : (scope : Scope Name) (k : ℕ) (cs : Tree Name (items constant)) (env after : TypeEnvironment Label)
     → declare_constants naming_by_label env (relabel_constants naming_by_spelling (label_from_ordinal naming_by_spelling) scope k cs) ≡ Some after → Grown k (ordinal_after_names k (constant_names cs)) env after
@@ -128,9 +128,9 @@ block_grows scope j k (forms_block (declares cs ts vs ps) statements) env inner 
     let two = then_some (declare_constants_and_types naming_by_label env j b') (declare_typed_variables naming_by_label (constructors_before_variables j b') (block_variables b')) inner h in
     let one = firsts env j b' two.0 two.1 in
     let c = constants_grow scope k (section_constants cs) env one.0 (ap (declare_constants naming_by_label env) (sym (constants-section naming_by_spelling (label_from_ordinal naming_by_spelling) scope k cs)) ∙ one.1) in
-    let t = types_grow (types_scope k b scope) j kt (section_types ts) one.0 two.0 (ap (declare_types naming_by_label one.0 j) (sym (types-section naming_by_spelling (label_from_ordinal naming_by_spelling) (types_scope k b scope) kt ts)) ∙ one.2) in
-    let v = variables_grow (variables_scope k b scope) (constructors_before_variables j b') kv (section_variables vs) two.0 inner
-    (ap (λ gs. declare_typed_variables naming_by_label (constructors_before_variables j b') gs two.0) (sym (variables-section naming_by_spelling (label_from_ordinal naming_by_spelling) (variables_scope k b scope) kv vs)) ∙ two.2) in
+    let t = types_grow (scope_before_types k b scope) j kt (section_types ts) one.0 two.0 (ap (declare_types naming_by_label one.0 j) (sym (types-section naming_by_spelling (label_from_ordinal naming_by_spelling) (scope_before_types k b scope) kt ts)) ∙ one.2) in
+    let v = variables_grow (scope_before_variables k b scope) (constructors_before_variables j b') kv (section_variables vs) two.0 inner
+    (ap (λ gs. declare_typed_variables naming_by_label (constructors_before_variables j b') gs two.0) (sym (variables-section naming_by_spelling (label_from_ordinal naming_by_spelling) (scope_before_variables k b scope) kv vs)) ∙ two.2) in
     grown_then k kt (first_procedure_ordinal k b) env one.0 inner c (grown_then kt kv (first_procedure_ordinal k b) one.0 two.0 inner t v)
 
 -- returns the object of a label, given the objects of ordinals

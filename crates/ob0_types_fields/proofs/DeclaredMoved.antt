@@ -3,15 +3,15 @@
 use Rattle.std.proofs.Common.{◌≡◌, ℕ, zero, suc, ◌+◌, List, [], ◌∷◌, ◌++◌, map, Some, None, Option, refl, ap, ◌∙◌}
 use Rattle.std.specs.List.{AllByRecursion}
 use Rattle.ob0_tree.specs.Tree.{Tree, array_type, block, declares, declares_procedure, declares_type, declares_variable, end, fields, further_fields, further_name, further_section, forms_block, is_module, item, items, listed, mapped_tree, module_text, more, named_type, names, no_fields, procedure, record_type, section, some_fields, then_fields, then_name, then_section, type_definition, value_section, variable, variable_section, written_type}
-use Rattle.ob0_language_names.specs.Parts.{formal_sections, further_names, module_block, names_in_list, section_type, section_types, section_variables}
+use Rattle.ob0_language_names.specs.Parts.{formal_sections, further_names, module_block, names_in_list, parameter_section_type, section_types, section_variables}
 use Rattle.ob0_language_types.specs.Declarations.{constructors_before_procedure_block, constructors_before_variables, constructors_before_procedures, procedure_constructor_count}
 use Rattle.ob0_language_types.specs.Expressions.{Meanings}
 use Rattle.ob0_language_types.specs.Typing.{constructor_count, group_constructor_count}
 use Rattle.ob0_language_values.specs.Values.{Shape}
-use Rattle.ob0_scope_table.specs.BodyReplaced.{PathToBody, block_without, procedure_without, procedures_without, module_without_body}
+use Rattle.ob0_scope_table.specs.BodyReplaced.{PathToBody, block_without_body, procedure_without_body, procedures_without_body, module_without_body}
 use Rattle.ob0_types_fields.specs.declared.field_name.FieldName.{FieldName}
 use Rattle.ob0_types_fields.specs.Identifiers.{fields_declared_in_block, fields_declared_in_procedure, fields_declared_in_procedures}
-use Rattle.ob0_types_fields.specs.Owned.{fields_with_owners, fields_in_block, fields_in_group, fields_in_groups, fields_in_module, fields_at_tokens, fields_in_procedure, fields_in_procedures, fields_in_sections, fields_in_tree, fields_in_type, fields_in_types, fields_in_variables}
+use Rattle.ob0_types_fields.specs.Owned.{fields_with_owners, fields_in_block, fields_in_group, fields_in_groups, fields_in_module, fields_at_tokens, fields_in_procedure, fields_in_procedures, fields_in_parameter_sections, fields_in_tree, fields_in_type, fields_in_types, fields_in_variables}
 use Rattle.ob0_tree.proofs.MappedIdentifiers.{both}
 use Rattle.ob0_types_fields.proofs.OwnedAround.{procedure_counted}
 use Rattle.ob0_types_fields.proofs.OwnedTypes.{counted_formals_section, counted_group, counted_procedure, counted_section, counted_type, counted_type_section, counted_variable_section, sections_mapped, types_mapped, variables_mapped}
@@ -19,21 +19,21 @@ use Rattle.ob0_types_fields.proofs.OwnedTypes.{counted_formals_section, counted_
 -- ---- without some statements
 
 mutual
-  block_declares : (path : PathToBody) (k : ℕ) (b : Tree ℕ block) → fields_declared_in_block k (block_without path b) ≡ fields_declared_in_block k b
+  block_declares : (path : PathToBody) (k : ℕ) (b : Tree ℕ block) → fields_declared_in_block k (block_without_body path b) ≡ fields_declared_in_block k b
   block_declares [] k (forms_block (declares cs ts vs ps) statements) = refl
   block_declares (j ∷ path) k (forms_block (declares cs ts vs ps) statements) =
       ap (λ l. fields_in_types k (section_types ts) ++ (fields_in_variables (constructors_before_variables k (forms_block (declares cs ts vs ps) statements)) (section_variables vs) ++ l))
       (procedures_declare j path (constructors_before_procedures k (forms_block (declares cs ts vs ps) statements)) ps)
 
-  procedures_declare : (j : ℕ) (path : PathToBody) (k : ℕ) (ps : Tree ℕ (items procedure)) → fields_declared_in_procedures k (procedures_without j path ps) ≡ fields_declared_in_procedures k ps
+  procedures_declare : (j : ℕ) (path : PathToBody) (k : ℕ) (ps : Tree ℕ (items procedure)) → fields_declared_in_procedures k (procedures_without_body j path ps) ≡ fields_declared_in_procedures k ps
   procedures_declare zero path k end = refl
   procedures_declare (suc j) path k end = refl
   procedures_declare zero path k (more p rest) = λ i. procedure_declares path k p i ++ fields_declared_in_procedures (k + procedure_counted path p i) rest
   procedures_declare (suc j) path k (more p rest) = ap (λ l. fields_declared_in_procedure k p ++ l) (procedures_declare j path (k + procedure_constructor_count p) rest)
 
-  procedure_declares : (path : PathToBody) (k : ℕ) (p : Tree ℕ (item procedure)) → fields_declared_in_procedure k (procedure_without path p) ≡ fields_declared_in_procedure k p
+  procedure_declares : (path : PathToBody) (k : ℕ) (p : Tree ℕ (item procedure)) → fields_declared_in_procedure k (procedure_without_body path p) ≡ fields_declared_in_procedure k p
   procedure_declares path k (declares_procedure x fs b closing) =
-      ap (λ l. fields_in_sections k (formal_sections fs) ++ l) (block_declares path (constructors_before_procedure_block k (declares_procedure x fs b closing)) b)
+      ap (λ l. fields_in_parameter_sections k (formal_sections fs) ++ l) (block_declares path (constructors_before_procedure_block k (declares_procedure x fs b closing)) b)
 
 pub declared_without : (path : PathToBody) (t : Tree ℕ module_text) → fields_declared_in_block 0 (module_block (module_without_body path t)) ≡ fields_declared_in_block 0 (module_block t)
 declared_without path (is_module x b closing) = block_declares path 0 b
@@ -91,15 +91,15 @@ module _ (at : ℕ → ℕ) where
       both (field_placed at) (fields_in_type k u) (fields_in_variables (k + constructor_count u) gs) (type_placed k u)
       ((λ i. fields_in_variables (k + counted_type at at u i) (mapped_tree at at gs)) ∙ variables_placed (k + constructor_count u) gs)
 
-  section_placed : (k : ℕ) (f : Tree ℕ section) → fields_in_type k (section_type (mapped_tree at at f)) ≡ map (field_placed at) (fields_in_type k (section_type f))
+  section_placed : (k : ℕ) (f : Tree ℕ section) → fields_in_type k (parameter_section_type (mapped_tree at at f)) ≡ map (field_placed at) (fields_in_type k (parameter_section_type f))
   section_placed k (value_section ns u) = type_placed k u
   section_placed k (variable_section ns u) = type_placed k u
 
-  sections_placed : (k : ℕ) (fs : Tree ℕ (items further_section)) → fields_in_sections k (mapped_tree at at fs) ≡ map (field_placed at) (fields_in_sections k fs)
+  sections_placed : (k : ℕ) (fs : Tree ℕ (items further_section)) → fields_in_parameter_sections k (mapped_tree at at fs) ≡ map (field_placed at) (fields_in_parameter_sections k fs)
   sections_placed k end = refl
   sections_placed k (more (then_section f) fs) =
-      both (field_placed at) (fields_in_type k (section_type f)) (fields_in_sections (k + constructor_count (section_type f)) fs) (section_placed k f)
-      ((λ i. fields_in_sections (k + counted_section at at f i) (mapped_tree at at fs)) ∙ sections_placed (k + constructor_count (section_type f)) fs)
+      both (field_placed at) (fields_in_type k (parameter_section_type f)) (fields_in_parameter_sections (k + constructor_count (parameter_section_type f)) fs) (section_placed k f)
+      ((λ i. fields_in_parameter_sections (k + counted_section at at f i) (mapped_tree at at fs)) ∙ sections_placed (k + constructor_count (parameter_section_type f)) fs)
 
   mutual
     block_fields_placed : (k : ℕ) (b : Tree ℕ block) → fields_declared_in_block k (mapped_tree at at b) ≡ map (field_placed at) (fields_declared_in_block k b)
@@ -122,7 +122,7 @@ module _ (at : ℕ → ℕ) where
     procedure_fields_placed : (k : ℕ) (p : Tree ℕ (item procedure)) → fields_declared_in_procedure k (mapped_tree at at p) ≡ map (field_placed at) (fields_declared_in_procedure k p)
     procedure_fields_placed k (declares_procedure x fs b closing) =
         let j : ℕ = constructors_before_procedure_block k (declares_procedure x fs b closing) in
-        both (field_placed at) (fields_in_sections k (formal_sections fs)) (fields_declared_in_block j b) (ap (fields_in_sections k) (sections_mapped at at fs) ∙ sections_placed k (formal_sections fs))
+        both (field_placed at) (fields_in_parameter_sections k (formal_sections fs)) (fields_declared_in_block j b) (ap (fields_in_parameter_sections k) (sections_mapped at at fs) ∙ sections_placed k (formal_sections fs))
         ((λ i. fields_declared_in_block (k + counted_formals_section at at fs i) (mapped_tree at at b)) ∙ block_fields_placed j b)
 
   pub declared_placed : (t : Tree ℕ module_text) → fields_declared_in_block 0 (module_block (mapped_tree at at t)) ≡ map (field_placed at) (fields_declared_in_block 0 (module_block t))
@@ -163,7 +163,7 @@ module _ {Q : Type 0} (m : Meanings ℕ Shape Q) (P : FieldName → Type 0) wher
     procedure_among : (k : ℕ) (p : Tree ℕ (item procedure)) → AllByRecursion P (fields_in_procedure m k p) → AllByRecursion P (fields_declared_in_procedure k p)
     procedure_among k (declares_procedure x fs b closing) h =
         let j : ℕ = constructors_before_procedure_block k (declares_procedure x fs b closing) in
-        let own : List FieldName = fields_in_sections k (formal_sections fs) in
+        let own : List FieldName = fields_in_parameter_sections k (formal_sections fs) in
         let q = parts P own (fields_in_block m j b) h in
         joined P own (fields_declared_in_block j b) q.0 (block_among j b q.1)
 

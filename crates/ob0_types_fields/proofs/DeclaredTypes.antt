@@ -5,7 +5,7 @@ use Rattle.ob0_tree.specs.ParsedModule.{named_tree_of, tree_of}
 use Rattle.ob0_tree.specs.Places.{token_text_at}
 use Rattle.ob0_tree.specs.Tree.{Tree, block, body, constant, declares, declares_constant, declares_procedure, declares_type, declares_types, declares_variable, declares_variables, end, formals, further_section, forms_block, item, items, listed, maybe, module_text, more, no_formals, none, one, procedure, section, some_formals, then_section, type_definition, type_definitions, value_section, variable, variable_section, variables, written_type}
 use Rattle.ob0_language_names.specs.Names.{Label, naming_by_label, naming_by_spelling}
-use Rattle.ob0_language_names.specs.Parts.{block_constants, block_statements, block_types, block_variables, formal_sections, further_names, module_block, section_type, section_types, section_variables}
+use Rattle.ob0_language_names.specs.Parts.{block_constants, block_statements, block_types, block_variables, formal_sections, further_names, module_block, parameter_section_type, section_types, section_variables}
 use Rattle.ob0_scope_table.specs.Resolution.{IsResolution, Resolution, ordinal_in}
 use Rattle.ob0_language_names.specs.Scopes.{label_from_ordinal}
 use Rattle.ob0_language_types.specs.Bindings.{block_bindings, declared_object, module_bindings, procedures_bindings, bindings_since}
@@ -60,7 +60,7 @@ module _ (r : Resolution) where
 
   abbrev pub FormalsAreTyped : Tree ℕ (items further_section) → Type 0
   FormalsAreTyped end = Unit {0}
-  FormalsAreTyped (more (then_section f) fs) = ((s : Shape) × (meaning.object_for (first_parameter f) ≡ Some (a_variable s)) × Denotes (section_type f) s) × FormalsAreTyped fs
+  FormalsAreTyped (more (then_section f) fs) = ((s : Shape) × (meaning.object_for (first_parameter f) ≡ Some (a_variable s)) × Denotes (parameter_section_type f) s) × FormalsAreTyped fs
 
   abbrev mutual
     pub BlockIsTyped : Tree ℕ block → Type 0

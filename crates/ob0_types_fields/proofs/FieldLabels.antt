@@ -3,8 +3,8 @@ use Rattle.std.proofs.Common.{ℕ, suc, None, List, [], ◌∷◌}
 use Rattle.ob0_tree.specs.Tree.{Tree, array_type, block, declares, declares_procedure, declares_type, declares_types, declares_variable, declares_variables, end, fields, formals, further_fields, further_name, further_section, forms_block, is_module, item, items, listed, maybe, module_text, more, named_type, names, no_fields, no_formals, none, one, procedure, record_type, section, some_fields, some_formals, then_fields, then_name, then_section, type_definition, type_definitions, value_section, variable, variable_section, variables, written_type}
 use Rattle.ob0_language_names.specs.Mapping.{map_names}
 use Rattle.ob0_language_names.specs.Names.{Label, Name, naming_by_spelling, as_written, declared}
-use Rattle.ob0_language_names.specs.Parts.{formal_names, formal_sections, further_names, module_block, names_in_list, procedure_name, section_names, section_type, section_types, section_variables}
-use Rattle.ob0_language_names.specs.Scopes.{Scope, ordinal_after_names, ordinal_after_procedure, label_from_ordinal, declare_names, first_procedure_ordinal, first_type_ordinal, first_variable_ordinal, label_of, numbered, predeclared_scope, procedures_scope, relabel_block, relabel_formals, relabel_procedure, relabel_procedures, relabel_section, relabel_sections, relabel_type_section, relabel_types, relabel_uses, relabel_variable_section, relabel_variables, types_scope, variables_scope}
+use Rattle.ob0_language_names.specs.Parts.{formal_names, formal_sections, further_names, module_block, names_in_list, procedure_name, parameter_section_names, parameter_section_type, section_types, section_variables}
+use Rattle.ob0_language_names.specs.Scopes.{Scope, ordinal_after_names, ordinal_after_procedure, label_from_ordinal, declare_names, first_procedure_ordinal, first_type_ordinal, first_variable_ordinal, label_of, numbered, predeclared_scope, scope_before_procedures, relabel_block, relabel_formals, relabel_procedure, relabel_procedures, relabel_section, relabel_sections, relabel_type_section, relabel_types, relabel_uses, relabel_variable_section, relabel_variables, scope_before_types, scope_before_variables}
 
 abbrev pub IsWritten : Label → Type 0
 IsWritten (declared k) = ⊥
@@ -38,7 +38,7 @@ VariablesPlain (more (declares_variable ns u) gs) = TypePlain u × VariablesPlai
 
 abbrev pub SectionsPlain : Tree Label (items further_section) → Type 0
 SectionsPlain end = Unit {0}
-SectionsPlain (more (then_section f) fs) = TypePlain (section_type f) × SectionsPlain fs
+SectionsPlain (more (then_section f) fs) = TypePlain (parameter_section_type f) × SectionsPlain fs
 
 abbrev mutual
   pub BlockPlain : Tree Label block → Type 0
@@ -97,24 +97,24 @@ variable_section-plain : (scope : Scope Name) (k : ℕ) (vs : Tree Name (maybe v
 variable_section-plain scope k none = tt
 variable_section-plain scope k (one (declares_variables vs)) = variables-plain scope k vs
 
-section-plain : (scope : Scope Name) (k : ℕ) (f : Tree Name section) → TypePlain (section_type (relabel_section naming_by_spelling (label_from_ordinal naming_by_spelling) scope k f))
+section-plain : (scope : Scope Name) (k : ℕ) (f : Tree Name section) → TypePlain (parameter_section_type (relabel_section naming_by_spelling (label_from_ordinal naming_by_spelling) scope k f))
 section-plain scope k (value_section ns u) = uses-plain scope u
 section-plain scope k (variable_section ns u) = uses-plain scope u
 
 sections-plain : (scope : Scope Name) (k : ℕ) (fs : Tree Name (items further_section)) → SectionsPlain (relabel_sections naming_by_spelling (label_from_ordinal naming_by_spelling) scope k fs)
 sections-plain scope k end = tt
-sections-plain scope k (more (then_section f) fs) = (section-plain scope k f, sections-plain (declare_names k (section_names f) scope) (ordinal_after_names k (section_names f)) fs)
+sections-plain scope k (more (then_section f) fs) = (section-plain scope k f, sections-plain (declare_names k (parameter_section_names f) scope) (ordinal_after_names k (parameter_section_names f)) fs)
 
 formals-plain : (scope : Scope Name) (k : ℕ) (fs : Tree Name (maybe formals)) → SectionsPlain (formal_sections (relabel_formals naming_by_spelling (label_from_ordinal naming_by_spelling) scope k fs))
 formals-plain scope k none = tt
 formals-plain scope k (one no_formals) = tt
-formals-plain scope k (one (some_formals f fs)) = (section-plain scope k f, sections-plain (declare_names k (section_names f) scope) (ordinal_after_names k (section_names f)) fs)
+formals-plain scope k (one (some_formals f fs)) = (section-plain scope k f, sections-plain (declare_names k (parameter_section_names f) scope) (ordinal_after_names k (parameter_section_names f)) fs)
 
 mutual
   block-plain : (scope : Scope Name) (k : ℕ) (b : Tree Name block) → BlockPlain (relabel_block naming_by_spelling (label_from_ordinal naming_by_spelling) scope k b)
   block-plain scope k (forms_block (declares cs ts vs ps) statements) =
       let b : Tree Name block = forms_block (declares cs ts vs ps) statements in
-      ((type_section-plain (types_scope k b scope) (first_type_ordinal k b) ts, variable_section-plain (variables_scope k b scope) (first_variable_ordinal k b) vs), procedures-plain (procedures_scope k b scope) (first_procedure_ordinal k b) ps)
+      ((type_section-plain (scope_before_types k b scope) (first_type_ordinal k b) ts, variable_section-plain (scope_before_variables k b scope) (first_variable_ordinal k b) vs), procedures-plain (scope_before_procedures k b scope) (first_procedure_ordinal k b) ps)
 
   procedures-plain : (scope : Scope Name) (k : ℕ) (ps : Tree Name (items procedure)) → ProceduresPlain (relabel_procedures naming_by_spelling (label_from_ordinal naming_by_spelling) scope k ps)
   procedures-plain scope k end = tt

@@ -6,7 +6,7 @@ use Rattle.std.proofs.Math.ListN.{length-set}
 use Rattle.std.proofs.lemmas.List.{length-replicate}
 use Rattle.ob0_scan.specs.TextWithTokens.{TextWithTokens}
 use Rattle.ob0_scan.specs.declared.lexeme.Token.{Token}
-use Rattle.ob0_tree.specs.Order.{AreIdentifierTokens, AreAscending, IsIdentifierToken}
+use Rattle.ob0_tree.specs.Order.{AreIdentifierTokens, AreAscendingWithin, IsIdentifierToken}
 use Rattle.ob0_tree.specs.ParsedModule.{IsParsed, tree_of}
 use Rattle.ob0_tree.specs.Places.{token_text_at, token_value_at}
 use Rattle.ob0_tree.specs.Tree.{mapped_tree}
@@ -20,11 +20,11 @@ use Rattle.ob0_types_fields.specs.Identifiers.{AreInTextOrder, RenamingChangesFi
 use Rattle.ob0_types_fields.specs.Owned.{fields_with_owners, owners_in_resolution, table_with_owners}
 use Rattle.ob0_types_fields.specs.Owners.{is_token_of_field}
 use Rattle.ob0_types_fields.proofs.ByToken.{renaming_follows_owners-holds}
-use Rattle.ob0_types_fields.proofs.OwnedTokens.{module-tokens, entered_fields_complete_owner_table-holds, tokens}
+use Rattle.ob0_types_fields.proofs.OwnedTokens.{module-tokens, table_with_entered_owners_is_owner_table-holds, tokens}
 
 -- ---- fields among identifiers
 
-among_ascend : (xs : List (ℕ × Option ℕ)) (low high : ℕ) → AreAscending low (tokens xs) high → AreAscending low (token_indexes (fields_with_owners xs)) high
+among_ascend : (xs : List (ℕ × Option ℕ)) (low high : ℕ) → AreAscendingWithin low (tokens xs) high → AreAscendingWithin low (token_indexes (fields_with_owners xs)) high
 among_ascend [] low high h = h
 among_ascend ((x, None) ∷ xs) low high h = ascending_lower low (x + 1) (token_indexes (fields_with_owners xs)) high (omega (arith, h.0)) (among_ascend xs (x + 1) high h.1)
 among_ascend ((x, Some k) ∷ xs) low high h = (h.0, among_ascend xs (x + 1) high h.1)
@@ -37,7 +37,7 @@ among_are_identifiers ts ((x, Some k) ∷ xs) h = (h.0, among_are_identifiers ts
 pub fields_ascend : (r : Resolution) → IsParsed r.module_read → AreInTextOrder r.module_read.source (field_identifiers r)
 fields_ascend r parsed =
     let n : ℕ = length r.module_read.source.tokens in
-    among_ascend (owners_in_resolution r) 0 n (subst (λ ts. AreAscending 0 ts n) (sym (module-tokens _ (tree_of r.module_read))) (leaves_ascend r.module_read parsed))
+    among_ascend (owners_in_resolution r) 0 n (subst (λ ts. AreAscendingWithin 0 ts n) (sym (module-tokens _ (tree_of r.module_read))) (leaves_ascend r.module_read parsed))
 
 pub fields_are_identifiers : (r : Resolution) → IsParsed r.module_read → AreIdentifierTokens r.module_read.source.tokens (token_indexes (field_identifiers r))
 fields_are_identifiers r parsed =
@@ -46,11 +46,11 @@ fields_are_identifiers r parsed =
 
 -- ---- one field among fields
 
-pub kept_ascend : (source : TextWithTokens) (k : ℕ) (x : Name) (xs : List FieldName) (low high : ℕ) → AreAscending low (token_indexes xs) high → AreAscending low (tokens_of_field source k x xs) high
+pub kept_ascend : (source : TextWithTokens) (k : ℕ) (x : Name) (xs : List FieldName) (low high : ℕ) → AreAscendingWithin low (token_indexes xs) high → AreAscendingWithin low (tokens_of_field source k x xs) high
 kept_ascend source k x [] low high h = h
 kept_ascend source k x (y ∷ ys) low high h = one (belongs_to_field source k x y) (kept_ascend source k x ys (y.token + 1) high h.1)
   where
-    one : (b : Bool) → AreAscending (y.token + 1) (tokens_of_field source k x ys) high → AreAscending low (if b then y.token ∷ tokens_of_field source k x ys else tokens_of_field source k x ys) high
+    one : (b : Bool) → AreAscendingWithin (y.token + 1) (tokens_of_field source k x ys) high → AreAscendingWithin low (if b then y.token ∷ tokens_of_field source k x ys else tokens_of_field source k x ys) high
     one true e = (h.0, e)
     one false e = ascending_lower low (y.token + 1) (tokens_of_field source k x ys) high (omega (arith, h.0)) e
 
@@ -87,11 +87,11 @@ looked (x ∷ xs) table i h =
     let next : List (Option ℕ) = set table x.token (Some x.owner) in
     looked xs next i (subst (AllBelow xs) (sym (length-set table x.token (Some x.owner))) h.1) ∙ ap (owner_in i xs) (set_at table x.token x.owner i h.0)
 
-below : (xs : List FieldName) (low high : ℕ) → AreAscending low (token_indexes xs) high → AllBelow xs high
+below : (xs : List FieldName) (low high : ℕ) → AreAscendingWithin low (token_indexes xs) high → AllBelow xs high
 below [] low high h = tt
 below (x ∷ xs) low high h = (omega (arith, high_enough (token_indexes xs) (x.token + 1) high h.1), below xs (x.token + 1) high h.1)
   where
-    high_enough : (ys : List ℕ) (at high : ℕ) → AreAscending at ys high → at ≤ high
+    high_enough : (ys : List ℕ) (at high : ℕ) → AreAscendingWithin at ys high → at ≤ high
     high_enough [] at high h = h
     high_enough (y ∷ ys) at high h = let later = high_enough ys (y + 1) high h.1 in omega (arith, h.0, later)
 
@@ -100,7 +100,7 @@ vacant zero i = refl
 vacant (suc n) zero = refl
 vacant (suc n) (suc i) = vacant n i
 
-owner_kept : (xs : List FieldName) (low high i : ℕ) (o : Option ℕ) → AreAscending low (token_indexes xs) high → i < low → owner_in i xs o ≡ o
+owner_kept : (xs : List FieldName) (low high i : ℕ) (o : Option ℕ) → AreAscendingWithin low (token_indexes xs) high → i < low → owner_in i xs o ≡ o
 owner_kept [] low high i o h less = refl
 owner_kept (x ∷ xs) low high i o h less =
     let other : (i == x.token) ≡ false = differs (i == x.token) refl in
@@ -117,7 +117,7 @@ module _ (source : TextWithTokens) (k : ℕ) (f : Name) (i : ℕ) where
   abbrev among_here : List FieldName → Bool
   among_here xs = list_any (λ token. i == token) (tokens_of_field source k f xs)
 
-  here_among : (xs : List FieldName) (low high : ℕ) → AreAscending low (token_indexes xs) high → owned_here (owner_in i xs None) ≡ among_here xs
+  here_among : (xs : List FieldName) (low high : ℕ) → AreAscendingWithin low (token_indexes xs) high → owned_here (owner_in i xs None) ≡ among_here xs
   here_among [] low high h = refl
   here_among (x ∷ xs) low high h = one (i == x.token) refl (belongs_to_field source k f x) refl (here_among xs (x.token + 1) high h.1)
     where
@@ -148,7 +148,7 @@ renaming_changes_field_tokens-holds r k f new named fits =
     let table : List (Option ℕ) = table_with_owners empty_table (field_identifiers r) in
     let at = λ (i : ℕ). looked (field_identifiers r) empty_table i within ∙ ap (owner_in i (field_identifiers r)) (vacant n i) in
     let among : (i : ℕ) → is_token_of_field m.source table k f i ≡ list_any (λ token. i == token) (field_tokens r k f) = λ i. ap (owned_here m.source k f i) (at i) ∙ here_among m.source k f i (field_identifiers r) 0 n ascend in
-    renaming_follows_owners-holds m table k f new (entered_fields_complete_owner_table-holds r named fits)
+    renaming_follows_owners-holds m table k f new (table_with_entered_owners_is_owner_table-holds r named fits)
     ∙ (λ j. mapped_tree (λ i. if among i j then new else token_text_at m.source i) (token_value_at m.source) (tree_of m))
 
 -- The field identifier at a place is one of the text's identifiers.

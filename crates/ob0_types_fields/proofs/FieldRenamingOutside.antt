@@ -5,12 +5,12 @@ use Rattle.ob0_language_names.specs.Names.{Name, naming_by_spelling}
 use Rattle.ob0_language_types.specs.Declarations.{constructors_before_procedure_block, constructors_before_variables, constructors_before_procedures, declare_constants_and_types, procedure_constructor_count}
 use Rattle.ob0_language_types.specs.Environments.{meanings, outermost_environment}
 use Rattle.ob0_language_types.specs.WellTyped.{TypeEnvironment, bind_typed_parameters}
-use Rattle.ob0_scope_table.specs.BodyReplaced.{PathToBody, block_without, procedures_without, module_without_body}
+use Rattle.ob0_scope_table.specs.BodyReplaced.{PathToBody, block_without_body, procedures_without_body, module_without_body}
 use Rattle.ob0_tree.specs.Tree.{Tree, block, declares, declares_procedure, end, forms_block, is_module, item, items, module_text, more, procedure}
 use Rattle.ob0_types_fields.proofs.OwnedAround.{procedure_counted}
 
 -- Leaving out the statements of a procedure doesn't change the meanings of names after the procedures.
-same_after : (env : TypeEnvironment Name) (k j : ℕ) (path : PathToBody) (ps : Tree Name (items procedure)) → environment_after_procedures env k (procedures_without j path ps) ≡ environment_after_procedures env k ps
+same_after : (env : TypeEnvironment Name) (k j : ℕ) (path : PathToBody) (ps : Tree Name (items procedure)) → environment_after_procedures env k (procedures_without_body j path ps) ≡ environment_after_procedures env k ps
 same_after env k zero path end = refl
 same_after env k (suc j) path end = refl
 same_after env k zero path (more (declares_procedure x fs b closing) rest) =
@@ -22,7 +22,7 @@ module _ (l : FieldRenaming) where
   mutual
     unfolding declare_constants_and_types
 
-    block_refielded : (env : TypeEnvironment Name) (k : ℕ) (path : PathToBody) (b : Tree Name block) → block_without path (rename_fields_in_block l env k b) ≡ rename_fields_in_block l env k (block_without path b)
+    block_refielded : (env : TypeEnvironment Name) (k : ℕ) (path : PathToBody) (b : Tree Name block) → block_without_body path (rename_fields_in_block l env k b) ≡ rename_fields_in_block l env k (block_without_body path b)
     block_refielded env k [] (forms_block (declares cs ts vs ps) statements) = refl
     block_refielded env k (j ∷ path) (forms_block (declares cs ts vs ps) statements) =
         let b : Tree Name block = forms_block (declares cs ts vs ps) statements in
@@ -31,7 +31,7 @@ module _ (l : FieldRenaming) where
         λ i. forms_block (declares cs (rename_fields_in_type_section l k ts) (rename_fields_in_variable_section l (constructors_before_variables k b) vs) (procedures_refielded inner n j path ps i))
         (rename_fields l (meanings naming_by_spelling (sym (same_after inner n j path ps) i)) None statements)
 
-    procedures_refielded : (env : TypeEnvironment Name) (k j : ℕ) (path : PathToBody) (ps : Tree Name (items procedure)) → procedures_without j path (rename_fields_in_procedures l env k ps) ≡ rename_fields_in_procedures l env k (procedures_without j path ps)
+    procedures_refielded : (env : TypeEnvironment Name) (k j : ℕ) (path : PathToBody) (ps : Tree Name (items procedure)) → procedures_without_body j path (rename_fields_in_procedures l env k ps) ≡ rename_fields_in_procedures l env k (procedures_without_body j path ps)
     procedures_refielded env k zero path end = refl
     procedures_refielded env k (suc j) path end = refl
     procedures_refielded env k zero path (more (declares_procedure x fs b closing) rest) =

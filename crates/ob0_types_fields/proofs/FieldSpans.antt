@@ -12,8 +12,8 @@ use Rattle.ob0_scan.specs.declared.lexeme.Span.{Span}
 use Rattle.ob0_scan.specs.declared.lexeme.TokenKind.TheVariants as kind
 use Rattle.ob0_scan.specs.declared.lexeme.Token.{Token}
 use Rattle.ob0_scan.specs.Lexed.{Lexeme}
-use Rattle.ob0_scan.specs.TextWithTokens.{IsScan, TextWithTokens, span_from, token_at, tokens_from}
-use Rattle.ob0_tree.specs.Order.{AreAscending}
+use Rattle.ob0_scan.specs.TextWithTokens.{IsScan, TextWithTokens, span_from, tokens_of_lexeme, tokens_from}
+use Rattle.ob0_tree.specs.Order.{AreAscendingWithin}
 use Rattle.ob0_scope_table.specs.Resolution.{span_at}
 use Rattle.ob0_scope_table.specs.Spans.{span_or_empty}
 use Rattle.ob0_scope_table.specs.Spans.{is_on_span}
@@ -31,7 +31,7 @@ follow_lower : (less from : ℕ) (ts : List Token) → less ≤ from → Follow 
 follow_lower less from [] low h = tt
 follow_lower less from (t ∷ ts) low h = (omega (arith, low, h.0), h.1)
 
-follow_one : (k : LexemeKind) (from len : ℕ) (ts : List Token) → Follow (from + len) ts → Follow from (token_at k (span_from from len) ++ ts)
+follow_one : (k : LexemeKind) (from len : ℕ) (ts : List Token) → Follow (from + len) ts → Follow from (tokens_of_lexeme k (span_from from len) ++ ts)
 follow_one lexeme.Space from len ts h = follow_lower from (from + len) ts (omega arith) h
 follow_one lexeme.Comment from len ts h = follow_lower from (from + len) ts (omega arith) h
 follow_one (lexeme.Token k) from len ts h = (omega arith, (omega arith, h))
@@ -64,18 +64,18 @@ abbrev end_of : TextWithTokens → FieldName → ℕ
 end_of source x = (span_at source x.token).end
 
 module _ (f : ℕ → ℕ) (n : ℕ) (each : (i j : ℕ) → i ≤ j → j < n → f i ≤ f j) where
-  among : (xs : List FieldName) (low i : ℕ) (d : FieldName) → AreAscending low (token_indexes xs) n → i < length xs → (low ≤ (get_or xs i d).token) × ((get_or xs i d).token < n)
+  among : (xs : List FieldName) (low i : ℕ) (d : FieldName) → AreAscendingWithin low (token_indexes xs) n → i < length xs → (low ≤ (get_or xs i d).token) × ((get_or xs i d).token < n)
   among [] low i d h less = absurd (omega (arith, less))
   among (x ∷ xs) low zero d h less = (h.0, high_enough (token_indexes xs) (x.token + 1) h.1 (omega arith))
     where
-      high_enough : (ys : List ℕ) (at : ℕ) → AreAscending at ys n → x.token + 1 ≤ at → x.token < n
+      high_enough : (ys : List ℕ) (at : ℕ) → AreAscendingWithin at ys n → x.token + 1 ≤ at → x.token < n
       high_enough [] at h low = omega (arith, h, low)
       high_enough (y ∷ ys) at h low = high_enough ys (y + 1) h.1 (omega (arith, h.0, low))
   among (x ∷ xs) low (suc i) d h less =
       let later = among xs (x.token + 1) i d h.1 (omega (arith, less)) in
       (omega (arith, h.0, later.0), later.1)
 
-  rising : (xs : List FieldName) (low : ℕ) → AreAscending low (token_indexes xs) n → IsNonDecreasingBy (λ x. f x.token) xs
+  rising : (xs : List FieldName) (low : ℕ) → AreAscendingWithin low (token_indexes xs) n → IsNonDecreasingBy (λ x. f x.token) xs
   rising [] low h i j d le less = absurd (omega (arith, less))
   rising (x ∷ xs) low h zero zero d le less = omega arith
   rising (x ∷ xs) low h (suc i) zero d le less = absurd (omega (arith, le))

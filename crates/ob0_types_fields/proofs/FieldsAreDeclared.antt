@@ -28,7 +28,7 @@ use Rattle.ob0_language_fields.proofs.Bare.{bare}
 use Rattle.ob0_types_fields.specs.declared.field_name.FieldName.{FieldName}
 use Rattle.ob0_types_fields.specs.Identifiers.{FieldsAreDeclared, field_declaring_token, field_identifiers, field_tokens, belongs_to_field, tokens_of_field}
 use Rattle.ob0_types_fields.specs.Owned.{fields_with_owners, owners_in_resolution, meanings_by_token}
-use Rattle.ob0_types_fields.proofs.DuplicateFields.{duplicate_has_declaring_token-holds}
+use Rattle.ob0_types_fields.proofs.DuplicateFields.{duplicate_field_name_has_declaring_token-holds}
 use Rattle.ob0_types_fields.proofs.FieldNameList.{renaming_changes_field_tokens-holds}
 use Rattle.ob0_types_fields.proofs.OwnedTokens.{module-tokens, tokens}
 
@@ -152,7 +152,7 @@ module _ (r : Resolution) (named : IsResolution r) (fits : WellTyped (named_tree
   unfolding WellTyped
   unchanged none =
       let free : is_duplicate_field (named_tree_of m) x.owner (another f) f ≡ false =
-      duplicate_has_declaring_token-holds m x.owner (another f) f ∙ (ap (λ b. not (same_name f (another f)) && b) none ∙ and-false (not (same_name f (another f)))) in
+      duplicate_field_name_has_declaring_token-holds m x.owner (another f) f ∙ (ap (λ b. not (same_name f (another f)) && b) none ∙ and-false (not (same_name f (another f)))) in
       sym (rename_fields_in_module-bare (named_tree_of m))
       ∙ (sym (module-alike (single_field_renaming x.owner f (another f)) bare (named_tree_of m) (records_kept x.owner f (records (named_tree_of m)) free) fits.1)
       ∙ renaming_changes_field_tokens-holds r x.owner f (another f) named fits)

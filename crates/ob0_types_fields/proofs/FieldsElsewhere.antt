@@ -5,9 +5,9 @@ use Rattle.std.proofs.Math.Nat.{min-eq_left}
 use Rattle.std.proofs.lemmas.List.{map-append}
 use Rattle.std.proofs.lemmas.Bool.{lt-leb, le-leb, le-ltb, lt-ltb}
 use Rattle.std.specs.List.{AllByRecursion}
-use Rattle.ob0_scan.specs.declared.tokens.SameParts.{SameParts}
+use Rattle.ob0_scan.specs.declared.tokens.CommonPrefixAndSuffix.{CommonPrefixAndSuffix}
 use Rattle.ob0_tree.specs.declared.tree.Role.TheVariants as role
-use Rattle.ob0_tree.specs.Order.{AreAscending, identifier_names}
+use Rattle.ob0_tree.specs.Order.{AreAscendingWithin, identifier_names}
 use Rattle.ob0_tree.specs.ParsedModule.{named_tree_of, tree_of}
 use Rattle.ob0_tree.specs.Places.{tree_with_names, token_text_at, token_value_at}
 use Rattle.ob0_tree.specs.Tree.{Tree, body, identifiers, mapped_tree, maybe, module_text}
@@ -30,14 +30,14 @@ use Rattle.ob0_scope_table.proofs.Moved.{moved_above, moved_below}
 use Rattle.ob0_types_table.specs.KnownTables.{Tables, declared_object_in}
 use Rattle.ob0_types_fields.specs.declared.field_name.FieldName.{FieldName}
 use Rattle.ob0_types_fields.specs.Identifiers.{declared_fields, fields_declared_in_block, field_identifiers}
-use Rattle.ob0_types_fields.specs.FieldLists.{AreFieldListsOf, FieldLists, moved_field, fields_before, fields_from, old_token_index}
+use Rattle.ob0_types_fields.specs.FieldLists.{AreFieldListsOf, FieldLists, moved_field, fields_before, fields_at_or_after, old_token_index}
 use Rattle.ob0_types_fields.specs.Owned.{AgreesWithOwnerList, fields_with_owners, fields_in_tree, owners_in_tree, owners_in_module, owners_in_resolution, meanings_by_token}
 use Rattle.ob0_types_fields.specs.Owners.{renaming_by_record}
 use Rattle.ob0_types_fields.proofs.DeclaredMoved.{among_placed, declared_among, declared_placed, declared_without, field_placed, placed}
 use Rattle.ob0_types_fields.proofs.WalkFindsAllFields.{fields_in_tree-fields, module-fields}
 use Rattle.ob0_types_fields.proofs.OwnedAround.{IsAround, module_split}
 use Rattle.ob0_types_fields.proofs.OwnedStatements.{owners_split}
-use Rattle.ob0_types_fields.proofs.OwnedTokens.{fields_have-owners, module-tokens, owners_in_tree-tokens, entered_fields_complete_owner_table-holds, tokens, with_owners}
+use Rattle.ob0_types_fields.proofs.OwnedTokens.{fields_have-owners, module-tokens, owners_in_tree-tokens, table_with_entered_owners_is_owner_table-holds, tokens, with_owners}
 use Rattle.ob0_types_fields.proofs.FieldRenamingOutside.{refielded_without}
 use Rattle.ob0_types_fields.proofs.SplitAroundClosingName.{AreBetween, Between, all_between, among_each, between, fields_around, keeps_first, keeps_last, same_seam, weaker}
 
@@ -46,7 +46,7 @@ use Rattle.ob0_types_fields.proofs.SplitAroundClosingName.{AreBetween, Between, 
 at_most : (n : ℕ) → n < 2 ^ 64 → n ≡ min n (2 ^ 64 - 1)
 at_most n less = sym (min-eq_left (omega (arith, less)))
 
-module _ (s : SameParts) where
+module _ (s : CommonPrefixAndSuffix) where
   stays : (xs : List (ℕ × Option ℕ)) → AllByRecursion (λ x. x.0 < s.prefix) xs → map (placed (moved_token_index s)) xs ≡ xs
   stays [] h = refl
   stays ((x, o) ∷ xs) h = λ i. (moved_below s x h.0 i, o) ∷ stays xs h.1 i
@@ -119,9 +119,9 @@ written_without q path named_q fits =
     let writes : ℕ → Name = λ i. renaming_by_record with_owner (ordinal_in (with_owners q) i) (token_text_at m.source i) in
     sym (ap (rename_fields_in_module (renaming_by_record with_owner)) (without_mapped (token_text_at m.source) (token_value_at m.source) path (tree_of m)))
     ∙ (sym (refielded_without (renaming_by_record with_owner) path (named_tree_of m))
-    ∙ (ap (module_without_body path) (entered_fields_complete_owner_table-holds q named_q fits with_owner) ∙ without_mapped writes (token_value_at m.source) path (tree_of m)))
+    ∙ (ap (module_without_body path) (table_with_entered_owners_is_owner_table-holds q named_q fits with_owner) ∙ without_mapped writes (token_value_at m.source) path (tree_of m)))
 
-module _ (old r : Resolution) (path : PathToBody) (s : SameParts) (is : IsBodyReplaced old.module_read r.module_read path s)
+module _ (old r : Resolution) (path : PathToBody) (s : CommonPrefixAndSuffix) (is : IsBodyReplaced old.module_read r.module_read path s)
     (was_named : IsResolution old) (is_named : IsResolution r) (was_typed : WellTyped (named_tree_of old.module_read)) (is_typed : WellTyped (named_tree_of r.module_read)) where
   abbrev before : Tree ℕ module_text
   before = tree_of old.module_read
@@ -177,13 +177,13 @@ module _ (old r : Resolution) (path : PathToBody) (s : SameParts) (is : IsBodyRe
   between_before : AreBetween around_before.before inner_before around_before.after is.first (closing_name_at_path path before) (length old.module_read.source.tokens)
   between_before =
       between around_before.before inner_before around_before.after is.first (closing_name_at_path path before) (length old.module_read.source.tokens) (identifiers role.Declaring (body_at_path path before))
-      (subst (λ xs. AreAscending 0 xs (length old.module_read.source.tokens)) (sym (module-tokens meant_before before) ∙ ap tokens around_before.whole) (leaves_ascend old.module_read is.old_parsed))
+      (subst (λ xs. AreAscendingWithin 0 xs (length old.module_read.source.tokens)) (sym (module-tokens meant_before before) ∙ ap tokens around_before.whole) (leaves_ascend old.module_read is.old_parsed))
       (owners_in_tree-tokens meant_before None (body_at_path path before)) is.first_identifier_of_old_body
 
   between_now : AreBetween around_now.before inner_now around_now.after is.first (closing_name_at_path path now) (length r.module_read.source.tokens)
   between_now =
       between around_now.before inner_now around_now.after is.first (closing_name_at_path path now) (length r.module_read.source.tokens) (identifiers role.Declaring (body_at_path path now))
-      (subst (λ xs. AreAscending 0 xs (length r.module_read.source.tokens)) (sym (module-tokens meant_now now) ∙ ap tokens around_now.whole) (leaves_ascend r.module_read is.new_parsed))
+      (subst (λ xs. AreAscendingWithin 0 xs (length r.module_read.source.tokens)) (sym (module-tokens meant_now now) ∙ ap tokens around_now.whole) (leaves_ascend r.module_read is.new_parsed))
       (owners_in_tree-tokens meant_now None (body_at_path path now)) is.first_identifier_of_new_body
 
   -- ---- the identifiers before the body and after it
@@ -252,11 +252,11 @@ module _ (old r : Resolution) (path : PathToBody) (s : SameParts) (is : IsBodyRe
       (among_each (λ t. nat_lt t is.first ≡ false) inner_before (weaker (λ x. (is.first ≤ x.0) × (x.0 < closing_name_at_path path before)) (λ x. nat_lt x.0 is.first ≡ false) (λ x h. le-ltb x.0 is.first h.0) inner_before b.inside))
       (among_each (λ t. nat_lt t is.first ≡ false) around_before.after (weaker (λ x. (closing_name_at_path path before + 1 ≤ x.0) × (x.0 < length old.module_read.source.tokens)) (λ x. nat_lt x.0 is.first ≡ false) (λ x h. le-ltb x.0 is.first (omega (arith, h.0, b.reaches))) around_before.after b.above))
 
-  kept_after : fields_from (closing_name_at_path path before) (field_identifiers old) ≡ fields_with_owners around_before.after
+  kept_after : fields_at_or_after (closing_name_at_path path before) (field_identifiers old) ≡ fields_with_owners around_before.after
   kept_after =
       let b = between_before in
       let c : ℕ = closing_name_at_path path before in
-      ap (fields_from c) all_before
+      ap (fields_at_or_after c) all_before
       ∙ keeps_last (λ x. nat_le c x.token) (fields_with_owners around_before.before) (fields_with_owners inner_before) (fields_with_owners around_before.after)
       (among_each (λ t. nat_le c t ≡ false) around_before.before (weaker (λ x. x.0 < is.first) (λ x. nat_le c x.0 ≡ false) (λ x h. lt-leb c x.0 (omega (arith, h, b.reaches))) around_before.before b.below))
       (among_each (λ t. nat_le c t ≡ false) inner_before (weaker (λ x. (is.first ≤ x.0) × (x.0 < c)) (λ x. nat_le c x.0 ≡ false) (λ x h. lt-leb c x.0 h.1) inner_before b.inside))
@@ -282,7 +282,7 @@ module _ (old r : Resolution) (path : PathToBody) (s : SameParts) (is : IsBodyRe
   all_few : AllByRecursion (λ x. x.token < 2 ^ 64) (field_identifiers r)
   all_few =
       let top : ℕ = length r.module_read.source.tokens in
-      let rise = subst (λ xs. AreAscending 0 xs top) (sym (module-tokens meant_now now)) (leaves_ascend r.module_read is.new_parsed) in
+      let rise = subst (λ xs. AreAscendingWithin 0 xs top) (sym (module-tokens meant_now now)) (leaves_ascend r.module_read is.new_parsed) in
       among_each (λ t. t < 2 ^ 64) (owners_in_resolution r) (weaker (Between 0 top) (λ x. x.0 < 2 ^ 64) (λ x h. omega (arith, h.1, few)) (owners_in_resolution r) (all_between 0 (owners_in_resolution r) top rise))
 
   declared_few : AllByRecursion (λ x. moved_token_index s x.token < 2 ^ 64) (declared_fields old.module_read)
@@ -295,13 +295,13 @@ module _ (old r : Resolution) (path : PathToBody) (s : SameParts) (is : IsBodyRe
   pub fields_elsewhere : (fields f : FieldLists) (t : Tables) → AreFieldListsOf old fields → ((k : ℕ) → declared_object_in t k ≡ declared_object (named_tree_of r.module_read) k)
       → (statements : Tree ℕ (maybe body)) → statements ≡ body_at_path path now → (first closing : ℕ) → token_of_first_identifier (identifiers role.Declaring (body_at_path path now)) ≡ Some first → closing ≡ closing_name_at_path path now
       → f.declared ≡ map (moved_field s) fields.declared
-      → f.all ≡ fields_before first fields.all ++ (fields_in_tree (meanings_by_token (declared_object_in t) r) statements ++ map (moved_field s) (fields_from (old_token_index s closing) fields.all))
+      → f.all ≡ fields_before first fields.all ++ (fields_in_tree (meanings_by_token (declared_object_in t) r) statements ++ map (moved_field s) (fields_at_or_after (old_token_index s closing) fields.all))
       → AreFieldListsOf r f
   fields_elsewhere fields f t were holds statements here first closing begins closes of_declared of_all =
       let same : first ≡ is.first = ap (λ o. unwrap_or o first) (sym begins ∙ is.first_identifier_of_new_body) in
       let at : old_token_index s closing ≡ closing_name_at_path path before = ap (old_token_index s) closes ∙ closing_before in (
         of_declared ∙ (ap (map (moved_field s)) were.0 ∙ (sym (same_places s (declared_fields old.module_read) declared_few) ∙ sym declared_now)),
         of_all
-            ∙ ((λ i. fields_before (same i) (were.1 i) ++ (fields_in_tree (meanings_by_token (λ k. holds k i) r) (here i) ++ map (moved_field s) (fields_from (at i) (were.1 i))))
+            ∙ ((λ i. fields_before (same i) (were.1 i) ++ (fields_in_tree (meanings_by_token (λ k. holds k i) r) (here i) ++ map (moved_field s) (fields_at_or_after (at i) (were.1 i))))
             ∙ ((λ i. kept_before i ++ (fields_in_tree meant_now (body_at_path path now) ++ map (moved_field s) (kept_after i))) ∙ sym all_now)),
       )

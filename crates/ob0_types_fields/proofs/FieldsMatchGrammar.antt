@@ -11,7 +11,7 @@ use Rattle.ob0_tree.specs.Places.{token_text_at, token_value_at}
 use Rattle.ob0_tree.specs.Tree.{Sort, Tree, addend, adds, arguments, array_type, assigns, begins, block, body, branches, calls, compares, constant, constants, declares, declares_constant, declares_constants, declares_procedure, declares_type, declares_types, declares_variable, declares_variables, designator, else_branch, else_part, elsif_branch, elsif_part, empty, end, expression, factor, field, fields, formals, further_argument, further_fields, further_name, further_section, further_statement, forms_block, identifiers, index, integer, is_module, item, items, listed, mapped_tree, maybe, module_text, more, multiplier, multiplies, named_type, names, negation, no_arguments, no_fields, no_formals, none, one, parenthesised, procedure, product, record_type, relates, repeat_loop, runs, section, selector, sequence, simple, some_arguments, some_fields, some_formals, statement, sum, term, then_argument, then_fields, then_name, then_section, then_statement, type_definition, type_definitions, value_section, variable, variable_section, variables, while_loop, written_type}
 use Rattle.ob0_language_names.specs.Mapping.{map_names}
 use Rattle.ob0_language_names.specs.Names.{Name, naming_by_spelling}
-use Rattle.ob0_language_names.specs.Parts.{formal_sections, names_in_list, procedure_formals, procedure_name, section_constants, section_names, section_type, section_types, section_variables}
+use Rattle.ob0_language_names.specs.Parts.{formal_sections, names_in_list, procedure_formals, procedure_name, section_constants, parameter_section_names, parameter_section_type, section_types, section_variables}
 use Rattle.ob0_language_names.proofs.Peeling.{heads}
 use Rattle.ob0_scope_table.specs.Resolution.{ordinal_in}
 use Rattle.ob0_language_types.specs.Declarations.{constructors_before_procedure_block, constructors_before_variables, constructors_before_procedures, declare_constants, declare_constants_and_types, declare_types, procedure_constructor_count}
@@ -296,7 +296,7 @@ variable_section-marked : (env : TypeEnvironment Name) (k : ℕ) (vs : Tree Name
 variable_section-marked env k none after h = refl
 variable_section-marked env k (one (declares_variables vs)) after h = variables-marked env k vs after h
 
-section-marked : (m : TypeMeanings Name) (k : ℕ) (f : Tree Name section) (s : Shape) → denoted_type m k (section_type f) ≡ Some s → ids (rename_fields_in_section every k f) ≡ marked (ids f)
+section-marked : (m : TypeMeanings Name) (k : ℕ) (f : Tree Name section) (s : Shape) → denoted_type m k (parameter_section_type f) ≡ Some s → ids (rename_fields_in_section every k f) ≡ marked (ids f)
 section-marked m k (value_section ns u) s h = both mark_at (ids ns) (ids u) (names_declared ns) (type-marked m k u s h)
 section-marked m k (variable_section ns u) s h = both mark_at (ids ns) (ids u) (names_declared ns) (type-marked m k u s h)
 
@@ -304,10 +304,10 @@ sections-marked : (env : TypeEnvironment Name) (k : ℕ) (fs : Tree Name (items 
 unfolding typed_parameters
 sections-marked env k end ps h = refl
 sections-marked env k (more (then_section f) fs) ps h =
-    let (s, es, h₁) = then_some (denoted_type (meanings naming_by_spelling env) k (section_type f)) (λ s. option_and_then (λ rest. Some (map (parameter_of (section_mode f) s) (section_names f) ++ rest)) (typed_parameters naming_by_spelling (bind_names (section_names f) (a_variable s) env) (k + constructor_count (section_type f)) fs)) ps h in
-    let (rest, er, h₂) = then_some (typed_parameters naming_by_spelling (bind_names (section_names f) (a_variable s) env) (k + constructor_count (section_type f)) fs) (λ rest. Some (map (parameter_of (section_mode f) s) (section_names f) ++ rest)) ps h₁ in
+    let (s, es, h₁) = then_some (denoted_type (meanings naming_by_spelling env) k (parameter_section_type f)) (λ s. option_and_then (λ rest. Some (map (parameter_of (section_mode f) s) (parameter_section_names f) ++ rest)) (typed_parameters naming_by_spelling (bind_names (parameter_section_names f) (a_variable s) env) (k + constructor_count (parameter_section_type f)) fs)) ps h in
+    let (rest, er, h₂) = then_some (typed_parameters naming_by_spelling (bind_names (parameter_section_names f) (a_variable s) env) (k + constructor_count (parameter_section_type f)) fs) (λ rest. Some (map (parameter_of (section_mode f) s) (parameter_section_names f) ++ rest)) ps h₁ in
     both mark_at (ids f) (ids fs) (section-marked (meanings naming_by_spelling env) k f s es)
-    (sections-marked (bind_names (section_names f) (a_variable s) env) (k + constructor_count (section_type f)) fs rest er)
+    (sections-marked (bind_names (parameter_section_names f) (a_variable s) env) (k + constructor_count (parameter_section_type f)) fs rest er)
 
 formals-marked : (env : TypeEnvironment Name) (k : ℕ) (fs : Tree Name (maybe formals)) (ps : List (TypedParameter Name)) → typed_parameters naming_by_spelling env k (formal_sections fs) ≡ Some ps → ids (rename_fields_in_formals every k fs) ≡ marked (ids fs)
 formals-marked env k none ps h = refl

@@ -1,9 +1,9 @@
 -- The walks over the names of a group and over the groups of a record find the declared fields.
 use Rattle.std.proofs.Common.{◌≡◌, ℕ, ◌+◌, ◌≤◌, List, [], ◌∷◌, ◌++◌, length, drop, refl, sym, ap, ◌∙◌, append-nil}
 use Rattle.std.proofs.lemmas.List.{drop_all}
-use Rattle.ob0_tree.specs.declared.tree.Fields.{Fields}
+use Rattle.ob0_tree.specs.declared.tree.OptionalFieldGroup.{OptionalFieldGroup}
 use Rattle.ob0_tree.specs.Tree.{then_name}
-use Rattle.ob0_tree.specs.View.{further_fields_of_group, items_of}
+use Rattle.ob0_tree.specs.View.{further_field_group_of, items_of}
 use Rattle.ob0_language_names.specs.Parts.{further_names}
 use Rattle.ob0_language_types.specs.Typing.{groups_constructor_count}
 use Rattle.ob0_types_fields.specs.declared.field_name.FieldName.{FieldName}
@@ -22,6 +22,6 @@ further_listed (x ∷ xs) = ap (λ z. x ∷ z) (further_listed xs)
 
 -- Holds if the fields so far, followed by the fields of the remaining groups, are the fields of all groups. The words
 -- ARRAY and RECORD so far and in the remaining groups must be as many as in all groups.
-pub record OverGroups (r k : ℕ) (start : List FieldName) (xs : List Fields) (done : ℕ) (out : List FieldName) (next : ℕ) : Type 0 where
-  pub so_far : out ++ fields_in_groups r next (items_of further_fields_of_group (drop done xs)) ≡ start ++ fields_in_groups r k (items_of further_fields_of_group xs)
-  pub counted : next + groups_constructor_count (items_of further_fields_of_group (drop done xs)) ≡ k + groups_constructor_count (items_of further_fields_of_group xs)
+pub record OverGroups (r k : ℕ) (start : List FieldName) (xs : List OptionalFieldGroup) (done : ℕ) (out : List FieldName) (next : ℕ) : Type 0 where
+  pub so_far : out ++ fields_in_groups r next (items_of further_field_group_of (drop done xs)) ≡ start ++ fields_in_groups r k (items_of further_field_group_of xs)
+  pub counted : next + groups_constructor_count (items_of further_field_group_of (drop done xs)) ≡ k + groups_constructor_count (items_of further_field_group_of xs)

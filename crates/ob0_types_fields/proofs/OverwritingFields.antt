@@ -5,10 +5,10 @@ use Rattle.std.proofs.Math.Seq.{set-append_seam}
 use Rattle.std.proofs.lemmas.Bool.{cases_lt, ltb-false, ltb-true}
 use Rattle.std.proofs.lemmas.List.{append_cancel_left, length-map, map-append, nil_from_length, set_past}
 use Rattle.std.specs.List.Sorted.{IsNonDecreasingBy, IsPartitionPoint}
-use Rattle.ob0_tree.specs.Order.{AreAscending}
+use Rattle.ob0_tree.specs.Order.{AreAscendingWithin}
 use Rattle.ob0_types_fields.specs.declared.field_name.FieldName.{FieldName}
 use Rattle.ob0_types_fields.specs.Identifiers.{token_indexes}
-use Rattle.ob0_types_fields.specs.FieldLists.{HasSameTokensWith, overwritten_fields}
+use Rattle.ob0_types_fields.specs.FieldLists.{HasSameTokensIfReplaced, overwritten_fields}
 
 pub past_end : (xs : List FieldName) (k : ℕ) (ys : List FieldName) → length xs ≤ k → overwritten_fields xs k ys ≡ xs
 past_end xs k [] le = refl
@@ -28,12 +28,12 @@ over_as_many before (x ∷ old) (y ∷ ys) after e =
 
 -- ---- tokens in text order
 
-item_bounds : (xs : List ℕ) (low top i d : ℕ) → AreAscending low xs top → i < length xs → low ≤ get_or xs i d
+item_bounds : (xs : List ℕ) (low top i d : ℕ) → AreAscendingWithin low xs top → i < length xs → low ≤ get_or xs i d
 item_bounds [] low top i d h less = absurd (omega (arith, less))
 item_bounds (x ∷ xs) low top zero d h less = h.0
 item_bounds (x ∷ xs) low top (suc i) d h less = let later = item_bounds xs (x + 1) top i d h.1 (omega (arith, less)) in omega (arith, h.0, later)
 
-pub tokens_rise : (xs : List FieldName) (low top : ℕ) → AreAscending low (token_indexes xs) top → IsNonDecreasingBy (λ x. x.token) xs
+pub tokens_rise : (xs : List FieldName) (low top : ℕ) → AreAscendingWithin low (token_indexes xs) top → IsNonDecreasingBy (λ x. x.token) xs
 tokens_rise [] low top h i j d le less = absurd (omega (arith, less))
 tokens_rise (x ∷ xs) low top h zero zero d le less = omega arith
 tokens_rise (x ∷ xs) low top h (suc i) zero d le less = absurd (omega (arith, le))
@@ -45,11 +45,11 @@ tokens_rise (x ∷ xs) low top h zero (suc j) d le less =
 tokens_rise (x ∷ xs) low top h (suc i) (suc j) d le less = tokens_rise xs (x.token + 1) top h.1 i j d (omega (arith, le)) (omega (arith, less))
 
 -- The tokens before a token of an ascending list are lower.
-below_seam : (before : List ℕ) (x : ℕ) (rest : List ℕ) (low top i d : ℕ) → AreAscending low (before ++ x ∷ rest) top → i < length before → get_or (before ++ x ∷ rest) i d < x
+below_seam : (before : List ℕ) (x : ℕ) (rest : List ℕ) (low top i d : ℕ) → AreAscendingWithin low (before ++ x ∷ rest) top → i < length before → get_or (before ++ x ∷ rest) i d < x
 below_seam [] x rest low top i d h less = absurd (omega (arith, less))
 below_seam (y ∷ before) x rest low top zero d h less = from_start before (y + 1) h.1 (omega arith)
   where
-    from_start : (ys : List ℕ) (least : ℕ) → AreAscending least (ys ++ x ∷ rest) top → y + 1 ≤ least → y < x
+    from_start : (ys : List ℕ) (least : ℕ) → AreAscendingWithin least (ys ++ x ∷ rest) top → y + 1 ≤ least → y < x
     from_start [] least h le = omega (arith, h.0, le)
     from_start (z ∷ ys) least h le = from_start ys (z + 1) h.1 (omega (arith, h.0, le))
 below_seam (y ∷ before) x rest low top (suc i) d h less = below_seam before x rest (y + 1) top i d h.1 (omega (arith, less))
@@ -60,7 +60,7 @@ at_seam (y ∷ before) x rest d = at_seam before x rest d
 
 -- ---- the position at which they are written
 
-module _ (all before others after : List FieldName) (h : HasSameTokensWith all before others after) where
+module _ (all before others after : List FieldName) (h : HasSameTokensIfReplaced all before others after) where
   parts_same : token_indexes h.replaced_fields ++ token_indexes after ≡ token_indexes others ++ token_indexes after
   parts_same =
       append_cancel_left (token_indexes before) (token_indexes h.replaced_fields ++ token_indexes after) (token_indexes others ++ token_indexes after)
@@ -91,8 +91,8 @@ module _ (all before others after : List FieldName) (h : HasSameTokensWith all b
     tokens_are =
         h.same ∙ (map-append (λ x. x.token) before (others ++ after) ∙ ap (λ l. token_indexes before ++ l) (map-append (λ x. x.token) others after ∙ ap (λ l. token_indexes l ++ token_indexes after) e))
 
-    in_order : AreAscending 0 (token_indexes before ++ y.token ∷ (token_indexes ys ++ token_indexes after)) h.token_limit
-    in_order = subst (λ l. AreAscending 0 l h.token_limit) tokens_are h.in_order
+    in_order : AreAscendingWithin 0 (token_indexes before ++ y.token ∷ (token_indexes ys ++ token_indexes after)) h.token_limit
+    in_order = subst (λ l. AreAscendingWithin 0 l h.token_limit) tokens_are h.in_order
 
     token_there : (i : ℕ) (d : FieldName) → (get_or all i d).token ≡ get_or (token_indexes before ++ y.token ∷ (token_indexes ys ++ token_indexes after)) i d.token
     token_there i d = sym (get_or-map (λ x. x.token) all i d) ∙ ap (λ l. get_or l i d.token) tokens_are
@@ -118,11 +118,11 @@ module _ (all before others after : List FieldName) (h : HasSameTokensWith all b
         (λ same. omega (arith, le, same)) (cases_lt (length before) k))
         (cases_lt k (length before))
 
-pub without_others : (all before others after : List FieldName) → HasSameTokensWith all before others after → slice_get others 0 ≡ None → all ≡ before ++ (others ++ after)
+pub without_others : (all before others after : List FieldName) → HasSameTokensIfReplaced all before others after → slice_get others 0 ≡ None → all ≡ before ++ (others ++ after)
 without_others all before [] after h e = none_over all before [] after h refl
 without_others all before (z ∷ zs) after h e = absurd (cc)
 
-pub start_found : (all before others after : List FieldName) → HasSameTokensWith all before others after → (y : FieldName) → slice_get others 0 ≡ Some y
+pub start_found : (all before others after : List FieldName) → HasSameTokensIfReplaced all before others after → (y : FieldName) → slice_get others 0 ≡ Some y
     → (k : ℕ) → IsPartitionPoint (λ x. nat_lt x.token y.token ≡ true) (λ x. nat_lt x.token y.token ≡ false) all k → k ≡ length before
 start_found all before [] after h y e k point = absurd (cc)
 start_found all before (z ∷ zs) after h y e k point =

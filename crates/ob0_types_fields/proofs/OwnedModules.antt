@@ -14,7 +14,7 @@ use Rattle.ob0_language_names.specs.Occurrences.{label_ordinal}
 use Rattle.ob0_language_names.specs.Parts.{block_procedures, block_statements, block_variables, formal_names, formal_sections, module_block, procedure_block, section_types, section_variables}
 use Rattle.ob0_scope_table.specs.Resolution.{Resolution, ordinal_in}
 use Rattle.ob0_scope_table.proofs.Bound.{label_back}
-use Rattle.ob0_language_names.specs.Scopes.{Scope, ordinal_after_block, ordinal_after_names, ordinal_after_procedure, ordinal_after_procedures, label_from_ordinal, declare_names, declare_procedure_names, first_procedure_ordinal, first_type_ordinal, first_variable_ordinal, numbered, ordinal_of, procedures_scope, relabel_block, relabel_formals, relabel_procedures, relabel_sections, relabel_uses, types_scope, variables_scope, label_of}
+use Rattle.ob0_language_names.specs.Scopes.{Scope, ordinal_after_block, ordinal_after_names, ordinal_after_procedure, ordinal_after_procedures, label_from_ordinal, declare_names, declare_procedure_names, first_procedure_ordinal, first_type_ordinal, first_variable_ordinal, numbered, ordinal_of, scope_before_procedures, relabel_block, relabel_formals, relabel_procedures, relabel_sections, relabel_uses, scope_before_types, scope_before_variables, label_of}
 use Rattle.ob0_language_names.proofs.OccurrenceNames.{occurrences-map_names}
 use Rattle.ob0_language_names.proofs.OccurrencesMapped.{occurrences-mapped_tree}
 use Rattle.ob0_language_names.proofs.Ordinals.{le-ordinal_after_procedure}
@@ -59,7 +59,7 @@ record Opened (noted : TypeNoted Name) (j k : ℕ) (b : Tree Name block) : Type 
   pub listed : block_bindings naming_by_label (typed_by_ordinal noted) j (relabel_block naming_by_spelling (label_from_ordinal naming_by_spelling) (typed_scope noted) k b)
       ≡ procedures_bindings naming_by_label (typed_by_ordinal last) (constructors_before_procedures j (relabel_block naming_by_spelling (label_from_ordinal naming_by_spelling) (typed_scope noted) k b)) (block_procedures (relabel_block naming_by_spelling (label_from_ordinal naming_by_spelling) (typed_scope noted) k b)) ++ grown.bound
   pub named : environment_after_variables (typed_by_name noted) j b ≡ typed_by_name last
-  pub within : TypedWithin (first_procedure_ordinal k b) (procedures_scope k b (typed_scope noted)) last
+  pub within : TypedWithin (first_procedure_ordinal k b) (scope_before_procedures k b (typed_scope noted)) last
   pub fits : procedures_are_well_typed naming_by_label (typed_by_ordinal last) (constructors_before_procedures j (relabel_block naming_by_spelling (label_from_ordinal naming_by_spelling) (typed_scope noted) k b)) (block_statements (relabel_block naming_by_spelling (label_from_ordinal naming_by_spelling) (typed_scope noted) k b)) (block_procedures (relabel_block naming_by_spelling (label_from_ordinal naming_by_spelling) (typed_scope noted) k b)) ≡ true
 
 opened : (noted : TypeNoted Name) (j k : ℕ) → TypedBelow k noted → (b : Tree Name block) → block_is_well_typed naming_by_label (typed_by_ordinal noted) j (relabel_block naming_by_spelling (label_from_ordinal naming_by_spelling) (typed_scope noted) k b) ≡ true → Opened noted j k b
@@ -67,7 +67,7 @@ opened noted j k below b h =
     let env : TypeEnvironment Label = typed_by_ordinal noted in
     let b' : Tree Label block = relabel_block naming_by_spelling (label_from_ordinal naming_by_spelling) (typed_scope noted) k b in
     let parts = block-parts env j b' h in
-    let f = found typed_by_name typed_by_ordinal (TypedWithin (first_procedure_ordinal k b) (procedures_scope k b (typed_scope noted)))
+    let f = found typed_by_name typed_by_ordinal (TypedWithin (first_procedure_ordinal k b) (scope_before_procedures k b (typed_scope noted)))
     (option_and_then (declare_typed_variables naming_by_spelling (constructors_before_variables j b) (block_variables b)) (declare_constants_and_types naming_by_spelling (typed_by_name noted) j b)) (declare_block naming_by_label env j b') (declarations_typed naming_by_spelling j k noted below b) parts.0 parts.1 in
     let last : TypeNoted Name = f.0 in
     let same : typed_by_ordinal last ≡ parts.0 = f.2 in
@@ -206,8 +206,8 @@ module _ (l : ℕ → Name → Name) (at : ℕ → Option ℕ) (text : ℕ → N
   labelled_count : (scope : Scope Name) (j k : ℕ) (b : Tree Name block) → constructors_before_procedures j (relabel_block naming_by_spelling (label_from_ordinal naming_by_spelling) scope k b) ≡ constructors_before_procedures j b
   labelled_count scope j k (forms_block (declares cs ts vs ps) st) =
       let b : Tree Name block = forms_block (declares cs ts vs ps) st in
-      λ i. j + (ap types_constructor_count (types-section naming_by_spelling (label_from_ordinal naming_by_spelling) (types_scope k b scope) (first_type_ordinal k b) ts) ∙ types_constructor_count-relabel naming_by_spelling (label_from_ordinal naming_by_spelling) (types_scope k b scope) (first_type_ordinal k b) (section_types ts)) i
-      + (ap variables_constructor_count (variables-section naming_by_spelling (label_from_ordinal naming_by_spelling) (variables_scope k b scope) (first_variable_ordinal k b) vs) ∙ variables_constructor_count-relabel naming_by_spelling (label_from_ordinal naming_by_spelling) (variables_scope k b scope) (first_variable_ordinal k b) (section_variables vs)) i
+      λ i. j + (ap types_constructor_count (types-section naming_by_spelling (label_from_ordinal naming_by_spelling) (scope_before_types k b scope) (first_type_ordinal k b) ts) ∙ types_constructor_count-relabel naming_by_spelling (label_from_ordinal naming_by_spelling) (scope_before_types k b scope) (first_type_ordinal k b) (section_types ts)) i
+      + (ap variables_constructor_count (variables-section naming_by_spelling (label_from_ordinal naming_by_spelling) (scope_before_variables k b scope) (first_variable_ordinal k b) vs) ∙ variables_constructor_count-relabel naming_by_spelling (label_from_ordinal naming_by_spelling) (scope_before_variables k b scope) (first_variable_ordinal k b) (section_variables vs)) i
 
   statements-written : (noted last : TypeNoted Name) (n : ℕ) → TypedBelow n last → Right objects (typed_by_ordinal last) → (scope : Scope Name) → typed_scope last ≡ scope → (st : Tree ℕ (maybe body))
       → body_is_well_typed naming_by_label (typed_by_ordinal last) (relabel_uses naming_by_spelling (label_from_ordinal naming_by_spelling) scope (mapped_tree text value st)) ≡ true → relabel_uses naming_by_spelling (label_from_ordinal naming_by_spelling) scope (mapped_tree text value st) ≡ mapped_tree label value st
@@ -250,7 +250,7 @@ module _ (l : ℕ → Name → Name) (at : ℕ → Option ℕ) (text : ℕ → N
             let s2 = owners_split at (owners_in_type_section j ts) (B ++ C) s1.1 in
             let s3 = owners_split at B C s2.1 in
             let r = q.written right_last two.0 (ap (λ s. relabel_procedures naming_by_spelling (label_from_ordinal naming_by_spelling) s kp nps) o.within.0 ∙ ap block_procedures numbered) s3.1 in
-            let following_all : typed_scope q.last ≡ declare_procedure_names kp nps (procedures_scope k nb scope) = q.scoped ∙ ap (declare_procedure_names kp nps) o.within.0 in
+            let following_all : typed_scope q.last ≡ declare_procedure_names kp nps (scope_before_procedures k nb scope) = q.scoped ∙ ap (declare_procedure_names kp nps) o.within.0 in
             let variables-written : rename_fields_in_variable_section (renaming_by_record l) (constructors_before_variables j nb) (mapped_tree text value vs) ≡ mapped_tree (λ i. renaming_by_record l (at i) (text i)) value vs =
             (λ i. rename_fields_in_variable_section (renaming_by_record l) (j + counted_type_section text value ts i) (mapped_tree text value vs)) ∙ variable_section-owners_in_tree l at text value (constructors_before_variables j b) vs s3.0 in
             let procedures-written : rename_fields_in_procedures (renaming_by_record l) (environment_after_variables (typed_by_name noted) j nb) (constructors_before_procedures j nb) nps ≡ mapped_tree (λ i. renaming_by_record l (at i) (text i)) value ps =
@@ -258,7 +258,7 @@ module _ (l : ℕ → Name → Name) (at : ℕ → Option ℕ) (text : ℕ → N
             let environment : environment_after_procedures (environment_after_variables (typed_by_name noted) j nb) (constructors_before_procedures j nb) nps ≡ typed_by_name q.last = (λ i. environment_after_procedures (o.named i) (counted i) nps) ∙ q.following in
             let body-written : rename_fields (renaming_by_record l) (meanings naming_by_spelling (environment_after_procedures (environment_after_variables (typed_by_name noted) j nb) (constructors_before_procedures j nb) nps)) None (mapped_tree text value st) ≡ mapped_tree (λ i. renaming_by_record l (at i) (text i)) value st =
             ap (λ e. rename_fields (renaming_by_record l) (meanings naming_by_spelling e) None (mapped_tree text value st)) environment
-            ∙ statements-written noted q.last (ordinal_after_procedures kp nps) q.below r.1 (declare_procedure_names kp nps (procedures_scope k nb scope)) following_all st q.fits (ap block_statements numbered) s0.1 in
+            ∙ statements-written noted q.last (ordinal_after_procedures kp nps) q.below r.1 (declare_procedure_names kp nps (scope_before_procedures k nb scope)) following_all st q.fits (ap block_statements numbered) s0.1 in
             λ i. forms_block (declares (identifiers_without_owners-all l at text value cs s1.0 i) (type_section-owners_in_tree l at text value j ts s2.0 i) (variables-written i) (procedures-written i)) (body-written i);
       }
 

@@ -5,17 +5,17 @@ use Rattle.std.proofs.Math.ListN.{length-set}
 use Rattle.std.proofs.lemmas.List.{get_or-replicate, length-replicate, map-append}
 use Rattle.ob0_tree.specs.declared.tree.Role.{Role}
 use Rattle.ob0_tree.specs.declared.tree.Role.TheVariants as role
-use Rattle.ob0_tree.specs.Order.{AreAscending, identifier_names, names_without_roles}
+use Rattle.ob0_tree.specs.Order.{AreAscendingWithin, identifier_names, names_without_roles}
 use Rattle.ob0_tree.specs.ParsedModule.{tree_of}
 use Rattle.ob0_tree.specs.Tree.{Sort, Tree, item, adds, array_type, assigns, begins, branches, calls, compares, declares, declares_constant, declares_constants, declares_procedure, declares_type, declares_types, declares_variable, declares_variables, designator, else_branch, elsif_branch, empty, end, field, forms_block, identifiers, index, integer, is_module, listed, more, multiplies, named_type, negation, no_arguments, no_fields, no_formals, none, one, parenthesised, product, record_type, relates, repeat_loop, runs, some_arguments, some_fields, some_formals, sum, then_argument, then_fields, then_name, then_section, then_statement, value_section, variable_section, while_loop, block, names, written_type, fields, further_name, further_fields, section, further_section, formals, type_definition, type_definitions, variable, variables, procedure, module_text, items, maybe}
 use Rattle.ob0_tree.proofs.Leaves.{ascending_bounds, leaves_ascend}
-use Rattle.ob0_language_names.specs.Parts.{further_names, names_in_list, section_type}
+use Rattle.ob0_language_names.specs.Parts.{further_names, names_in_list, parameter_section_type}
 use Rattle.ob0_scope_table.specs.Resolution.{IsResolution, Resolution, ordinal_in}
 use Rattle.ob0_language_types.specs.Declarations.{constructors_before_procedure_block, constructors_before_variables, constructors_before_procedures, procedure_constructor_count}
 use Rattle.ob0_language_types.specs.Expressions.{Meanings}
 use Rattle.ob0_language_types.specs.Typing.{constructor_count, group_constructor_count, type_of_variable_or_constant}
 use Rattle.ob0_language_values.specs.Values.{Shape}
-use Rattle.ob0_types_fields.specs.Owned.{AgreesWithOwnerList, EnteredFieldsCompleteOwnerTable, fields_with_owners, owners_in_tree, owners_in_block, owners_in_formals, owners_in_group, owners_in_groups, owners_in_module, owners_in_procedure, owners_in_procedures, owners_in_section, owners_in_sections, owners_in_resolution, owners_in_type, owners_in_type_section, owners_in_types, owners_in_variable_section, owners_in_variables, type_after_selector, identifiers_without_owners, unowned_identifiers, table_with_owners}
+use Rattle.ob0_types_fields.specs.Owned.{AgreesWithOwnerList, TableWithEnteredOwnersIsOwnerTable, fields_with_owners, owners_in_tree, owners_in_block, owners_in_formals, owners_in_group, owners_in_groups, owners_in_module, owners_in_procedure, owners_in_procedures, owners_in_parameter_section, owners_in_parameter_sections, owners_in_resolution, owners_in_type, owners_in_type_section, owners_in_types, owners_in_variable_section, owners_in_variables, type_after_selector, identifiers_without_owners, unowned_identifiers, table_with_owners}
 use Rattle.ob0_types_fields.proofs.OwnedModules.{agreeing_table_is_owner_table-holds}
 
 abbrev pub tokens : List (ℕ × Option ℕ) → List ℕ
@@ -133,20 +133,20 @@ variable_section-tokens : (k : ℕ) (vs : Tree ℕ (maybe variables)) → tokens
 variable_section-tokens k none = refl
 variable_section-tokens k (one (declares_variables vs)) = variables-tokens k vs
 
-section-tokens : (k : ℕ) (f : Tree ℕ section) → tokens (owners_in_section k f) ≡ names_without_roles (identifiers role.Declaring f)
+section-tokens : (k : ℕ) (f : Tree ℕ section) → tokens (owners_in_parameter_section k f) ≡ names_without_roles (identifiers role.Declaring f)
 section-tokens k (value_section ns u) = typed-tokens k ns u
 section-tokens k (variable_section ns u) = typed-tokens k ns u
 
-sections-tokens : (k : ℕ) (fs : Tree ℕ (items further_section)) → tokens (owners_in_sections k fs) ≡ names_without_roles (identifiers role.Declaring fs)
+sections-tokens : (k : ℕ) (fs : Tree ℕ (items further_section)) → tokens (owners_in_parameter_sections k fs) ≡ names_without_roles (identifiers role.Declaring fs)
 sections-tokens k end = refl
 sections-tokens k (more (then_section f) fs) =
-    both-tokens (owners_in_section k f) (owners_in_sections (k + constructor_count (section_type f)) fs) (identifiers role.Declaring f) (identifiers role.Declaring fs) (section-tokens k f) (sections-tokens (k + constructor_count (section_type f)) fs)
+    both-tokens (owners_in_parameter_section k f) (owners_in_parameter_sections (k + constructor_count (parameter_section_type f)) fs) (identifiers role.Declaring f) (identifiers role.Declaring fs) (section-tokens k f) (sections-tokens (k + constructor_count (parameter_section_type f)) fs)
 
 formals-tokens : (k : ℕ) (fs : Tree ℕ (maybe formals)) → tokens (owners_in_formals k fs) ≡ names_without_roles (identifiers role.Declaring fs)
 formals-tokens k none = refl
 formals-tokens k (one no_formals) = refl
 formals-tokens k (one (some_formals f fs)) =
-    both-tokens (owners_in_section k f) (owners_in_sections (k + constructor_count (section_type f)) fs) (identifiers role.Declaring f) (identifiers role.Declaring fs) (section-tokens k f) (sections-tokens (k + constructor_count (section_type f)) fs)
+    both-tokens (owners_in_parameter_section k f) (owners_in_parameter_sections (k + constructor_count (parameter_section_type f)) fs) (identifiers role.Declaring f) (identifiers role.Declaring fs) (section-tokens k f) (sections-tokens (k + constructor_count (parameter_section_type f)) fs)
 
 mutual
   block-tokens : {P : Type 0} (m : Meanings ℕ Shape P) (k : ℕ) (b : Tree ℕ block) → tokens (owners_in_block m k b) ≡ names_without_roles (identifiers role.Declaring b)
@@ -177,14 +177,14 @@ module-tokens m (is_module x b closing) =
 -- ---- the table
 
 -- Entries below the first entered token are unchanged.
-kept_below : (xs : List (ℕ × Option ℕ)) (table : List (Option ℕ)) (low high i : ℕ) → AreAscending low (tokens xs) high → i < low → ordinal_in (table_with_owners table (fields_with_owners xs)) i ≡ ordinal_in table i
+kept_below : (xs : List (ℕ × Option ℕ)) (table : List (Option ℕ)) (low high i : ℕ) → AreAscendingWithin low (tokens xs) high → i < low → ordinal_in (table_with_owners table (fields_with_owners xs)) i ≡ ordinal_in table i
 kept_below [] table low high i ascend below = refl
 kept_below ((x, None) ∷ xs) table low high i ascend below = kept_below xs table (x + 1) high i ascend.1 (omega (arith, ascend.0, below))
 kept_below ((x, Some k) ∷ xs) table low high i ascend below =
     let other : i ≢ x = omega (arith, ascend.0, below) in
     kept_below xs (set table x (Some k)) (x + 1) high i ascend.1 (omega (arith, ascend.0, below)) ∙ get_or-set_other table x i (Some k) None other
 
-fields_are_identifiers : (xs : List (ℕ × Option ℕ)) (table : List (Option ℕ)) (low high : ℕ) → AreAscending low (tokens xs) high → high ≤ length table → ((i : ℕ) → low ≤ i → i < high → ordinal_in table i ≡ None)
+fields_are_identifiers : (xs : List (ℕ × Option ℕ)) (table : List (Option ℕ)) (low high : ℕ) → AreAscendingWithin low (tokens xs) high → high ≤ length table → ((i : ℕ) → low ≤ i → i < high → ordinal_in table i ≡ None)
     → AgreesWithOwnerList (ordinal_in (table_with_owners table (fields_with_owners xs))) xs
 fields_are_identifiers [] table low high ascend within vacant = tt
 fields_are_identifiers ((x, None) ∷ xs) table low high ascend within vacant =
@@ -210,8 +210,8 @@ fields_have-owners r named =
     let n : ℕ = length r.module_read.source.tokens in
     let nothing : Option ℕ = None in
     let vacant : List (Option ℕ) = replicate n nothing in
-    let ascend = subst (λ ts. AreAscending 0 ts n) (sym (module-tokens _ (tree_of r.module_read))) (leaves_ascend r.module_read named.parsed) in
+    let ascend = subst (λ ts. AreAscendingWithin 0 ts n) (sym (module-tokens _ (tree_of r.module_read))) (leaves_ascend r.module_read named.parsed) in
     fields_are_identifiers (owners_in_resolution r) vacant 0 n ascend (subst (λ z. n ≤ z) (sym (length-replicate n nothing)) (le_refl n)) (λ i l u. get_or-replicate n i nothing None u)
 
-pub entered_fields_complete_owner_table-holds : EnteredFieldsCompleteOwnerTable
-entered_fields_complete_owner_table-holds r named fits = agreeing_table_is_owner_table-holds r (with_owners r) named fits (fields_have-owners r named)
+pub table_with_entered_owners_is_owner_table-holds : TableWithEnteredOwnersIsOwnerTable
+table_with_entered_owners_is_owner_table-holds r named fits = agreeing_table_is_owner_table-holds r (with_owners r) named fits (fields_have-owners r named)

@@ -4,12 +4,12 @@ use Rattle.std.proofs.Common.{◌≡◌, ℕ, suc, ◌+◌, ◌++◌, map, Some,
 use Rattle.ob0_tree.specs.Tree.{Tree, item, items, maybe, array_type, block, declares, declares_procedure, declares_type, declares_types, declares_variable, declares_variables, end, fields, formals, further_fields, further_name, further_section, forms_block, listed, mapped_tree, more, named_type, names, no_fields, no_formals, none, one, procedure, record_type, section, some_fields, some_formals, then_fields, then_name, then_section, type_definition, type_definitions, value_section, variable, variable_section, variables, written_type}
 use Rattle.ob0_language_names.specs.Mapping.{map_names}
 use Rattle.ob0_language_names.specs.Names.{Name}
-use Rattle.ob0_language_names.specs.Parts.{formal_sections, further_names, names_in_list, section_type, section_types, section_variables}
+use Rattle.ob0_language_names.specs.Parts.{formal_sections, further_names, names_in_list, parameter_section_type, section_types, section_variables}
 use Rattle.ob0_language_types.specs.Declarations.{block_constructor_count, formals_constructor_count, procedure_constructor_count, procedures_constructor_count, types_constructor_count, variables_constructor_count}
 use Rattle.ob0_language_types.specs.Typing.{constructor_count, group_constructor_count, groups_constructor_count}
 use Rattle.ob0_language_fields.specs.Fields.{rename_fields_in_formals, rename_fields_in_group, rename_fields_in_groups, rename_fields_in_section, rename_fields_in_sections, rename_fields_in_type, rename_fields_in_type_section, rename_fields_in_types, rename_fields_in_variable_section, rename_fields_in_variables}
 use Rattle.ob0_types_fields.specs.Owners.{renaming_by_record}
-use Rattle.ob0_types_fields.specs.Owned.{AgreesWithOwnerList, owners_in_formals, owners_in_group, owners_in_groups, owners_in_section, owners_in_sections, owners_in_type, owners_in_type_section, owners_in_types, owners_in_variable_section, owners_in_variables, identifiers_without_owners}
+use Rattle.ob0_types_fields.specs.Owned.{AgreesWithOwnerList, owners_in_formals, owners_in_group, owners_in_groups, owners_in_parameter_section, owners_in_parameter_sections, owners_in_type, owners_in_type_section, owners_in_types, owners_in_variable_section, owners_in_variables, identifiers_without_owners}
 use Rattle.ob0_types_fields.proofs.OwnedStatements.{owners_split, identifiers_without_owners-all}
 
 -- The number of words ARRAY and RECORD in a tree doesn't depend on the representation of its names.
@@ -36,7 +36,7 @@ module _ {M : Type 0} (f : ℕ → M) (g : ℕ → ℕ) where
   counted_variables end = refl
   counted_variables (more (declares_variable ns t) vs) = λ i. counted_type t i + counted_variables vs i
 
-  pub counted_section : (s : Tree ℕ section) → constructor_count (section_type (mapped_tree f g s)) ≡ constructor_count (section_type s)
+  pub counted_section : (s : Tree ℕ section) → constructor_count (parameter_section_type (mapped_tree f g s)) ≡ constructor_count (parameter_section_type s)
   counted_section (value_section ns t) = counted_type t
   counted_section (variable_section ns t) = counted_type t
 
@@ -132,7 +132,7 @@ module _ (l : ℕ → Name → Name) (at : ℕ → Option ℕ) (text : ℕ → N
   variable_section-owners_in_tree k none h = refl
   variable_section-owners_in_tree k (one (declares_variables vs)) h = λ i. one (declares_variables (variables-owners_in_tree k vs h i))
 
-  section-owners_in_tree : (k : ℕ) (f : Tree ℕ section) → AgreesWithOwnerList at (owners_in_section k f) → rename_fields_in_section (renaming_by_record l) k (mapped_tree text value f) ≡ mapped_tree (λ j. renaming_by_record l (at j) (text j)) value f
+  section-owners_in_tree : (k : ℕ) (f : Tree ℕ section) → AgreesWithOwnerList at (owners_in_parameter_section k f) → rename_fields_in_section (renaming_by_record l) k (mapped_tree text value f) ≡ mapped_tree (λ j. renaming_by_record l (at j) (text j)) value f
   section-owners_in_tree k (value_section ns u) h =
       let p = owners_split at (identifiers_without_owners ns) (owners_in_type k u) h in
       λ i. value_section (identifiers_without_owners-all l at text value ns p.0 i) (type-owners_in_tree k u p.1 i)
@@ -140,17 +140,17 @@ module _ (l : ℕ → Name → Name) (at : ℕ → Option ℕ) (text : ℕ → N
       let p = owners_split at (identifiers_without_owners ns) (owners_in_type k u) h in
       λ i. variable_section (identifiers_without_owners-all l at text value ns p.0 i) (type-owners_in_tree k u p.1 i)
 
-  sections-owners_in_tree : (k : ℕ) (fs : Tree ℕ (items further_section)) → AgreesWithOwnerList at (owners_in_sections k fs) → rename_fields_in_sections (renaming_by_record l) k (mapped_tree text value fs) ≡ mapped_tree (λ j. renaming_by_record l (at j) (text j)) value fs
+  sections-owners_in_tree : (k : ℕ) (fs : Tree ℕ (items further_section)) → AgreesWithOwnerList at (owners_in_parameter_sections k fs) → rename_fields_in_sections (renaming_by_record l) k (mapped_tree text value fs) ≡ mapped_tree (λ j. renaming_by_record l (at j) (text j)) value fs
   sections-owners_in_tree k end h = refl
   sections-owners_in_tree k (more (then_section f) fs) h =
-      let p = owners_split at (owners_in_section k f) (owners_in_sections (k + constructor_count (section_type f)) fs) h in
+      let p = owners_split at (owners_in_parameter_section k f) (owners_in_parameter_sections (k + constructor_count (parameter_section_type f)) fs) h in
       λ i. more (then_section (section-owners_in_tree k f p.0 i))
-      ((ap (λ n. rename_fields_in_sections (renaming_by_record l) (k + n) (mapped_tree text value fs)) (counted_section text value f) ∙ sections-owners_in_tree (k + constructor_count (section_type f)) fs p.1) i)
+      ((ap (λ n. rename_fields_in_sections (renaming_by_record l) (k + n) (mapped_tree text value fs)) (counted_section text value f) ∙ sections-owners_in_tree (k + constructor_count (parameter_section_type f)) fs p.1) i)
 
   pub formals-owners_in_tree : (k : ℕ) (fs : Tree ℕ (maybe formals)) → AgreesWithOwnerList at (owners_in_formals k fs) → rename_fields_in_formals (renaming_by_record l) k (mapped_tree text value fs) ≡ mapped_tree (λ j. renaming_by_record l (at j) (text j)) value fs
   formals-owners_in_tree k none h = refl
   formals-owners_in_tree k (one no_formals) h = refl
   formals-owners_in_tree k (one (some_formals f fs)) h =
-      let p = owners_split at (owners_in_section k f) (owners_in_sections (k + constructor_count (section_type f)) fs) h in
+      let p = owners_split at (owners_in_parameter_section k f) (owners_in_parameter_sections (k + constructor_count (parameter_section_type f)) fs) h in
       λ i. one (some_formals (section-owners_in_tree k f p.0 i)
-      ((ap (λ n. rename_fields_in_sections (renaming_by_record l) (k + n) (mapped_tree text value fs)) (counted_section text value f) ∙ sections-owners_in_tree (k + constructor_count (section_type f)) fs p.1) i))
+      ((ap (λ n. rename_fields_in_sections (renaming_by_record l) (k + n) (mapped_tree text value fs)) (counted_section text value f) ∙ sections-owners_in_tree (k + constructor_count (parameter_section_type f)) fs p.1) i))

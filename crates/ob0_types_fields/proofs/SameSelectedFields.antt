@@ -8,7 +8,7 @@ use Rattle.ob0_language_types.specs.Expressions.{Meanings}
 use Rattle.ob0_language_types.specs.Typing.{element_type, field_type, type_of_variable_or_constant}
 use Rattle.ob0_language_values.specs.Values.{Shape, integer_shape}
 use Rattle.ob0_scope_table.specs.TokenProperty.{EachTokenHas}
-use Rattle.ob0_types_fields.specs.Owned.{fields_in_block, field_if_owned, fields_in_path, fields_in_procedure, fields_in_procedures, fields_in_sections, fields_in_tree, fields_in_types, fields_in_variables, owner}
+use Rattle.ob0_types_fields.specs.Owned.{fields_in_block, field_if_owned, fields_in_path, fields_in_procedure, fields_in_procedures, fields_in_parameter_sections, fields_in_tree, fields_in_types, fields_in_variables, owner}
 
 -- holds if the names at a token have the same meaning and spelling
 pub record MeansSame {Q : Type 0} (m n : Meanings ℕ Shape Q) (token : ℕ) : Type 0 where
@@ -100,4 +100,4 @@ module _ {Q : Type 0} (m n : Meanings ℕ Shape Q) where
 
     pub procedure_same : (k : ℕ) (p : Tree ℕ (item procedure)) → EachTokenHas Same p → fields_in_procedure m k p ≡ fields_in_procedure n k p
     procedure_same k (declares_procedure x fs b closing) h =
-        ap (λ l. fields_in_sections k (formal_sections fs) ++ l) (block_same (constructors_before_procedure_block k (declares_procedure x fs b closing)) b h.2)
+        ap (λ l. fields_in_parameter_sections k (formal_sections fs) ++ l) (block_same (constructors_before_procedure_block k (declares_procedure x fs b closing)) b h.2)

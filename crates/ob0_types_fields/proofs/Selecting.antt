@@ -4,7 +4,7 @@
 use Rattle.std.proofs.Common.{◌≡◌, ℕ, suc, true, false, ◌&&◌, [], ◌∷◌, ◌++◌, if◌then◌else◌, Some, None, Option, option_and_then, option_map, sym, refl, ap, subst}
 use Rattle.ob0_tree.specs.Tree.{Tree, addend, adds, arguments, assigns, begins, body, branches, calls, compares, designator, else_branch, else_part, elsif_branch, elsif_part, empty, end, expression, factor, field, further_argument, further_statement, index, integer, items, mapped_tree, maybe, more, multiplier, multiplies, negation, no_arguments, none, one, parenthesised, product, relates, repeat_loop, runs, selector, sequence, simple, some_arguments, statement, sum, term, then_argument, then_statement, while_loop}
 use Rattle.ob0_language_names.specs.Names.{Name, naming_by_spelling, same_name}
-use Rattle.ob0_language_types.specs.Arguments.{arguments_listed, further_arguments}
+use Rattle.ob0_language_types.specs.Arguments.{call_arguments, further_arguments}
 use Rattle.ob0_types_table.specs.declared.known.FieldId.{FieldId}
 use Rattle.ob0_language_types.specs.Expressions.{Meanings, Object}
 use Rattle.ob0_types_table.specs.FieldPlaces.{position_of_field}
@@ -113,7 +113,7 @@ module _ (objects : Name → Option (Object Shape Signature)) (text : ℕ → Na
       let g = both_true (argument_matches (named objects) f (mapped_tree text value e)) (arguments_match (named objects) fs (further_arguments (mapped_tree text value es))) h in
       λ i. argument-selects f e g.0 i ++ further-select fs es g.1 i
 
-  arguments-select : (fs : Signature) (es : Tree ℕ (maybe arguments)) → arguments_match (named objects) fs (arguments_listed (mapped_tree text value es)) ≡ true → owners_in_tree here None es ≡ recorded here None es
+  arguments-select : (fs : Signature) (es : Tree ℕ (maybe arguments)) → arguments_match (named objects) fs (call_arguments (mapped_tree text value es)) ≡ true → owners_in_tree here None es ≡ recorded here None es
   unfolding arguments_match
   arguments-select fs none h = refl
   arguments-select fs (one no_arguments) h = refl
@@ -136,7 +136,7 @@ module _ (objects : Name → Option (Object Shape Signature)) (text : ℕ → Na
         let (t, ev, h₁) = variable-typed (named objects) (text x) (mapped_tree text value path) s es in
         λ i. (x, None) ∷ (subst (λ o. owners_in_tree here (type_of_variable_or_constant o) path ≡ recorded here (type_of_variable_or_constant o) path) (sym ev) (path-selects t path s h₁) i ++ expression-selects e s et i)
     statement-selects (calls x es) h =
-        let (signature, sig, fit) = call-typed (named objects) (signature_of (objects (text x))) (arguments_listed (mapped_tree text value es)) h in
+        let (signature, sig, fit) = call-typed (named objects) (signature_of (objects (text x))) (call_arguments (mapped_tree text value es)) h in
         λ i. (x, None) ∷ arguments-select signature es fit i
     statement-selects (branches e statements rest last) h =
         let h₁ = both_true (condition_is_boolean (named objects) (mapped_tree text value e)) (sequence_is_well_typed (named objects) (mapped_tree text value statements) && (elsifs_are_well_typed (named objects) (mapped_tree text value rest) && else_is_well_typed (named objects) (mapped_tree text value last))) h in

@@ -4,11 +4,11 @@ use Rattle.std.proofs.lemmas.List.Elements.{filter-append}
 use Rattle.std.proofs.lemmas.Bool.{le-leb}
 use Rattle.std.specs.List.{AllByRecursion, filter}
 use Rattle.ob0_tree.specs.declared.tree.Role.{Role}
-use Rattle.ob0_tree.specs.Order.{AreAscending, names_without_roles}
+use Rattle.ob0_tree.specs.Order.{AreAscendingWithin, names_without_roles}
 use Rattle.ob0_tree.specs.FirstIdentifier.{token_of_first_identifier}
 use Rattle.ob0_tree.proofs.Leaves.{ascending_bounds}
 use Rattle.ob0_types_fields.specs.declared.field_name.FieldName.{FieldName}
-use Rattle.ob0_types_fields.specs.FieldLists.{fields_from}
+use Rattle.ob0_types_fields.specs.FieldLists.{fields_at_or_after}
 use Rattle.ob0_types_fields.specs.Owned.{fields_with_owners}
 use Rattle.ob0_types_fields.proofs.WalkFindsAllFields.{among-append}
 use Rattle.ob0_types_fields.proofs.OwnedTokens.{tokens}
@@ -21,17 +21,17 @@ weaker P Q f (x ∷ xs) h = (f x h.0, weaker P Q f xs h.1)
 
 record Cut (low : ℕ) (xs ys : List (ℕ × Option ℕ)) (high : ℕ) : Type 0 where
   pub middle : ℕ
-  pub first : AreAscending low (tokens xs) middle
-  pub last : AreAscending middle (tokens ys) high
+  pub first : AreAscendingWithin low (tokens xs) middle
+  pub last : AreAscendingWithin middle (tokens ys) high
 
-cut : (low : ℕ) (xs ys : List (ℕ × Option ℕ)) (high : ℕ) → AreAscending low (tokens (xs ++ ys)) high → Cut low xs ys high
+cut : (low : ℕ) (xs ys : List (ℕ × Option ℕ)) (high : ℕ) → AreAscendingWithin low (tokens (xs ++ ys)) high → Cut low xs ys high
 cut low [] ys high h = record { middle = low; first = le_refl low; last = h }
 cut low (x ∷ xs) ys high h = let c = cut (x.0 + 1) xs ys high h.1 in record { middle = c.middle; first = (h.0, c.first); last = c.last }
 
 abbrev pub Between : ℕ → ℕ → ℕ × Option ℕ → Type 0
 Between low high x = (low ≤ x.0) × (x.0 < high)
 
-pub all_between : (low : ℕ) (xs : List (ℕ × Option ℕ)) (high : ℕ) → AreAscending low (tokens xs) high → AllByRecursion (Between low high) xs
+pub all_between : (low : ℕ) (xs : List (ℕ × Option ℕ)) (high : ℕ) → AreAscendingWithin low (tokens xs) high → AllByRecursion (Between low high) xs
 all_between low [] high h = tt
 all_between low (x ∷ xs) high h =
     let top = ascending_bounds (x.0 + 1) (tokens xs) high h.1 in (
@@ -54,7 +54,7 @@ begins_at first (x ∷ xs) (i ∷ ids) e f = ap (number_or x.0) e ∙ ap (λ o. 
     number_or d [] = d
     number_or d (y ∷ ys) = y
 
-from_first : (low first : ℕ) (xs : List (ℕ × Option ℕ)) (high : ℕ) → BeginsAt first xs → AreAscending low (tokens xs) high → (low ≤ first) × AreAscending first (tokens xs) high
+from_first : (low first : ℕ) (xs : List (ℕ × Option ℕ)) (high : ℕ) → BeginsAt first xs → AreAscendingWithin low (tokens xs) high → (low ≤ first) × AreAscendingWithin first (tokens xs) high
 from_first low first [] high b h = absurd b
 from_first low first (x ∷ xs) high b h = (omega (arith, b, h.0), (omega (arith, b), h.1))
 
@@ -68,7 +68,7 @@ pub record AreBetween (before inner after : List (ℕ × Option ℕ)) (first clo
   pub closes : closing < top
 
 pub between : (before inner after : List (ℕ × Option ℕ)) (first closing top : ℕ) (ids : List (Role × ℕ))
-    → AreAscending 0 (tokens (before ++ (inner ++ ((closing, None) ∷ after)))) top → tokens inner ≡ names_without_roles ids → token_of_first_identifier ids ≡ Some first → AreBetween before inner after first closing top
+    → AreAscendingWithin 0 (tokens (before ++ (inner ++ ((closing, None) ∷ after)))) top → tokens inner ≡ names_without_roles ids → token_of_first_identifier ids ≡ Some first → AreBetween before inner after first closing top
 between before inner after first closing top ids h e f =
     let c = cut 0 before (inner ++ ((closing, None) ∷ after)) top h in
     let d = cut c.middle inner ((closing, None) ∷ after) top c.last in
@@ -83,7 +83,7 @@ between before inner after first closing top ids h e f =
       closes = (let le = ascending_bounds (closing + 1) (tokens after) top d.last.1 in omega (arith, le));
     }
   where
-    later : (first : ℕ) (xs : List (ℕ × Option ℕ)) (high : ℕ) → BeginsAt first xs → AreAscending first (tokens xs) high → first < high
+    later : (first : ℕ) (xs : List (ℕ × Option ℕ)) (high : ℕ) → BeginsAt first xs → AreAscendingWithin first (tokens xs) high → first < high
     later first [] high b h = absurd b
     later first (x ∷ xs) high b h = let le = ascending_bounds (x.0 + 1) (tokens xs) high h.1 in omega (arith, le, h.0)
 
@@ -141,6 +141,6 @@ pub fields_around : (before inner after : List (ℕ × Option ℕ)) (closing : �
 fields_around before inner after closing = among-append before (inner ++ ((closing, None) ∷ after)) ∙ ap (λ l. fields_with_owners before ++ l) (among-append inner ((closing, None) ∷ after))
 
 -- All fields are at or after token 0.
-pub all_from_start : (xs : List FieldName) → fields_from 0 xs ≡ xs
+pub all_from_start : (xs : List FieldName) → fields_at_or_after 0 xs ≡ xs
 all_from_start [] = refl
-all_from_start (x ∷ xs) = (λ i. if le-leb 0 x.token (omega arith) i then x ∷ fields_from 0 xs else fields_from 0 xs) ∙ ap (λ l. x ∷ l) (all_from_start xs)
+all_from_start (x ∷ xs) = (λ i. if le-leb 0 x.token (omega arith) i then x ∷ fields_at_or_after 0 xs else fields_at_or_after 0 xs) ∙ ap (λ l. x ∷ l) (all_from_start xs)

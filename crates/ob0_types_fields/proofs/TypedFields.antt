@@ -30,7 +30,7 @@ use Rattle.ob0_language_values.specs.Values.{FieldShapes, Shape, array_shape, in
 use Rattle.ob0_types_fields.specs.FieldTypes.{FieldsHaveTypes, TypedField, constructed_types, typed_field_with_name, first_name_listed, typed_field}
 use Rattle.ob0_types_fields.specs.declared.field_name.FieldName.{FieldName}
 use Rattle.ob0_types_fields.specs.Identifiers.{declared_fields, fields_declared_in_block, fields_declared_in_procedure, fields_declared_in_procedures, field_declaring_token, field_identifiers, first_token, belongs_to_field, tokens_of_field}
-use Rattle.ob0_types_fields.specs.Owned.{fields_in_group, fields_in_groups, fields_at_tokens, fields_in_sections, fields_in_type, fields_in_types, fields_in_variables}
+use Rattle.ob0_types_fields.specs.Owned.{fields_in_group, fields_in_groups, fields_at_tokens, fields_in_parameter_sections, fields_in_type, fields_in_types, fields_in_variables}
 use Rattle.ob0_types_fields.proofs.DeclaredTypes.{BlockIsTyped, Denotes, FormalsAreTyped, ProcedureIsTyped, ProceduresAreTyped, TypesAreTyped, VariablesAreTyped, meaning, module-typed}
 use Rattle.ob0_types_fields.proofs.FieldLabels.{AllWritten, BlockPlain, GroupPlain, GroupsPlain, IsWritten, ProcedurePlain, ProceduresPlain, SectionsPlain, TypePlain, TypesPlain, VariablesPlain, numbered-plain}
 use Rattle.ob0_types_fields.proofs.FieldsAreDeclared.{fields_are_declared-holds}
@@ -392,17 +392,17 @@ module _ (r : Resolution) where
       parts-have (constructed_types (meaning r) t u) (constructed_types (meaning r) None gs) k (k + constructor_count u) (fields_in_type k u) (fields_in_variables (k + constructor_count u) gs) (ap (λ c. k + c) (sym (type-counted r t u)))
       (declared-have t u are_typed.0.0 (ap type_of_object are_typed.0.1) are_typed.0.2 plain.0 o.0 k) (variables-have gs are_typed.1 plain.1 o.1 (k + constructor_count u))
 
-  sections-have : (fs : Tree ℕ (items further_section)) → FormalsAreTyped r fs → SectionsPlain (tree_with_labels r fs) → formals_have_distinct_fields (mapped_tree text value fs) ≡ true → (k : ℕ) → AllByRecursion (HasField (constructed_types (meaning r) None fs) k) (fields_in_sections k fs)
+  sections-have : (fs : Tree ℕ (items further_section)) → FormalsAreTyped r fs → SectionsPlain (tree_with_labels r fs) → formals_have_distinct_fields (mapped_tree text value fs) ≡ true → (k : ℕ) → AllByRecursion (HasField (constructed_types (meaning r) None fs) k) (fields_in_parameter_sections k fs)
   sections-have end are_typed plain once k = tt
   sections-have (more (then_section (value_section (listed x others) u)) fs) are_typed plain once k =
       let o = and_parts (has_distinct_fields (mapped_tree text value u)) (formals_have_distinct_fields (mapped_tree text value fs)) once in
       let t : Option Shape = type_of_object ((meaning r).object_for x) in
-      parts-have (constructed_types (meaning r) t u) (constructed_types (meaning r) None fs) k (k + constructor_count u) (fields_in_type k u) (fields_in_sections (k + constructor_count u) fs) (ap (λ c. k + c) (sym (type-counted r t u)))
+      parts-have (constructed_types (meaning r) t u) (constructed_types (meaning r) None fs) k (k + constructor_count u) (fields_in_type k u) (fields_in_parameter_sections (k + constructor_count u) fs) (ap (λ c. k + c) (sym (type-counted r t u)))
       (declared-have t u are_typed.0.0 (ap type_of_object are_typed.0.1) are_typed.0.2 plain.0 o.0 k) (sections-have fs are_typed.1 plain.1 o.1 (k + constructor_count u))
   sections-have (more (then_section (variable_section (listed x others) u)) fs) are_typed plain once k =
       let o = and_parts (has_distinct_fields (mapped_tree text value u)) (formals_have_distinct_fields (mapped_tree text value fs)) once in
       let t : Option Shape = type_of_object ((meaning r).object_for x) in
-      parts-have (constructed_types (meaning r) t u) (constructed_types (meaning r) None fs) k (k + constructor_count u) (fields_in_type k u) (fields_in_sections (k + constructor_count u) fs) (ap (λ c. k + c) (sym (type-counted r t u)))
+      parts-have (constructed_types (meaning r) t u) (constructed_types (meaning r) None fs) k (k + constructor_count u) (fields_in_type k u) (fields_in_parameter_sections (k + constructor_count u) fs) (ap (λ c. k + c) (sym (type-counted r t u)))
       (declared-have t u are_typed.0.0 (ap type_of_object are_typed.0.1) are_typed.0.2 plain.0 o.0 k) (sections-have fs are_typed.1 plain.1 o.1 (k + constructor_count u))
 
   type_section-have : (ts : Tree ℕ (maybe type_definitions)) → TypesAreTyped r (section_types ts) → TypesPlain (section_types (tree_with_labels r ts)) → types_have_distinct_fields (section_types (mapped_tree text value ts)) ≡ true → (k : ℕ)
@@ -416,7 +416,7 @@ module _ (r : Resolution) where
   variable_section-have (one (declares_variables vs)) are_typed plain once k = variables-have vs are_typed plain once k
 
   formal_section-have : (fs : Tree ℕ (maybe formals)) → FormalsAreTyped r (formal_sections fs) → SectionsPlain (formal_sections (tree_with_labels r fs)) → formals_have_distinct_fields (formal_sections (mapped_tree text value fs)) ≡ true → (k : ℕ)
-      → AllByRecursion (HasField (constructed_types (meaning r) None fs) k) (fields_in_sections k (formal_sections fs))
+      → AllByRecursion (HasField (constructed_types (meaning r) None fs) k) (fields_in_parameter_sections k (formal_sections fs))
   formal_section-have none are_typed plain once k = tt
   formal_section-have (one no_formals) are_typed plain once k = tt
   formal_section-have (one (some_formals (value_section ns u) fs)) are_typed plain once k = sections-have (more (then_section (value_section ns u)) fs) are_typed plain once k
@@ -454,7 +454,7 @@ module _ (r : Resolution) where
         let o1 = and_parts (same_name (text x) (text closing)) (F && B) once in
         let o2 = and_parts F B o1.1 in
         let n : ℕ = constructors_before_procedure_block k (declares_procedure x fs b closing) in
-        parts-have (constructed_types (meaning r) None fs) (constructed_types (meaning r) None b) k n (fields_in_sections k (formal_sections fs)) (fields_declared_in_block n b) (ap (λ c. k + c) (sym (formal_section-counted r fs)))
+        parts-have (constructed_types (meaning r) None fs) (constructed_types (meaning r) None b) k n (fields_in_parameter_sections k (formal_sections fs)) (fields_declared_in_block n b) (ap (λ c. k + c) (sym (formal_section-counted r fs)))
         (formal_section-have fs are_typed.0 plain.0 o2.0 k) (block-has (formal_names (formal_sections (mapped_tree text value fs))) b are_typed.1 plain.1 o2.1 n)
 
   -- returns all types that a module constructs

@@ -3,13 +3,13 @@ use Rattle.std.proofs.Common.{◌≡◌, ℕ, suc, ◌+◌, List, [], ◌∷◌,
 use Rattle.ob0_tree.specs.declared.tree.Role.{Role}
 use Rattle.ob0_tree.specs.declared.tree.Role.TheVariants as role
 use Rattle.ob0_tree.specs.Tree.{Sort, Tree, item, adds, array_type, assigns, begins, branches, calls, compares, declares, declares_constant, declares_constants, declares_procedure, declares_type, declares_types, declares_variable, declares_variables, designator, else_branch, elsif_branch, empty, end, field, forms_block, identifiers, index, integer, is_module, listed, more, multiplies, named_type, negation, no_arguments, no_fields, no_formals, none, one, parenthesised, product, record_type, relates, repeat_loop, runs, some_arguments, some_fields, some_formals, sum, then_argument, then_fields, then_name, then_section, then_statement, value_section, variable_section, while_loop, block, written_type, fields, further_fields, section, further_section, formals, type_definition, type_definitions, variable, variables, procedure, module_text, items, maybe, selector, Item}
-use Rattle.ob0_language_names.specs.Parts.{formal_sections, names_in_list, section_type, section_types, section_variables}
+use Rattle.ob0_language_names.specs.Parts.{formal_sections, names_in_list, parameter_section_type, section_types, section_variables}
 use Rattle.ob0_language_types.specs.Declarations.{constructors_before_procedure_block, constructors_before_variables, constructors_before_procedures, procedure_constructor_count}
 use Rattle.ob0_language_types.specs.Expressions.{Meanings}
 use Rattle.ob0_language_types.specs.Typing.{constructor_count, element_type, field_type, group_constructor_count, type_of_variable_or_constant}
 use Rattle.ob0_language_values.specs.Values.{Shape, integer_shape}
 use Rattle.ob0_types_fields.specs.declared.field_name.FieldName.{FieldName}
-use Rattle.ob0_types_fields.specs.Owned.{fields_with_owners, field_if_owned, fields_in_tree, fields_in_block, fields_in_group, fields_in_groups, fields_in_module, fields_at_tokens, fields_in_path, fields_in_procedures, fields_in_sections, fields_in_type, fields_in_types, fields_in_variables, owners_in_tree, owners_in_block, owners_in_formals, owners_in_group, owners_in_groups, owners_in_module, owners_in_procedure, owners_in_procedures, owners_in_section, owners_in_sections, owners_in_type, owners_in_type_section, owners_in_types, owners_in_variable_section, owners_in_variables, owner, type_after_selector, identifiers_without_owners, unowned_identifiers}
+use Rattle.ob0_types_fields.specs.Owned.{fields_with_owners, field_if_owned, fields_in_tree, fields_in_block, fields_in_group, fields_in_groups, fields_in_module, fields_at_tokens, fields_in_path, fields_in_procedures, fields_in_parameter_sections, fields_in_type, fields_in_types, fields_in_variables, owners_in_tree, owners_in_block, owners_in_formals, owners_in_group, owners_in_groups, owners_in_module, owners_in_procedure, owners_in_procedures, owners_in_parameter_section, owners_in_parameter_sections, owners_in_type, owners_in_type_section, owners_in_types, owners_in_variable_section, owners_in_variables, owner, type_after_selector, identifiers_without_owners, unowned_identifiers}
 
 pub among-append : (xs ys : List (ℕ × Option ℕ)) → fields_with_owners (xs ++ ys) ≡ fields_with_owners xs ++ fields_with_owners ys
 among-append [] ys = refl
@@ -160,18 +160,18 @@ variable_section-fields : (k : ℕ) (vs : Tree ℕ (maybe variables)) → fields
 variable_section-fields k none = refl
 variable_section-fields k (one (declares_variables vs)) = variables-fields k vs
 
-section-fields : (k : ℕ) (f : Tree ℕ section) → fields_with_owners (owners_in_section k f) ≡ fields_in_type k (section_type f)
+section-fields : (k : ℕ) (f : Tree ℕ section) → fields_with_owners (owners_in_parameter_section k f) ≡ fields_in_type k (parameter_section_type f)
 section-fields k (value_section ns u) = after-plain ns (owners_in_type k u) (type-fields k u)
 section-fields k (variable_section ns u) = after-plain ns (owners_in_type k u) (type-fields k u)
 
-sections-fields : (k : ℕ) (fs : Tree ℕ (items further_section)) → fields_with_owners (owners_in_sections k fs) ≡ fields_in_sections k fs
+sections-fields : (k : ℕ) (fs : Tree ℕ (items further_section)) → fields_with_owners (owners_in_parameter_sections k fs) ≡ fields_in_parameter_sections k fs
 sections-fields k end = refl
-sections-fields k (more (then_section f) fs) = among-both (owners_in_section k f) (owners_in_sections (k + constructor_count (section_type f)) fs) (section-fields k f) (sections-fields (k + constructor_count (section_type f)) fs)
+sections-fields k (more (then_section f) fs) = among-both (owners_in_parameter_section k f) (owners_in_parameter_sections (k + constructor_count (parameter_section_type f)) fs) (section-fields k f) (sections-fields (k + constructor_count (parameter_section_type f)) fs)
 
-formals-fields : (k : ℕ) (fs : Tree ℕ (maybe formals)) → fields_with_owners (owners_in_formals k fs) ≡ fields_in_sections k (formal_sections fs)
+formals-fields : (k : ℕ) (fs : Tree ℕ (maybe formals)) → fields_with_owners (owners_in_formals k fs) ≡ fields_in_parameter_sections k (formal_sections fs)
 formals-fields k none = refl
 formals-fields k (one no_formals) = refl
-formals-fields k (one (some_formals f fs)) = among-both (owners_in_section k f) (owners_in_sections (k + constructor_count (section_type f)) fs) (section-fields k f) (sections-fields (k + constructor_count (section_type f)) fs)
+formals-fields k (one (some_formals f fs)) = among-both (owners_in_parameter_section k f) (owners_in_parameter_sections (k + constructor_count (parameter_section_type f)) fs) (section-fields k f) (sections-fields (k + constructor_count (parameter_section_type f)) fs)
 
 mutual
   block-fields : {P : Type 0} (m : Meanings ℕ Shape P) (k : ℕ) (b : Tree ℕ block) → fields_with_owners (owners_in_block m k b) ≡ fields_in_block m k b

@@ -2,8 +2,8 @@
 -- Rule: none; used in contracts about lists of fields.
 use Rattle.std.specs.Prelude.{◌≡◌, ◌==◌, ◌+◌, ◌-◌, ◌^◌, ℕ, List, [], ◌∷◌, ◌++◌, length, min, nat_le, nat_lt, set, if◌then◌else◌}
 use Rattle.std.specs.List.{filter}
-use Rattle.ob0_scan.specs.declared.tokens.SameParts.{SameParts}
-use Rattle.ob0_tree.specs.Order.{AreAscending}
+use Rattle.ob0_scan.specs.declared.tokens.CommonPrefixAndSuffix.{CommonPrefixAndSuffix}
+use Rattle.ob0_tree.specs.Order.{AreAscendingWithin}
 use Rattle.ob0_tree.specs.ParsedModule.{tree_of}
 use Rattle.ob0_scope_table.specs.BodyReplaced.{moved_token_index}
 use Rattle.ob0_scope_table.specs.Resolution.{Resolution}
@@ -20,8 +20,8 @@ pub record FieldLists : Type 0 where
 
 -- returns the list `all` of a module's field identifiers; returns an empty list if the list
 -- `declared` is empty, because a module that declares no field can't select one
-abbrev pub all_if_any_declared : List FieldName → List FieldName → List FieldName
-all_if_any_declared declared all = if length declared == 0 then [] else all
+abbrev pub all_fields_if_any_declared : List FieldName → List FieldName → List FieldName
+all_fields_if_any_declared declared all = if length declared == 0 then [] else all
 
 -- returns the two lists of field identifiers that the code's walks over a module make; `t` is the
 -- table of the module's declarations
@@ -29,7 +29,7 @@ abbrev pub field_lists_of : Tables → Resolution → FieldLists
 field_lists_of t r = record {
   declared = declared_fields r.module_read;
   all =
-      all_if_any_declared (declared_fields r.module_read)
+      all_fields_if_any_declared (declared_fields r.module_read)
       (fields_in_module (meanings_by_token (declared_object_in t) r) (tree_of r.module_read));
 }
 
@@ -47,10 +47,10 @@ overwritten_fields xs k (y ∷ ys) = overwritten_fields (set xs k y) (k + 1) ys
 -- States that the list `all` consists of `before`, then `replaced_fields`, and then `after`. The
 -- fields in `others` are at the same tokens as `replaced_fields`, so `others` can replace them. The
 -- token indexes of `all` are strictly ascending and less than `token_limit`.
-pub record HasSameTokensWith (all before others after : List FieldName) : Type 0 where
+pub record HasSameTokensIfReplaced (all before others after : List FieldName) : Type 0 where
   pub replaced_fields : List FieldName
   pub token_limit : ℕ
-  pub in_order : AreAscending 0 (token_indexes all) token_limit
+  pub in_order : AreAscendingWithin 0 (token_indexes all) token_limit
   pub is_concatenation : all ≡ before ++ (replaced_fields ++ after)
   pub same : token_indexes all ≡ token_indexes (before ++ (others ++ after))
 
@@ -59,21 +59,21 @@ abbrev pub fields_before : ℕ → List FieldName → List FieldName
 fields_before token xs = filter (λ x. nat_lt x.token token) xs
 
 -- returns the fields of the list `xs` whose token indexes are `token` or more
-abbrev pub fields_from : ℕ → List FieldName → List FieldName
-fields_from token xs = filter (λ x. nat_le token x.token) xs
+abbrev pub fields_at_or_after : ℕ → List FieldName → List FieldName
+fields_at_or_after token xs = filter (λ x. nat_le token x.token) xs
 
 -- Returns the index of an unchanged token in the new text, given its index `i` in the old text. `s`
 -- specifies the unchanged tokens. Returns 2^64 - 1 if the index would be greater.
-abbrev pub new_token_index : SameParts → ℕ → ℕ
+abbrev pub new_token_index : CommonPrefixAndSuffix → ℕ → ℕ
 new_token_index s i = min (moved_token_index s i) (2 ^ 64 - 1)
 
 -- returns the field identifier `x` of the old text with the index that its token has in the new
 -- text; `s` specifies the unchanged tokens
-abbrev pub moved_field : SameParts → FieldName → FieldName
+abbrev pub moved_field : CommonPrefixAndSuffix → FieldName → FieldName
 moved_field s x = record { token = new_token_index s x.token; owner = x.owner }
 
 -- returns the index in the old text of a token that lies after the changed tokens, given its index
 -- `i` in the new text; `s` specifies the unchanged tokens; returns 2^64 - 1 if the index would be
 -- greater
-abbrev pub old_token_index : SameParts → ℕ → ℕ
+abbrev pub old_token_index : CommonPrefixAndSuffix → ℕ → ℕ
 old_token_index s i = min (i - s.new_suffix + s.old_suffix) (2 ^ 64 - 1)

@@ -24,11 +24,11 @@ use Rattle.ob0_types_fields.specs.Owned.{meanings_by_token}
 abbrev pub first_name_listed : {N : Type 0} → Tree N names → N
 first_name_listed (listed x rest) = x
 
--- Returns the types that the words ARRAY and RECORD of a tree construct, in text order, with None
--- for an unknown type. `m` has the meanings of names. If the tree is a written type, `t` is the
--- type that the written type denotes. If the tree is one or more groups of fields, `t` is the type
--- of their record. For any other tree, `t` isn't used. Names that are declared together have the
--- same type, so only the first name is looked up.
+-- Returns the type that each ARRAY or RECORD in a tree constructs, in text order; None for an
+-- unknown type. `m` gives the meanings of names. If the tree is a written type, `t` is the type
+-- that the written type denotes. If the tree is one or more groups of fields, `t` is the type of
+-- their record. For any other tree, `t` isn't used. Names that are declared together have the same
+-- type, so only the first name is looked up.
 abbrev pub constructed_types : {N P : Type 0} {s : Sort}
     → Meanings N Shape P
     → Option Shape

@@ -6,7 +6,7 @@ use Rattle.std.specs.List.{All, list_any, position_from}
 use Rattle.ob0_scan.specs.TextWithTokens.{TextWithTokens}
 use Rattle.ob0_tree.specs.declared.tree.Role.{Role}
 use Rattle.ob0_tree.specs.declared.tree.Role.TheVariants as role
-use Rattle.ob0_tree.specs.Order.{AreAscending}
+use Rattle.ob0_tree.specs.Order.{AreAscendingWithin}
 use Rattle.ob0_tree.specs.Tree.{Tree, block, declares, declares_procedure, end, forms_block, identifiers, item, items, mapped_tree, more, procedure}
 use Rattle.ob0_tree.specs.ParsedModule.{ParsedModule, named_tree_of, tree_of}
 use Rattle.ob0_tree.specs.Places.{token_text_at, token_value_at}
@@ -17,7 +17,7 @@ use Rattle.ob0_scope_table.specs.Spans.{is_on_span}
 use Rattle.ob0_language_types.specs.Declarations.{constructors_before_procedure_block, constructors_before_variables, constructors_before_procedures, procedure_constructor_count}
 use Rattle.ob0_language_types.specs.WellTyped.{WellTyped}
 use Rattle.ob0_types_fields.specs.declared.field_name.FieldName.{FieldName}
-use Rattle.ob0_types_fields.specs.Owned.{fields_with_owners, fields_in_sections, fields_in_types, fields_in_variables, owners_in_resolution}
+use Rattle.ob0_types_fields.specs.Owned.{fields_with_owners, fields_in_parameter_sections, fields_in_types, fields_in_variables, owners_in_resolution}
 use Rattle.ob0_language_fields.specs.Renaming.{with_renamed_field, is_duplicate_field}
 
 -- returns the identifiers in a module that declare or select a field, in text order
@@ -57,7 +57,7 @@ token_indexes xs = map (λ x. x.token) xs
 -- States that the token indexes of the listed identifiers are strictly ascending and less than the text's number of
 -- tokens.
 abbrev pub AreInTextOrder : TextWithTokens → List FieldName → Type 0
-AreInTextOrder source xs = AreAscending 0 (token_indexes xs) (length source.tokens)
+AreInTextOrder source xs = AreAscendingWithin 0 (token_indexes xs) (length source.tokens)
 
 -- returns the first field identifier of a module that contains the byte offset `offset` or ends there; None if there is
 -- none
@@ -87,7 +87,7 @@ abbrev mutual
   -- words ARRAY and RECORD before the procedure
   pub fields_declared_in_procedure : ℕ → Tree ℕ (item procedure) → List FieldName
   fields_declared_in_procedure k (declares_procedure x fs b closing) =
-      fields_in_sections k (formal_sections fs)
+      fields_in_parameter_sections k (formal_sections fs)
       ++ fields_declared_in_block (constructors_before_procedure_block k (declares_procedure x fs b closing)) b
 
 -- returns the identifiers that declare a field in a module, in text order
@@ -133,8 +133,8 @@ RenamingChangesFieldTokens =
 
 -- States that the new name `new` for the field `f` of a record is a duplicate exactly if two conditions hold: `new`
 -- differs from `f`, and a token declares a field `new` of the same record.
-abbrev pub DuplicateHasDeclaringToken : Type 0
-DuplicateHasDeclaringToken =
+abbrev pub DuplicateFieldNameHasDeclaringToken : Type 0
+DuplicateFieldNameHasDeclaringToken =
     (m : ParsedModule) (k : ℕ) (f new : Name)
     → is_duplicate_field (named_tree_of m) k f new
     ≡ (not (same_name new f) && is_some (field_declaring_token m k new))

@@ -9,7 +9,7 @@ use Rattle.ob0_tree.specs.Tree.{Sort, Tree, Item, item, items, selector, maybe, 
 use Rattle.ob0_tree.specs.ParsedModule.{named_tree_of, tree_of}
 use Rattle.ob0_tree.specs.Places.{token_text_at}
 use Rattle.ob0_language_names.specs.Names.{Name}
-use Rattle.ob0_language_names.specs.Parts.{formal_sections, names_in_list, section_type, section_types, section_variables}
+use Rattle.ob0_language_names.specs.Parts.{formal_sections, names_in_list, parameter_section_type, section_types, section_variables}
 use Rattle.ob0_scope_table.specs.Resolution.{IsResolution, Resolution, ordinal_in}
 use Rattle.ob0_language_types.specs.Bindings.{declared_object}
 use Rattle.ob0_language_types.specs.Declarations.{constructors_before_procedure_block, constructors_before_variables, constructors_before_procedures, procedure_constructor_count}
@@ -142,16 +142,16 @@ owners_in_variable_section k (one (declares_variables vs)) = owners_in_variables
 
 -- returns the identifiers of a section of parameters with their owners; `k` is the number of words ARRAY and RECORD
 -- before the section
-abbrev pub owners_in_section : ℕ → Tree ℕ section → List (ℕ × Option ℕ)
-owners_in_section k (value_section ns u) = identifiers_without_owners ns ++ owners_in_type k u
-owners_in_section k (variable_section ns u) = identifiers_without_owners ns ++ owners_in_type k u
+abbrev pub owners_in_parameter_section : ℕ → Tree ℕ section → List (ℕ × Option ℕ)
+owners_in_parameter_section k (value_section ns u) = identifiers_without_owners ns ++ owners_in_type k u
+owners_in_parameter_section k (variable_section ns u) = identifiers_without_owners ns ++ owners_in_type k u
 
 -- returns the identifiers of the sections of parameters after the first section, with their owners; `k` is the number
 -- of words ARRAY and RECORD before these sections
-abbrev pub owners_in_sections : ℕ → Tree ℕ (items further_section) → List (ℕ × Option ℕ)
-owners_in_sections k end = []
-owners_in_sections k (more (then_section f) fs) =
-    owners_in_section k f ++ owners_in_sections (k + constructor_count (section_type f)) fs
+abbrev pub owners_in_parameter_sections : ℕ → Tree ℕ (items further_section) → List (ℕ × Option ℕ)
+owners_in_parameter_sections k end = []
+owners_in_parameter_sections k (more (then_section f) fs) =
+    owners_in_parameter_section k f ++ owners_in_parameter_sections (k + constructor_count (parameter_section_type f)) fs
 
 -- returns the identifiers of formal parameters with their owners; `k` is the number of words ARRAY and RECORD before
 -- the parameters
@@ -159,7 +159,7 @@ abbrev pub owners_in_formals : ℕ → Tree ℕ (maybe formals) → List (ℕ ×
 owners_in_formals k none = []
 owners_in_formals k (one no_formals) = []
 owners_in_formals k (one (some_formals f fs)) =
-    owners_in_section k f ++ owners_in_sections (k + constructor_count (section_type f)) fs
+    owners_in_parameter_section k f ++ owners_in_parameter_sections (k + constructor_count (parameter_section_type f)) fs
 
 -- Returns the identifiers of a block or of procedures, with their owners. `k` is the number of words ARRAY and RECORD
 -- before the block or the procedures.
@@ -253,8 +253,8 @@ table_with_owners table (f ∷ fs) = table_with_owners (set table f.token (Some 
 
 -- States that a table with the owners of all field identifiers of a well-typed module is an owner table
 -- (`IsOwnerTable`). The table is made by entering these owners in a table that has None for each token.
-abbrev pub EnteredFieldsCompleteOwnerTable : Type 0
-EnteredFieldsCompleteOwnerTable =
+abbrev pub TableWithEnteredOwnersIsOwnerTable : Type 0
+TableWithEnteredOwnersIsOwnerTable =
     (r : Resolution)
     → IsResolution r
     → WellTyped (named_tree_of r.module_read)
@@ -364,10 +364,10 @@ fields_in_variables k (more (declares_variable ns u) gs) =
 
 -- returns the fields that sections of parameters declare; `k` is the number of words ARRAY and RECORD before the
 -- sections
-abbrev pub fields_in_sections : ℕ → Tree ℕ (items further_section) → List FieldName
-fields_in_sections k end = []
-fields_in_sections k (more (then_section f) fs) =
-    fields_in_type k (section_type f) ++ fields_in_sections (k + constructor_count (section_type f)) fs
+abbrev pub fields_in_parameter_sections : ℕ → Tree ℕ (items further_section) → List FieldName
+fields_in_parameter_sections k end = []
+fields_in_parameter_sections k (more (then_section f) fs) =
+    fields_in_type k (parameter_section_type f) ++ fields_in_parameter_sections (k + constructor_count (parameter_section_type f)) fs
 
 abbrev mutual
   -- returns the fields that a block declares and selects; `k` is the number of words ARRAY and RECORD before the block
@@ -398,7 +398,7 @@ abbrev mutual
       → Tree ℕ (item procedure)
       → List FieldName
   fields_in_procedure m k (declares_procedure x fs b closing) =
-      fields_in_sections k (formal_sections fs)
+      fields_in_parameter_sections k (formal_sections fs)
       ++ fields_in_block m (constructors_before_procedure_block k (declares_procedure x fs b closing)) b
 
 -- returns the field identifiers of a module that a walk over its tree finds, in text order

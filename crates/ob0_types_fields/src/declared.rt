@@ -2,15 +2,15 @@
 
 ghost use Rattle.std.specs.Prelude.{◌≡◌, ◌≤◌, ◌++◌, ◌+◌, ◌^◌, IfOk, MatchResult};
 ghost use Rattle.ob0_language_names.specs.Parts.{formal_sections, names_in_list, section_types, section_variables};
-ghost use Rattle.ob0_tree.specs.View.{fields_of, formals_of, names_of, record_type_of, type_of, types_of, variables_of};
+ghost use Rattle.ob0_tree.specs.View.{optional_field_group_of, formals_of, names_of, record_type_of, type_of, types_of, variables_of};
 ghost use Rattle.ob0_language_types.specs.Declarations.{formals_constructor_count, types_constructor_count, variables_constructor_count};
 ghost use Rattle.ob0_language_types.specs.Typing.{constructor_count, group_constructor_count};
-ghost use Rattle.ob0_types_fields.specs.Owned.{fields_in_group, fields_at_tokens, fields_in_sections, fields_in_type, fields_in_types, fields_in_variables};
+ghost use Rattle.ob0_types_fields.specs.Owned.{fields_in_group, fields_at_tokens, fields_in_parameter_sections, fields_in_type, fields_in_types, fields_in_variables};
 
 use crate::field_name::{FieldName, FieldNameList};
 use ob0_tree::{
-    FieldGroup, Fields, Names, ParameterSection, RecordType, TypeDeclaration, VariableDeclaration,
-    WrittenType,
+    FieldGroup, Names, OptionalFieldGroup, ParameterSection, RecordType, TypeDeclaration,
+    VariableDeclaration, WrittenType,
 };
 use std::alloc::AllocError;
 
@@ -105,16 +105,16 @@ fn add_group_fields(
     found: &mut FieldNameList,
     word_count: &mut usize,
     owner: usize,
-    f: &Fields,
+    f: &OptionalFieldGroup,
 ) -> Result<(), AllocError>
     ensures found { IfOk result (λ _. found.new.items
-        ≡ found.old.items ++ fields_in_group owner word_count.old (fields_of f.now)) }
+        ≡ found.old.items ++ fields_in_group owner word_count.old (optional_field_group_of f.now)) }
     ensures word_count { IfOk result (λ _. word_count.new
-        ≡ word_count.old + group_constructor_count (fields_of f.now)) }
+        ≡ word_count.old + group_constructor_count (optional_field_group_of f.now)) }
 {
     match f {
-        Fields::Empty => Ok(()),
-        Fields::Listed(l) => {
+        OptionalFieldGroup::Empty => Ok(()),
+        OptionalFieldGroup::Listed(l) => {
             let l: &FieldGroup = l;
             add_named_fields(found, owner, &l.names)?;
             add_type_fields(found, word_count, &l.written)
@@ -179,7 +179,7 @@ pub(crate) fn add_formal_fields(
 ) -> Result<(), AllocError>
     ensures found { IfOk result (λ _. found.new.items
         ≡ found.old.items
-        ++ fields_in_sections word_count.old (formal_sections (formals_of listed.now))) }
+        ++ fields_in_parameter_sections word_count.old (formal_sections (formals_of listed.now))) }
     ensures word_count { IfOk result (λ _. word_count.new
         ≡ word_count.old + formals_constructor_count (formal_sections (formals_of listed.now))) }
 {

@@ -31,7 +31,7 @@ ghost use Rattle.ob0_language_names.specs.Names.{same_name};
 ghost use Rattle.ob0_types_table.specs.KnownTables.{declared_object_in};
 ghost use Rattle.ob0_types_fields.specs.declared.field_name.FieldName.{FieldName};
 ghost use Rattle.ob0_types_fields.specs.Identifiers.{AreInTextOrder, declared_fields, field_at_offset, first_token, field_tokens_of_record, tokens_of_field};
-ghost use Rattle.ob0_types_fields.specs.FieldLists.{HasSameTokensWith, moved_field, fields_before, fields_from, all_if_any_declared, field_lists_of, old_token_index, new_token_index, overwritten_fields};
+ghost use Rattle.ob0_types_fields.specs.FieldLists.{HasSameTokensIfReplaced, moved_field, fields_before, fields_at_or_after, all_fields_if_any_declared, field_lists_of, old_token_index, new_token_index, overwritten_fields};
 ghost use Rattle.ob0_types_fields.specs.Owned.{fields_in_module, fields_in_tree, meanings_by_token};
 
 use crate::declaring::add_block_declared_fields;
@@ -40,8 +40,8 @@ use crate::field_lookups::{
 };
 use crate::field_name::{FieldName, FieldNameList};
 use crate::field_walk::FieldWalk;
-use ob0_scan::{SameParts, Tokens};
-use ob0_scope_table::{BodyPlace, Resolved};
+use ob0_scan::{CommonPrefixAndSuffix, Tokens};
+use ob0_scope_table::{BodyBounds, Resolved};
 use ob0_tree::Statement;
 use ob0_types_table::DeclarationTable;
 use std::alloc::{AllocError, Global};
@@ -85,7 +85,7 @@ impl ModuleFields {
         ensures { IfOk result (λ f. f ≡ field_lists_of table.now resolved.now) }
     {
         let declared = declared_fields(alloc, resolved)?;
-        let all = all_fields(alloc, table, resolved, &declared)?;
+        let all = all_fields_if_any_declared(alloc, table, resolved, &declared)?;
         Ok(ModuleFields { declared, all })
     }
 
@@ -102,7 +102,7 @@ impl ModuleFields {
     ) -> Result<ModuleFields, AllocError>
         ensures declared { IfOk result (λ f. f.declared ≡ self.declared) }
         ensures all { IfOk result (λ f. (before after : List FieldName)
-            → HasSameTokensWith self.all before (fields_in_tree (meanings_by_token (declared_object_in table.now)
+            → HasSameTokensIfReplaced self.all before (fields_in_tree (meanings_by_token (declared_object_in table.now)
             resolved.now) (body_of statements.now)) after
             → f.all
             ≡ before ++ (fields_in_tree (meanings_by_token (declared_object_in table.now) resolved.now)
@@ -128,15 +128,15 @@ impl ModuleFields {
         table: &'a DeclarationTable,
         resolved: &'a Resolved<'t>,
         statements: &Option<Vec<Statement>>,
-        place: BodyPlace,
-        same: SameParts,
+        place: BodyBounds,
+        same: CommonPrefixAndSuffix,
     ) -> Result<ModuleFields, AllocError>
         ensures declared { IfOk result (λ f. f.declared ≡ map (moved_field same) self.declared) }
         ensures all { IfOk result (λ f. f.all
             ≡ fields_before place.first self.all
             ++ (fields_in_tree (meanings_by_token (declared_object_in table.now) resolved.now)
             (body_of statements.now)
-            ++ map (moved_field same) (fields_from (old_token_index same place.closing) self.all))) }
+            ++ map (moved_field same) (fields_at_or_after (old_token_index same place.closing) self.all))) }
     {
         let walk = FieldWalk { table, resolved };
         let mut all = Vec::with_capacity(alloc, self.all.len())?;
@@ -206,7 +206,7 @@ impl ModuleFields {
 /// field of `all` that is at the same token. The replaced fields must be consecutive in `all`,
 /// which must be in text order.
 fn replace_fields_at_tokens(all: &mut FieldNameList, found: &[FieldName])
-    ensures { (before after : List FieldName) → HasSameTokensWith all.old.items before found.now after
+    ensures { (before after : List FieldName) → HasSameTokensIfReplaced all.old.items before found.now after
         → all.new.items ≡ before ++ (found.now ++ after) }
 {
     match found.first() {
@@ -244,7 +244,7 @@ fn overwrite_fields_from(all: &mut FieldNameList, start: usize, found: &[FieldNa
 
 /// Returns the index of an unchanged token in the new text, given its index `token` in the old
 /// text. `same` specifies the unchanged tokens. Returns 2^64 - 1 if the index would be greater.
-fn new_token_index(token: usize, same: SameParts) -> usize
+fn new_token_index(token: usize, same: CommonPrefixAndSuffix) -> usize
     ensures { result ≡ new_token_index same token }
 {
     if token < same.prefix {
@@ -259,7 +259,7 @@ fn new_token_index(token: usize, same: SameParts) -> usize
 /// Returns the index in the old text of a token that lies after the changed tokens, given its index
 /// `token` in the new text. `same` specifies the unchanged tokens. Returns 2^64 - 1 if the index
 /// would be greater.
-fn old_token_index(token: usize, same: SameParts) -> usize
+fn old_token_index(token: usize, same: CommonPrefixAndSuffix) -> usize
     ensures { result ≡ old_token_index same token }
 {
     token
@@ -290,10 +290,10 @@ fn add_moved_fields(
     found: &mut FieldNameList,
     fields: &[FieldName],
     token: usize,
-    same: SameParts,
+    same: CommonPrefixAndSuffix,
 ) -> Result<(), AllocError>
     ensures { OnOk result (found.new.items
-        ≡ found.old.items ++ map (moved_field same) (fields_from token fields.now)) }
+        ≡ found.old.items ++ map (moved_field same) (fields_at_or_after token fields.now)) }
 {
     for field in fields {
         if field.token >= token {
@@ -320,14 +320,14 @@ fn declared_fields(alloc: Global, resolved: &Resolved<'_>) -> Result<FieldNameLi
 
 /// Returns all field identifiers of a module, in text order. `declared` has the identifiers that
 /// declare a field. If `declared` is empty, returns an empty list without a walk over the module.
-fn all_fields<'a, 't>(
+fn all_fields_if_any_declared<'a, 't>(
     alloc: Global,
     table: &'a DeclarationTable,
     resolved: &'a Resolved<'t>,
     declared: &[FieldName],
 ) -> Result<FieldNameList, AllocError>
     ensures { IfOk result (λ found. found.items
-        ≡ all_if_any_declared declared.now
+        ≡ all_fields_if_any_declared declared.now
         (fields_in_module (meanings_by_token (declared_object_in table.now) resolved.now)
         (tree_of resolved.now.module_read))) }
 {

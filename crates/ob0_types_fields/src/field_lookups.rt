@@ -27,7 +27,7 @@ pub(crate) fn field_at_offset(
 {
     // The proof uses the invariant of the tokens, which this call's contract states.
     let _scanned = tokens.text();
-    match found.get(count_ending_before(tokens, offset, found)) {
+    match found.get(count_fields_ending_before(tokens, offset, found)) {
         Some(field) => field_if_at_offset(tokens, offset, *field),
         None => None,
     }
@@ -35,7 +35,7 @@ pub(crate) fn field_at_offset(
 
 /// Returns the number of identifiers in the list `found` that end before the byte offset `offset`.
 /// The list must be sorted by the ends of its identifiers.
-fn count_ending_before(tokens: &Tokens, offset: usize, found: &[FieldName]) -> usize
+fn count_fields_ending_before(tokens: &Tokens, offset: usize, found: &[FieldName]) -> usize
     ensures bound { result ≤ length found.now }
     ensures point { IsNonDecreasingBy (λ x. (span_at tokens.now x.token).end) found.now
         → IsPartitionPoint (λ x. nat_lt (span_at tokens.now x.token).end offset ≡ true)

@@ -15,7 +15,7 @@
 //! skipped.
 
 ghost use Rattle.std.specs.Prelude.{◌≡◌, List, None, option_and_then, option_map};
-ghost use Rattle.ob0_tree.specs.View.{block_of, fields_of, formals_of, procedure_of, record_type_of, section_of, type_of, types_of, variables_of};
+ghost use Rattle.ob0_tree.specs.View.{block_of, optional_field_group_of, formals_of, procedure_of, record_type_of, parameter_section_of, type_of, types_of, variables_of};
 ghost use Rattle.ob0_language_types.specs.Typing.{element_type, field_type, type_of_object};
 ghost use Rattle.ob0_types_table.specs.KnownTables.{declared_object_in, shapes_of};
 ghost use Rattle.ob0_types_table.specs.Tables.{type_shape};
@@ -26,8 +26,8 @@ ghost use Rattle.ob0_types_fields.specs.Search.{state_after_constructors, state_
 use crate::field_name::FieldName;
 use ob0_scope_table::Resolved;
 use ob0_tree::{
-    Block, FieldGroup, Fields, ParameterSection, Procedure, RecordType, TypeDeclaration,
-    VariableDeclaration, WrittenType, token_text_at,
+    Block, FieldGroup, OptionalFieldGroup, ParameterSection, Procedure, RecordType,
+    TypeDeclaration, VariableDeclaration, WrittenType, token_text_at,
 };
 use ob0_types_table::{DeclarationTable, FieldId, TypeId};
 
@@ -185,14 +185,14 @@ impl<'a, 't> ConstructorWalk<'a, 't> {
     /// Returns the state of the search after the type of a group of fields (`x, y: T`). `of` is the
     /// type of the record that contains the group, or None if this type is unknown.
     #[cycle(types)]
-    fn search_group(&self, search: Search, of: Option<TypeId>, f: &Fields) -> Search
+    fn search_group(&self, search: Search, of: Option<TypeId>, f: &OptionalFieldGroup) -> Search
         ensures { search_view_in_walk self.now result
             ≡ state_after_constructors (search_view_in_walk self.now search)
-            (constructed_types (constructor_walk_meanings self.now) (shape_in_walk self.now of) (fields_of f.now)) }
+            (constructed_types (constructor_walk_meanings self.now) (shape_in_walk self.now of) (optional_field_group_of f.now)) }
     {
         match f {
-            Fields::Empty => search,
-            Fields::Listed(l) => {
+            OptionalFieldGroup::Empty => search,
+            OptionalFieldGroup::Listed(l) => {
                 let l: &FieldGroup = l;
                 self.search_type(search, self.field_type_of(of, l.names.first), &l.written)
             }
@@ -243,16 +243,16 @@ impl<'a, 't> ConstructorWalk<'a, 't> {
         };
         let mut search = search;
         for s in sections {
-            search = self.search_section(search, s);
+            search = self.search_parameter_section(search, s);
         }
         search
     }
 
     /// Returns the state of the search after the type of one section of parameters.
-    fn search_section(&self, search: Search, s: &ParameterSection) -> Search
+    fn search_parameter_section(&self, search: Search, s: &ParameterSection) -> Search
         ensures { search_view_in_walk self.now result
             ≡ state_after_constructors (search_view_in_walk self.now search)
-            (constructed_types (constructor_walk_meanings self.now) None (section_of s.now)) }
+            (constructed_types (constructor_walk_meanings self.now) None (parameter_section_of s.now)) }
     {
         self.search_type(search, self.declared_type(s.names.first), &s.written)
     }

@@ -6,12 +6,12 @@
 //! its selector is, so fields are found in text order. Constants and array lengths aren't visited,
 //! because they select no fields.
 //!
-//! Little work is done for parts that select nothing. An expression with a single factor is treated
-//! as that factor. The type of a designator without selectors isn't looked up. The name of a
-//! selected field is looked up once, which gives the field's type.
+//! Little work is done for expressions that select nothing. An expression with a single factor is
+//! treated as that factor. The type of a designator without selectors isn't looked up. The name of
+//! a selected field is looked up once, which gives the field's type.
 
 ghost use Rattle.std.specs.Prelude.{◌≡◌, ◌++◌, ◌+◌, IfOk, Some, option_and_then, option_map};
-ghost use Rattle.ob0_tree.specs.View.{expression_of, compound_of, simple_of, term_of, factor_of, designator_of, selector_of, assignment_of, call_of, arguments_of_vec, statement_of, if_of, elsifs_of_vec, sequence_of_vec, body_of, block_of, procedure_of};
+ghost use Rattle.ob0_tree.specs.View.{expression_of, compound_expression_of, simple_expression_of, term_of, factor_of, designator_of, selector_of, assignment_of, call_of, arguments_of_vec, statement_of, if_of, elsifs_of_vec, sequence_of_vec, body_of, block_of, procedure_of};
 ghost use Rattle.ob0_language_types.specs.Declarations.{block_constructor_count, procedure_constructor_count};
 ghost use Rattle.ob0_types_table.specs.KnownTables.{shapes_of};
 ghost use Rattle.ob0_types_table.specs.Tables.{type_shape};
@@ -153,7 +153,7 @@ impl<'a, 't> FieldWalk<'a, 't> {
         c: &CompoundExpression,
     ) -> Result<(), AllocError>
         ensures { IfOk result (λ _. found.new.items
-            ≡ found.old.items ++ fields_in_tree (field_walk_meanings self.now) (compound_of c.now)) }
+            ≡ found.old.items ++ fields_in_tree (field_walk_meanings self.now) (compound_expression_of c.now)) }
     {
         self.add_simple_expression_fields(found, &c.left)?;
         if let Some(compared) = &c.compared {
@@ -169,7 +169,7 @@ impl<'a, 't> FieldWalk<'a, 't> {
         s: &SimpleExpression,
     ) -> Result<(), AllocError>
         ensures { IfOk result (λ _. found.new.items
-            ≡ found.old.items ++ fields_in_tree (field_walk_meanings self.now) (simple_of s.now)) }
+            ≡ found.old.items ++ fields_in_tree (field_walk_meanings self.now) (simple_expression_of s.now)) }
     {
         self.add_term_fields(found, &s.first)?;
         for addend in &s.more {

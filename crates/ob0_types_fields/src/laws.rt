@@ -4,8 +4,8 @@
 //! nothing; its contract is the law.
 
 ghost use Rattle.ob0_types_fields.specs.FieldTypes.{FieldsHaveTypes};
-ghost use Rattle.ob0_types_fields.specs.Identifiers.{DuplicateHasDeclaringToken, FieldsAreDeclared, FieldsMatchGrammar, RenamingChangesFieldTokens};
-ghost use Rattle.ob0_types_fields.specs.Owned.{WalkFindsAllFields, AgreeingTableIsOwnerTable, EnteredFieldsCompleteOwnerTable};
+ghost use Rattle.ob0_types_fields.specs.Identifiers.{DuplicateFieldNameHasDeclaringToken, FieldsAreDeclared, FieldsMatchGrammar, RenamingChangesFieldTokens};
+ghost use Rattle.ob0_types_fields.specs.Owned.{WalkFindsAllFields, AgreeingTableIsOwnerTable, TableWithEnteredOwnersIsOwnerTable};
 ghost use Rattle.ob0_types_fields.specs.Owners.{RenamingFollowsOwners};
 
 /// Proves that a table is an owner table (`IsOwnerTable`) of a well-typed module if it agrees with
@@ -19,8 +19,8 @@ pub fn agreeing_table_is_owner_table()
 /// Proves that an owner table (`IsOwnerTable`) of a well-typed module can be made in two steps. The
 /// first step makes a table that has None for each token. The second step enters the ordinal of
 /// each field identifier's record at the identifier's token.
-pub fn entered_fields_complete_owner_table()
-    ensures { EnteredFieldsCompleteOwnerTable }
+pub fn table_with_entered_owners_is_owner_table()
+    ensures { TableWithEnteredOwnersIsOwnerTable }
 {}
 
 /// Proves that the code's walk over a module finds exactly the identifiers that declare or select a
@@ -38,8 +38,8 @@ pub fn renaming_changes_field_tokens()
 /// Proves that a new name for a field is a duplicate exactly if two conditions hold. The new name
 /// differs from the field's name, and a token declares a field with the new name in the same
 /// record.
-pub fn duplicate_has_declaring_token()
-    ensures { DuplicateHasDeclaringToken }
+pub fn duplicate_field_name_has_declaring_token()
+    ensures { DuplicateFieldNameHasDeclaringToken }
 {}
 
 /// Proves that each field identifier of a well-typed module has a declaration: there is a token

@@ -5,23 +5,23 @@ use Rattle.ob0_tree.specs.declared.tree.Expression.{Expression}
 use Rattle.ob0_tree.specs.declared.tree.ParameterSection.{ParameterSection}
 use Rattle.ob0_tree.specs.Tree.{one, value_section, variable_section}
 use Rattle.ob0_tree.specs.View as view
-use Rattle.ob0_tree.specs.View.{expression_of, further_argument_of, items_of, names_of, section_of, type_of}
-use Rattle.ob0_language_names.specs.Parts.{names_in_list, section_names}
+use Rattle.ob0_tree.specs.View.{expression_of, further_argument_of, items_of, names_of, parameter_section_of, type_of}
+use Rattle.ob0_language_names.specs.Parts.{names_in_list, parameter_section_names}
 use Rattle.ob0_scope_table.specs.Resolution.{Resolution}
 use Rattle.ob0_types_table.specs.Designators.{labelled_expressions}
 use Rattle.ob0_scope_table.specs.LabelledTrees.{tree_with_labels}
-use Rattle.ob0_language_types.specs.Arguments.{arguments_listed, further_arguments}
+use Rattle.ob0_language_types.specs.Arguments.{call_arguments, further_arguments}
 use Rattle.ob0_language_types.specs.WellTyped.{Mode, by_place, by_value, section_mode}
 
-pub section-names : (r : Resolution) (s : ParameterSection) → section_names (tree_with_labels r (section_of s)) ≡ names_in_list (tree_with_labels r (names_of s.names))
+pub section-names : (r : Resolution) (s : ParameterSection) → parameter_section_names (tree_with_labels r (parameter_section_of s)) ≡ names_in_list (tree_with_labels r (names_of s.names))
 section-names r s = by_mode s.by_reference
   where
-    by_mode : (b : Bool) → section_names (tree_with_labels r (cond b (variable_section (names_of s.names) (type_of s.written)) (value_section (names_of s.names) (type_of s.written)))) ≡ names_in_list (tree_with_labels r (names_of s.names))
+    by_mode : (b : Bool) → parameter_section_names (tree_with_labels r (cond b (variable_section (names_of s.names) (type_of s.written)) (value_section (names_of s.names) (type_of s.written)))) ≡ names_in_list (tree_with_labels r (names_of s.names))
     by_mode true = refl
     by_mode false = refl
 
 -- The mode of a section follows from its VAR mark, for any function from this mark to modes.
-pub section-mode : (mode_of : Bool → Mode) → mode_of true ≡ by_place → mode_of false ≡ by_value → (r : Resolution) (s : ParameterSection) → section_mode (tree_with_labels r (section_of s)) ≡ mode_of s.by_reference
+pub section-mode : (mode_of : Bool → Mode) → mode_of true ≡ by_place → mode_of false ≡ by_value → (r : Resolution) (s : ParameterSection) → section_mode (tree_with_labels r (parameter_section_of s)) ≡ mode_of s.by_reference
 section-mode mode_of marked unmarked r s = by_mode s.by_reference
   where
     by_mode : (b : Bool) → section_mode (tree_with_labels r (cond b (variable_section (names_of s.names) (type_of s.written)) (value_section (names_of s.names) (type_of s.written)))) ≡ mode_of b
@@ -33,7 +33,7 @@ further_listed : (r : Resolution) (es : List Expression) → further_arguments (
 further_listed r [] = refl
 further_listed r (e ∷ es) = ap (λ z. tree_with_labels r (expression_of e) ∷ z) (further_listed r es)
 
-pub all_listed : (r : Resolution) (es : List Expression) → arguments_listed (tree_with_labels r (one (view.arguments_of_list es))) ≡ labelled_expressions r es
+pub all_listed : (r : Resolution) (es : List Expression) → call_arguments (tree_with_labels r (one (view.arguments_of_list es))) ≡ labelled_expressions r es
 all_listed r [] = refl
 all_listed r (e ∷ es) = ap (λ z. tree_with_labels r (expression_of e) ∷ z) (further_listed r es)
 

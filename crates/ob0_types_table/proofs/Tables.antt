@@ -11,7 +11,7 @@ use Rattle.ob0_types_table.specs.declared.types.TypeId.TheVariants as type
 use Rattle.ob0_types_table.specs.declared.known.TypeEntry as code
 use Rattle.ob0_types_table.specs.declared.known.TypeEntry.TheVariants as made
 use Rattle.ob0_types_table.specs.declared.known.Field.{Field}
-use Rattle.ob0_types_table.specs.Tables.{AreEntriesInOrder, HasSizeOfShape, IsTypeAmongEntries, PartsAreAmongEntries, field_shapes, entry_shape, faulty_shape, array_or_faulty, record_or_faulty, extended_shapes, type_shape}
+use Rattle.ob0_types_table.specs.Tables.{AreEntriesInOrder, HasSizeOfShape, RefersOnlyToFirstEntries, PartsReferOnlyToFirstEntries, field_shapes, entry_shape, faulty_shape, array_or_faulty, record_or_faulty, extended_shapes, type_shape}
 
 pub extended_shapes-push : (known : List Shape) (ms : List code.TypeEntry) (m : code.TypeEntry) → extended_shapes known (ms ++ m ∷ []) ≡ extended_shapes known ms ++ entry_shape (extended_shapes known ms) m ∷ []
 extended_shapes-push known [] m = refl
@@ -33,18 +33,18 @@ extended_shapes-known known (x ∷ ms) =
     extended_shapes-known (known ++ entry_shape known x ∷ []) ms ∙ append_assoc known (entry_shape known x ∷ []) (shapes_later (known ++ entry_shape known x ∷ []) ms)
 
 -- Adding shapes leaves the shape of every existing type unchanged.
-pub type_shape-more : (shapes later : List Shape) (t : TypeId) → IsTypeAmongEntries (length shapes) t → type_shape (shapes ++ later) t ≡ type_shape shapes t
+pub type_shape-more : (shapes later : List Shape) (t : TypeId) → RefersOnlyToFirstEntries (length shapes) t → type_shape (shapes ++ later) t ≡ type_shape shapes t
 type_shape-more shapes later type.Integer h = refl
 type_shape-more shapes later type.Boolean h = refl
 type_shape-more shapes later (type.Array i) h = ap array_or_faulty (get_or-append shapes later faulty_shape i h)
 type_shape-more shapes later (type.Record i) h = ap record_or_faulty (get_or-append shapes later faulty_shape i h)
 type_shape-more shapes later type.Unknown h = refl
 
-pub field_shapes-more : (shapes later : List Shape) (fs : List Field) → All (λ f. IsTypeAmongEntries (length shapes) f.of) fs → field_shapes (shapes ++ later) fs ≡ field_shapes shapes fs
+pub field_shapes-more : (shapes later : List Shape) (fs : List Field) → All (λ f. RefersOnlyToFirstEntries (length shapes) f.of) fs → field_shapes (shapes ++ later) fs ≡ field_shapes shapes fs
 field_shapes-more shapes later [] h = refl
-field_shapes-more shapes later (f ∷ fs) h = λ i. next_field_shape (string_bytes f.name) (type_shape-more shapes later f.of (All-head (λ f. IsTypeAmongEntries (length shapes) f.of) f fs h) i) (field_shapes-more shapes later fs (All-tail (λ f. IsTypeAmongEntries (length shapes) f.of) f fs h) i)
+field_shapes-more shapes later (f ∷ fs) h = λ i. next_field_shape (string_bytes f.name) (type_shape-more shapes later f.of (All-head (λ f. RefersOnlyToFirstEntries (length shapes) f.of) f fs h) i) (field_shapes-more shapes later fs (All-tail (λ f. RefersOnlyToFirstEntries (length shapes) f.of) f fs h) i)
 
-pub entry_shape-more : (shapes later : List Shape) (m : code.TypeEntry) → PartsAreAmongEntries (length shapes) m → entry_shape (shapes ++ later) m ≡ entry_shape shapes m
+pub entry_shape-more : (shapes later : List Shape) (m : code.TypeEntry) → PartsReferOnlyToFirstEntries (length shapes) m → entry_shape (shapes ++ later) m ≡ entry_shape shapes m
 entry_shape-more shapes later (made.Array a) h = ap (array_shape a.ordinal a.length) (type_shape-more shapes later a.element h)
 entry_shape-more shapes later (made.Record r) h = ap (record_shape r.ordinal) (field_shapes-more shapes later r.fields h)
 

@@ -10,24 +10,24 @@ use Rattle.ob0_types_table.specs.declared.types.TypeId.{TypeId}
 
 -- Returns the first field with the name `x` in a list, with its type and its position. The position is the field's
 -- index in the list plus `k`. Returns None if there is no such field.
-abbrev pub first_field_numbered_from : ℕ → List Field → Name → Option FirstField
-first_field_numbered_from k [] x = None
-first_field_numbered_from k (f ∷ fs) x =
+abbrev pub first_field_named_from : ℕ → List Field → Name → Option FirstField
+first_field_named_from k [] x = None
+first_field_named_from k (f ∷ fs) x =
     if same_name x (string_bytes f.name)
     then Some (record { place = k; of = f.of })
-    else first_field_numbered_from (suc k) fs x
+    else first_field_named_from (suc k) fs x
 
 -- returns the type of the first field with the name `x`; None if there is none
-abbrev pub first_field_type : List Field → Name → Option TypeId
-first_field_type [] x = None
-first_field_type (f ∷ fs) x =
-    if same_name x (string_bytes f.name) then Some f.of else first_field_type fs x
+abbrev pub type_of_first_field_named : List Field → Name → Option TypeId
+type_of_first_field_named [] x = None
+type_of_first_field_named (f ∷ fs) x =
+    if same_name x (string_bytes f.name) then Some f.of else type_of_first_field_named fs x
 
 -- States that the map has, for each name, the first field with this name in the list. The position that the map has for
 -- the field is the field's index in the list plus `k`.
 pub record IsFirstFieldMapFrom
     (map : BTreeMap (String Global) FirstField) (k : ℕ) (fields : List Field) : Type 0 where
-  pub found : (x : Name) → get_by_text map x ≡ first_field_numbered_from k fields x
+  pub found : (x : Name) → get_by_text map x ≡ first_field_named_from k fields x
 
 -- states that the map has, for each name, the first field with this name, and its index in the list
 abbrev pub IsFirstFieldMap : BTreeMap (String Global) FirstField → List Field → Type 0

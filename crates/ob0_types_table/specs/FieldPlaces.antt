@@ -11,8 +11,8 @@ position_of_field no_field_shape x = None
 position_of_field (next_field_shape y s rest) x =
     if same_name x y then Some 0 else option_map suc (position_of_field rest x)
 
--- returns the field that the name `x` selects in a type: the record's ordinal, and the field's position in the record;
--- None if the type is no record with such a field
+-- returns the field that the name `x` selects in a type: the record's ordinal, and the field's
+-- position in the record; None if the type isn't a record with such a field
 abbrev pub selected_field : Shape → Name → Option FieldId
 selected_field (record_shape k fs) x =
     option_map (λ i. record { ordinal = k; index = i }) (position_of_field fs x)

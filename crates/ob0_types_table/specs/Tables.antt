@@ -4,7 +4,7 @@
 use Rattle.std.specs.Prelude.{◌≡◌, ℕ, ◌<◌, Bool, true, false, List, [], ◌∷◌, ◌++◌, map, length, slice_index_or, All, Some, None, Option, string_bytes}
 use Rattle.ob0_language_values.specs.Scalars.{scalar_value}
 use Rattle.ob0_language_values.specs.Values.{FieldShapes, Shape, array_shape, boolean_shape, integer_shape, next_field_shape, no_field_shape, record_shape}
-use Rattle.ob0_scan.specs.TextWithTokens.{max_text}
+use Rattle.ob0_scan.specs.TextWithTokens.{max_text_length}
 use Rattle.ob0_types_table.specs.declared.types.TypeId.{TypeId}
 use Rattle.ob0_types_table.specs.declared.types.TypeId.TheVariants as type
 use Rattle.ob0_types_table.specs.declared.known.TypeEntry as code
@@ -22,7 +22,7 @@ use Rattle.ob0_language_types.specs.WellTyped.{FormalParameter, Mode, Signature,
 -- Returns the shape of a faulty type: a record without fields, whose ordinal is the greatest length of a text in bytes.
 -- No text has so many words ARRAY and RECORD, so no type of a module has this shape.
 abbrev pub faulty_shape : Shape
-faulty_shape = record_shape max_text no_field_shape
+faulty_shape = record_shape max_text_length no_field_shape
 
 -- returns a shape if it is an array's, otherwise the shape of a faulty type
 abbrev pub array_or_faulty : Shape → Shape
@@ -66,16 +66,16 @@ extended_shapes known [] = known
 extended_shapes known (m ∷ ms) = extended_shapes (known ++ entry_shape known m ∷ []) ms
 
 -- states that the type refers to no entry of the table, or to one of the first `n` entries
-abbrev pub IsTypeAmongEntries : ℕ → TypeId → Type 0
-IsTypeAmongEntries n (type.Array i) = i < n
-IsTypeAmongEntries n (type.Record i) = i < n
-IsTypeAmongEntries n _ = Unit {0}
+abbrev pub RefersOnlyToFirstEntries : ℕ → TypeId → Type 0
+RefersOnlyToFirstEntries n (type.Array i) = i < n
+RefersOnlyToFirstEntries n (type.Record i) = i < n
+RefersOnlyToFirstEntries n _ = Unit {0}
 
 -- states that the element type of an array, or the type of each field of a record, refers to no entry of the table
 -- or to one of the first `n` entries
-abbrev pub PartsAreAmongEntries : ℕ → code.TypeEntry → Type 0
-PartsAreAmongEntries n (made.Array a) = IsTypeAmongEntries n a.element
-PartsAreAmongEntries n (made.Record r) = All (λ f. IsTypeAmongEntries n f.of) r.fields
+abbrev pub PartsReferOnlyToFirstEntries : ℕ → code.TypeEntry → Type 0
+PartsReferOnlyToFirstEntries n (made.Array a) = RefersOnlyToFirstEntries n a.element
+PartsReferOnlyToFirstEntries n (made.Record r) = All (λ f. RefersOnlyToFirstEntries n f.of) r.fields
 
 -- states that an entry has the number of scalars and the depth of the shape `s`
 abbrev pub HasSizeOfShape : code.TypeEntry → Shape → Type 0
@@ -85,7 +85,7 @@ HasSizeOfShape (made.Record r) s = (r.scalars ≡ scalars s) × (r.depth ≡ dep
 -- States that an entry refers only to the entries before it, and has the number of scalars and the depth of its shape.
 -- The entries before it have the shapes `shapes`.
 pub record IsValidEntry (shapes : List Shape) (m : code.TypeEntry) : Type 0 where
-  pub parts : PartsAreAmongEntries (length shapes) m
+  pub parts : PartsReferOnlyToFirstEntries (length shapes) m
   pub counted : HasSizeOfShape m (entry_shape shapes m)
 
 -- States that each entry of the list refers only to earlier entries and has the size of its shape. `known` has the
@@ -105,10 +105,10 @@ abbrev pub formal_view : List Shape → formal.FormalParameter → FormalParamet
 formal_view shapes f = record { mode = mode_of f.by_place; shape = type_shape shapes f.of }
 
 -- converts a standard procedure of the code to a standard procedure of the definitions
-abbrev pub standard_of : standard.StandardProcedure → StandardProcedure
-standard_of standards.Read = read_procedure
-standard_of standards.Write = write_procedure
-standard_of standards.WriteLn = write_line_procedure
+abbrev pub standard_procedure_of : standard.StandardProcedure → StandardProcedure
+standard_procedure_of standards.Read = read_procedure
+standard_procedure_of standards.Write = write_procedure
+standard_procedure_of standards.WriteLn = write_line_procedure
 
 -- converts an object of the table to an object of the definitions; returns None for a constant with
 -- a fault
@@ -118,4 +118,4 @@ object_view shapes (kind.Constant v) = Some (a_constant (scalar_value v))
 object_view shapes kind.FaultyConstant = None
 object_view shapes (kind.Variable t) = Some (a_variable (type_shape shapes t))
 object_view shapes (kind.Procedure fs) = Some (a_procedure (map (formal_view shapes) fs.items))
-object_view shapes (kind.StandardProcedure s) = Some (a_standard (standard_of s))
+object_view shapes (kind.StandardProcedure s) = Some (a_standard (standard_procedure_of s))

@@ -2,7 +2,7 @@
 //! other expression can be a VAR argument.
 
 ghost use Rattle.std.specs.Prelude.{◌≡◌, option_map};
-ghost use Rattle.ob0_tree.specs.View.{compound_of, expression_of, factor_of, simple_of, term_of};
+ghost use Rattle.ob0_tree.specs.View.{compound_expression_of, expression_of, factor_of, simple_expression_of, term_of};
 ghost use Rattle.ob0_types_table.specs.Designators.{designator_of_factor, designator_of_simple, designator_of_term, designator_parts};
 ghost use Rattle.ob0_language_types.specs.Typing.{lone_designator};
 
@@ -24,7 +24,7 @@ pub fn lone_designator(e: &Expression) -> Option<&Designator>
 /// other expression.
 fn designator_of_compound(c: &CompoundExpression) -> Option<&Designator>
     ensures { option_map (λ d. designator_parts d.now) result
-        ≡ lone_designator (compound_of c.now) }
+        ≡ lone_designator (compound_expression_of c.now) }
 {
     match &c.compared {
         None => designator_of_simple(&c.left),
@@ -36,7 +36,7 @@ fn designator_of_compound(c: &CompoundExpression) -> Option<&Designator>
 /// other expression.
 fn designator_of_simple(s: &SimpleExpression) -> Option<&Designator>
     ensures { option_map (λ d. designator_parts d.now) result
-        ≡ designator_of_simple (simple_of s.now) }
+        ≡ designator_of_simple (simple_expression_of s.now) }
 {
     match s.sign {
         None => {

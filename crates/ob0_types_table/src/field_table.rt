@@ -6,7 +6,7 @@
 
 ghost use Rattle.std.specs.Prelude.{◌≡◌, List, IfOk, option_map};
 ghost use Rattle.ob0_language_values.specs.Values as shape;
-ghost use Rattle.ob0_types_table.specs.FieldIndex.{IsFirstFieldMap, first_field_type};
+ghost use Rattle.ob0_types_table.specs.FieldIndex.{IsFirstFieldMap, type_of_first_field_named};
 ghost use Rattle.ob0_types_table.specs.FieldPlaces.{position_of_field};
 ghost use Rattle.ob0_types_table.specs.Tables.{field_shapes, type_shape};
 ghost use Rattle.ob0_language_types.specs.Typing.{shape_of_field};
@@ -29,7 +29,7 @@ struct FirstField {
 #[derive(Drop)]
 pub struct FieldTable {
     fields: Vec<Field>,
-    first_field_by_name: BTreeMap<String, FirstField>,
+    first_fields_by_name: BTreeMap<String, FirstField>,
 }
 
 impl Model for FieldTable {
@@ -42,12 +42,12 @@ impl Model for FieldTable {
 
     ghost view = { λ t. t.fields.items };
 
-    ghost invariant = { λ t. IsFirstFieldMap t.first_field_by_name t.fields.items };
+    ghost invariant = { λ t. IsFirstFieldMap t.first_fields_by_name t.fields.items };
 }
 
 /// Returns a map from each name to the first field with this name. The map is filled starting at
 /// the last field, so that an earlier field replaces a later one with the same name.
-fn first_field_by_name(
+fn first_fields_by_name(
     alloc: Global,
     fields: &[Field],
 ) -> Result<BTreeMap<String, FirstField>, AllocError>
@@ -72,10 +72,10 @@ impl FieldTable {
     pub fn new(fields: Vec<Field>) -> Result<FieldTable, AllocError>
         ensures { IfOk result (λ t. t ≡ fields.items) }
     {
-        let first = first_field_by_name(*fields.allocator(), fields.as_slice())?;
+        let first = first_fields_by_name(*fields.allocator(), fields.as_slice())?;
         Ok(FieldTable {
             fields,
-            first_field_by_name: first,
+            first_fields_by_name: first,
         })
     }
 
@@ -88,12 +88,12 @@ impl FieldTable {
 
     /// Returns the type of the first field with this name. Returns None if there is no such field.
     pub fn find(&self, name: &str) -> Option<TypeId>
-        ensures first { result ≡ first_field_type self.now name.now }
+        ensures first { result ≡ type_of_first_field_named self.now name.now }
         ensures shape { (shapes : List shape.Shape)
             → option_map (type_shape shapes) result
             ≡ shape_of_field (field_shapes shapes self.now) name.now }
     {
-        match self.first_field_by_name.get(name) {
+        match self.first_fields_by_name.get(name) {
             None => None,
             Some(first) => Some(first.of),
         }
@@ -105,7 +105,7 @@ impl FieldTable {
         ensures { (shapes : List shape.Shape)
             → result ≡ position_of_field (field_shapes shapes self.now) name.now }
     {
-        match self.first_field_by_name.get(name) {
+        match self.first_fields_by_name.get(name) {
             None => None,
             Some(first) => Some(first.place),
         }

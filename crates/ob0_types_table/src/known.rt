@@ -22,7 +22,7 @@ use std::marker::Model;
 pub const MAX_SCALARS: usize = 65536;
 
 /// The greatest depth of nested arrays and records. A named type counts as if it were written out.
-pub const MAX_DEPTH: usize = 100;
+pub const MAX_TYPE_DEPTH: usize = 100;
 
 /// A field of a record, with its name and type.
 #[derive(Drop)]
@@ -63,8 +63,8 @@ pub struct RecordShape {
     pub depth: usize,
 }
 
-/// An entry of the table: an array or record type, which is made by one word ARRAY or RECORD of the
-/// text.
+/// An entry of the table: an array or record type. It is made by one occurrence of the word ARRAY
+/// or RECORD in the text.
 #[derive(Drop)]
 pub enum TypeEntry {
     Array(ArrayShape),
@@ -252,7 +252,7 @@ impl DeclarationTable {
     }
 
     /// Returns the type of the first field with this name in a record type. Returns None if the
-    /// type is no record with such a field.
+    /// type isn't a record with such a field.
     pub fn field_type(&self, base: TypeId, name: &str) -> Option<TypeId>
         ensures { option_map (type_shape (shapes_of self.now)) result
             ≡ field_type (type_shape (shapes_of self.now) base) name.now }
@@ -270,7 +270,7 @@ impl DeclarationTable {
     }
 
     /// Returns the first field with this name in a record type: the record's ordinal, and the
-    /// field's position. Returns None if the type is no record with such a field.
+    /// field's position. Returns None if the type isn't a record with such a field.
     pub fn field(&self, base: TypeId, name: &str) -> Option<FieldId>
         ensures { result ≡ selected_field (type_shape (shapes_of self.now) base) name.now }
     {

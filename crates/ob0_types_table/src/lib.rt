@@ -14,8 +14,8 @@ mod types;
 pub use entries::add_entry;
 pub use field_table::FieldTable;
 pub use known::{
-    ArrayShape, DeclarationTable, Field, FieldId, FormalParameter, MAX_DEPTH, MAX_SCALARS, Object,
-    RecordShape, StandardProcedure, TypeEntry,
+    ArrayShape, DeclarationTable, Field, FieldId, FormalParameter, MAX_SCALARS, MAX_TYPE_DEPTH,
+    Object, RecordShape, StandardProcedure, TypeEntry,
 };
 pub use numbers::number_at;
 pub use type_parts::Parts;

@@ -1,7 +1,7 @@
 //! Returns the values of integer tokens.
 
 ghost use Rattle.std.specs.Prelude.{◌≡◌, ◌≤◌, pos};
-ghost use Rattle.ob0_tree.specs.Places.{token_value_at, kind_value_or_zero};
+ghost use Rattle.ob0_tree.specs.Places.{token_value_at, integer_value_or_zero};
 ghost use Rattle.ob0_scan.specs.Classes.{max_integer};
 
 use ob0_scan::{TokenKind, Tokens};
@@ -15,16 +15,16 @@ pub fn number_at(tokens: &Tokens, token: usize) -> i32
     let _scanned = tokens.text();
     let tokens = tokens.tokens();
     if token < tokens.len() {
-        number_of(tokens[token].kind)
+        integer_value_of_kind(tokens[token].kind)
     } else {
         0
     }
 }
 
 /// Returns the value of an integer token, given its kind. Returns 0 for any other kind.
-fn number_of(kind: TokenKind) -> i32
-    requires { kind_value_or_zero kind ≤ max_integer }
-    ensures { result ≡ pos (kind_value_or_zero kind) }
+fn integer_value_of_kind(kind: TokenKind) -> i32
+    requires { integer_value_or_zero kind ≤ max_integer }
+    ensures { result ≡ pos (integer_value_or_zero kind) }
 {
     match kind {
         TokenKind::Integer(value) => value as i32,

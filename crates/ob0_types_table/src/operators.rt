@@ -50,7 +50,7 @@ pub fn signed_value(sign: Option<Sign>, operand: Option<Scalar>) -> Option<Scala
 
 /// Returns the value of `~` applied to an operand. Returns None if the operand has no value or
 /// isn't a truth value.
-pub fn complement(operand: Option<Scalar>) -> Option<Scalar>
+pub fn value_of_negation(operand: Option<Scalar>) -> Option<Scalar>
     ensures { option_map scalar_value result
         ≡ option_and_then (λ x. outcome_value (values.negate x)) (option_map scalar_value operand) }
 {

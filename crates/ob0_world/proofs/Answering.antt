@@ -28,34 +28,34 @@ use Rattle.ob0_text.proofs.EntryLaws.{updated-some, updated-none}
 use Rattle.ob0_rpc.specs.Requesting.{code_action, request_by_method}
 use Rattle.ob0_rpc.specs.Faults.{minus}
 use Rattle.ob0_rpc.specs.Messages.{ReadsContent, meaning_of_content, meaning_of}
-use Rattle.ob0_rpc.specs.Shapes.{result_message, error_message}
+use Rattle.ob0_rpc.specs.Shapes.{result_message, error_response_message}
 use Rattle.ob0_rpc.specs.declared.clients.ClientFeatures.{ClientFeatures}
-use Rattle.ob0_edits.specs.Inlinings.{OffersInlining}
-use Rattle.ob0_session_answers.specs.Actions.{RequestedActions, ListsActions, kinds_include_inlining, wants_inlining, actions_offset, actions_array}
+use Rattle.ob0_edits.specs.Inlinings.{OffersOrRefusesInlining}
+use Rattle.ob0_session_answers.specs.Actions.{VersionedActionsRequest, ListsActions, kinds_include_inlining, wants_inlining, actions_offset, actions_array}
 use Rattle.ob0_session_server.specs.Answers as answers_of
-use Rattle.ob0_session_server.specs.Answers.{ServerState, Reply, AreContentsOfReply, Sends, Reaction, react, apply_notification, react_to_notification, react_to_method, react_to_request as requested_in, react_to_known_request, react_about_document, formatting_reply, renames, actions_reply, publication_reply, Answers, AnswersInPhase, AnswersBeforeEnd, says}
+use Rattle.ob0_session_server.specs.Answers.{ServerState, Reply, AreContentsOfReply, SendsMessage, Reaction, react, apply_notification, react_to_notification, react_to_method, react_to_request as requested_in, react_to_known_request, react_about_document, formatting_reply, renames, actions_reply, publication_reply, Answers, AnswersInPhase, AnswersBeforeEnd, says}
 use Rattle.ob0_analysis.specs.Diagnosed.{ReportedDiagnosis, IsWellTypedModule, Reports, ReportsFaults, reported_diagnosis_of_fault}
 use Rattle.ob0_session_answers.specs.Diagnostics.{AreDiagnosticsOf, diagnostic_of}
 use Rattle.ob0_analysis.specs.Texts.{utf8}
 use Rattle.ob0_session_answers.specs.Formatted.{AnswersFormatting}
-use Rattle.ob0_session_answers.specs.Renamed.{RequestedRename, AnswersRenaming}
-use Rattle.ob0_session_json.specs.Shapes.{Diagnostic, diagnostic_value, edit_value, edits_value, document_edit, workspace_edit, publication}
+use Rattle.ob0_session_answers.specs.Renamed.{VersionedRenameRequest, AnswersRenaming}
+use Rattle.ob0_session_json.specs.Shapes.{Diagnostic, diagnostic_value, edit_value, edits_value, document_edit_value, workspace_edit, publication}
 use Rattle.ob0_world_rules.specs.Answers.{Inlining, OneUse, Everywhere}
 use Rattle.ob0_session_server.specs.declared.session.Phase.TheVariants.{Running}
 use Rattle.ob0_world_editor.specs.MessagesToServer as heard_as
-use Rattle.ob0_world_editor.specs.MessagesToServer.{request_number, notification_for, HasVersionInRange, IsAsk, client_request_for}
-use Rattle.ob0_world_editor.specs.Shapes.{method_of, empty_range_at}
-use Rattle.ob0_world_editor.specs.MessagesToEditor.{answer_to, message_to_editor_of, message_to_editor_by, edits_in, workspace_edit_items, edits_for, has_no_items}
+use Rattle.ob0_world_editor.specs.MessagesToServer.{request_number_from_id, notification_for, HasVersionInRange, SentRequestAsksFor, client_request_for}
+use Rattle.ob0_world_editor.specs.Shapes.{method_of_ask, empty_range_at}
+use Rattle.ob0_world_editor.specs.MessagesToEditor.{answer_to_ask, message_to_editor_of, message_to_editor_by, edits_in, workspace_edit_items, edits_for, has_no_items}
 use Rattle.ob0_world_editor.proofs.Hearing.{read_as}
 use Rattle.ob0_world_rules.specs.Edited.{Replacement, replacement_of, replacements}
 use Rattle.ob0_world_rules.specs.Asks.{Ask, rename, inline_here, inline_all, format, clamped_indent}
-use Rattle.ob0_world_rules.specs.Answers.{position_offset, IsAnswerForText, IsAnswer, IsEmptyIfWellTyped}
-use Rattle.ob0_world_rules.specs.ClientAndServer.{SentAsk, MessageToServer, notifies, requests, MessageToEditor, publishes, answers, after_message}
-use Rattle.ob0_world_rules.specs.Serving.{Publishes, Replies}
+use Rattle.ob0_world_rules.specs.Answers.{position_offset, IsAnswerForText, IsAnswerForDocument, IsEmptyExactlyIfWellTyped}
+use Rattle.ob0_world_rules.specs.ClientAndServer.{SentAsk, MessageToServer, notifies, requests, MessageToEditor, publishes, answers, documents_after_message}
+use Rattle.ob0_world_rules.specs.Serving.{SendsDiagnostics, Replies}
 use Rattle.ob0_world_rules.proofs.ModuleTexts.{well_typed_text, well_typed_module}
 use Rattle.ob0_world_rules.proofs.UriLaws.{get_put, uri_itself}
-use Rattle.ob0_world.specs.Queues.{RunsWithEditor, publication_with_text, publication_in_first_message}
-use Rattle.ob0_world.specs.Exchanges.{IsActionsRequest, AcceptsActions, AcceptsEdits}
+use Rattle.ob0_world.specs.Queues.{RunsWithModelEditor, publication_with_text, publication_in_first_message}
+use Rattle.ob0_world.specs.Exchanges.{IsActionsRequest, AcceptsLiteralActions, AcceptsEditsFor}
 use Rattle.ob0_world.proofs.Places.{place_of_range}
 
 -- ---- contents that are read
@@ -96,11 +96,11 @@ some_reported text reported (inr (inr types)) none = go types.faults types.some 
     go [] some none = omega (arith, some)
     go (f ∷ fs) some none = cc
 
-reports_right : (unit : Unit) (text : List ℕ) (ds : List Diagnostic) → AreDiagnosticsOf unit text ds → IsEmptyIfWellTyped text (has_no_items (items_of (map diagnostic_value ds)))
+reports_right : (unit : Unit) (text : List ℕ) (ds : List Diagnostic) → AreDiagnosticsOf unit text ds → IsEmptyExactlyIfWellTyped text (has_no_items (items_of (map diagnostic_value ds)))
 reports_right unit text ds (reported, reporting, is) =
-    subst (λ ds. IsEmptyIfWellTyped text (has_no_items (items_of (map diagnostic_value ds)))) (sym is) (go reporting)
+    subst (λ ds. IsEmptyExactlyIfWellTyped text (has_no_items (items_of (map diagnostic_value ds)))) (sym is) (go reporting)
   where
-    go : Reports (utf8 text) reported → IsEmptyIfWellTyped text (has_no_items (items_of (map diagnostic_value (map (diagnostic_of unit text) reported))))
+    go : Reports (utf8 text) reported → IsEmptyExactlyIfWellTyped text (has_no_items (items_of (map diagnostic_value (map (diagnostic_of unit text) reported))))
     go (inl (found, none)) = (λ empty. well_typed_text text found, λ well_typed. empty_none (diagnostic_of unit text) reported none)
     go (inr (unfit, faults)) = (λ empty. absurd (some_reported (utf8 text) reported faults (none_empty (diagnostic_of unit text) reported empty)), λ well_typed. absurd (unfit (well_typed_module text well_typed)))
 
@@ -142,7 +142,7 @@ workspace_read_back : (client : ClientFeatures) (uri : List ℕ) (version : ℤ)
 workspace_read_back client uri version edits = go client.accepts_document_changes
   where
     go : (b : Bool)
-        → option_and_then edits_in (workspace_edit_items uri (cond b (object (member (codes "documentChanges") (array (item (document_edit uri version edits) no_items)) no_members)) (object (member (codes "changes") (object (member uri (edits_value edits) no_members)) no_members))))
+        → option_and_then edits_in (workspace_edit_items uri (cond b (object (member (codes "documentChanges") (array (item (document_edit_value uri version edits) no_items)) no_members)) (object (member (codes "changes") (object (member uri (edits_value edits) no_members)) no_members))))
         ≡ Some (replacements edits)
     go true = edits_read_back edits
     go false = ap (λ o. option_and_then edits_in (option_and_then as_array o)) (own_member uri (edits_value edits)) ∙ edits_read_back edits
@@ -152,7 +152,7 @@ renames_read_back : (id : Data) (position : Position) (name uri : List ℕ) (ver
 renames_read_back id position name uri version edits client = ap (λ o. unwrap_or o []) (workspace_read_back client uri version edits)
 
 -- returns a rename request in the session's words
-abbrev rename_requested : ClientFeatures → Data → List ℕ → Position → List ℕ → ℤ → RequestedRename
+abbrev rename_requested : ClientFeatures → Data → List ℕ → Position → List ℕ → ℤ → VersionedRenameRequest
 rename_requested client id uri position name version =
     record { id = id; client = client; at = record { uri = uri; position = position }; version = version; new = name }
 
@@ -173,7 +173,7 @@ edits_offered (Some edits) = replacements edits.items
 edits_offered None = []
 
 -- The editor reads the edits of the action that it asked for from the list of offered actions.
-actions_read_back : (how : Inlining) (position : Position) (requested : RequestedActions) (here everywhere : Option (Vec Edit Global))
+actions_read_back : (how : Inlining) (position : Position) (requested : VersionedActionsRequest) (here everywhere : Option (Vec Edit Global))
     → edits_for requested.uri (inlining_at how position) (result_message requested.id (actions_array requested here everywhere)) ≡ edits_offered (requested_for how here everywhere)
 actions_read_back OneUse position requested (Some edits) everywhere = ap (λ o. unwrap_or o []) (workspace_read_back requested.client requested.uri requested.version edits.items)
 actions_read_back OneUse position requested None (Some other) = refl
@@ -188,11 +188,11 @@ none_read_back OneUse position uri id = refl
 none_read_back Everywhere position uri id = refl
 
 -- An inlining that is offered, or not offered for a reason, is the answer to the ask.
-offered_here : (unit : Unit) (text : List ℕ) (position : Position) (o : Option (Vec Edit Global)) → OffersInlining OneUse unit text (position_offset unit text position) o → IsAnswerForText unit text (inline_here position) (edits_offered o)
+offered_here : (unit : Unit) (text : List ℕ) (position : Position) (o : Option (Vec Edit Global)) → OffersOrRefusesInlining OneUse unit text (position_offset unit text position) o → IsAnswerForText unit text (inline_here position) (edits_offered o)
 offered_here unit text position None refused = inr (inl refused, refl)
 offered_here unit text position (Some found) inlines = inl (found.items, (found, inlines, refl), refl)
 
-offered_everywhere : (unit : Unit) (text : List ℕ) (position : Position) (o : Option (Vec Edit Global)) → OffersInlining Everywhere unit text (position_offset unit text position) o → IsAnswerForText unit text (inline_all position) (edits_offered o)
+offered_everywhere : (unit : Unit) (text : List ℕ) (position : Position) (o : Option (Vec Edit Global)) → OffersOrRefusesInlining Everywhere unit text (position_offset unit text position) o → IsAnswerForText unit text (inline_all position) (edits_offered o)
 offered_everywhere unit text position None refused = inr (inl refused, refl)
 offered_everywhere unit text position (Some found) inlines = inl (found.items, (found, inlines, refl), refl)
 
@@ -203,34 +203,34 @@ least n = omega arith
 place_is : (unit : Unit) (text : List ℕ) (position : Position) → actions_offset unit text (empty_range_at position) ≡ position_offset unit text position
 place_is unit text position = least (position_offset unit text position)
 
-requested_offered : (how : Inlining) (unit : Unit) (text : List ℕ) (position : Position) (offset : ℕ) (here everywhere : Option (Vec Edit Global)) → offset ≡ position_offset unit text position → OffersInlining OneUse unit text offset here
-    → OffersInlining Everywhere unit text offset everywhere → IsAnswerForText unit text (inlining_at how position) (edits_offered (requested_for how here everywhere))
-requested_offered OneUse unit text position offset here everywhere is one other = offered_here unit text position here (subst (λ place. OffersInlining OneUse unit text place here) is one)
-requested_offered Everywhere unit text position offset here everywhere is one other = offered_everywhere unit text position everywhere (subst (λ place. OffersInlining Everywhere unit text place everywhere) is other)
+requested_offered : (how : Inlining) (unit : Unit) (text : List ℕ) (position : Position) (offset : ℕ) (here everywhere : Option (Vec Edit Global)) → offset ≡ position_offset unit text position → OffersOrRefusesInlining OneUse unit text offset here
+    → OffersOrRefusesInlining Everywhere unit text offset everywhere → IsAnswerForText unit text (inlining_at how position) (edits_offered (requested_for how here everywhere))
+requested_offered OneUse unit text position offset here everywhere is one other = offered_here unit text position here (subst (λ place. OffersOrRefusesInlining OneUse unit text place here) is one)
+requested_offered Everywhere unit text position offset here everywhere is one other = offered_everywhere unit text position everywhere (subst (λ place. OffersOrRefusesInlining Everywhere unit text place everywhere) is other)
 
 -- returns the request for actions at a position, of all kinds, in the session's words
-abbrev pub actions_requested_at : ClientFeatures → Data → List ℕ → Position → ℤ → RequestedActions
+abbrev pub actions_requested_at : ClientFeatures → Data → List ℕ → Position → ℤ → VersionedActionsRequest
 actions_requested_at client id uri position version =
     record { id = id; client = client; uri = uri; version = version; range = empty_range_at position; only = None }
 
 -- returns the request for actions in a range, of some kinds, in the session's words
-abbrev pub actions_requested_in : ClientFeatures → Data → List ℕ → Range → Option (List (List ℕ)) → ℤ → RequestedActions
+abbrev pub actions_requested_in : ClientFeatures → Data → List ℕ → Range → Option (List (List ℕ)) → ℤ → VersionedActionsRequest
 actions_requested_in client id uri range only version =
     record { id = id; client = client; uri = uri; version = version; range = range; only = only }
 
 -- A running session answers a request of this editor by its method.
-begun : (ask : Ask) (s : ServerState) (params id : Data) → requested_in Running s id (method_of ask) params ≡ react_to_method s id (method_of ask) params
+begun : (ask : Ask) (s : ServerState) (params id : Data) → requested_in Running s id (method_of_ask ask) params ≡ react_to_method s id (method_of_ask ask) params
 begun (rename position name) s params id = refl
 begun (inline_here position) s params id = refl
 begun (inline_all position) s params id = refl
 begun (format indent) s params id = refl
 
 pub request_reaction : (id : Data) (uri : List ℕ) (ask : Ask) (before after : ServerState) (content : List ℕ) (sent : List (List ℕ)) → before.phase ≡ Running → (is : heard_as.IsRequestWithId id uri ask content) → Answers before content sent after
-    → (after ≡ (react_to_method before id (method_of ask) is.params).after) × AreContentsOfReply (react_to_method before id (method_of ask) is.params).reply sent
+    → (after ≡ (react_to_method before id (method_of_ask ask) is.params).after) × AreContentsOfReply (react_to_method before id (method_of_ask ask) is.params).reply sent
 request_reaction id uri ask before after content sent running is h =
     let answer = reacts_so before after content sent is.json (going_on before after content sent running h) is.reads in
-    let so : react before (meaning_of is.json) ≡ react_to_method before id (method_of ask) is.params =
-    ap (react before) is.means ∙ ap (λ phase. requested_in phase before id (method_of ask) is.params) running ∙ begun ask before is.params id in
+    let so : react before (meaning_of is.json) ≡ react_to_method before id (method_of_ask ask) is.params =
+    ap (react before) is.means ∙ ap (λ phase. requested_in phase before id (method_of_ask ask) is.params) running ∙ begun ask before is.params id in
     (answer.0 ∙ ap (λ (x : Reaction). x.after) so, subst (λ (x : Reaction). AreContentsOfReply x.reply sent) so answer.1)
 
 -- ---- what the editor reads
@@ -246,7 +246,7 @@ module _ (number_of : Data → Option ℕ) (requested : List SentAsk) where
   heard_none sent none =
       subst (λ s. MessagesToServer s []) (sym none) (record { each = All-nil (λ content. (m : MessageToEditor) × (message_to_editor_by number_of requested content ≡ Some m)); all = refl; count = refl })
 
-  heard_one : (sent : List (List ℕ)) (message : Data) (m : MessageToEditor) → Sends message sent → message_to_editor_of number_of requested message ≡ Some m → MessagesToServer sent (m ∷ [])
+  heard_one : (sent : List (List ℕ)) (message : Data) (m : MessageToEditor) → SendsMessage message sent → message_to_editor_of number_of requested message ≡ Some m → MessagesToServer sent (m ∷ [])
   heard_one sent message m (content, is, writes) means =
       let said : message_to_editor_by number_of requested content ≡ Some m = read_as number_of requested content message writes.reads ∙ means in
       subst (λ s. MessagesToServer s (m ∷ [])) (sym is)
@@ -262,7 +262,7 @@ module _ (number_of : Data → Option ℕ) (requested : List SentAsk) where
   pub record Noted (held : OpenDocuments) (uri : List ℕ) (o : Option Document) (sent : List (List ℕ)) : Type 0 where
     pub said : List MessageToEditor
     pub message_to_server_in : MessagesToServer sent said
-    pub replies : Publishes uri o said (option_to_list (publication_in_first_message held said))
+    pub replies : SendsDiagnostics uri o said (option_to_list (publication_in_first_message held said))
 
   publishes_step : (held : OpenDocuments) (uri : List ℕ) (version : ℤ) (text : List ℕ) (sent : List (List ℕ)) → document_at held uri ≡ Some (InStep version text) → as_i64 (of_integer version) ≡ Some version
       → AreContentsOfReply (publication_reply held.unit uri (Some (InStep version text))) sent → Noted held uri (Some (InStep version text)) sent
@@ -291,7 +291,7 @@ module _ (number_of : Data → Option ℕ) (requested : List SentAsk) where
   pub record Served (m : MessageToServer) (before after : ServerState) (sent : List (List ℕ)) : Type 0 where
     pub phase : after.phase ≡ Running
     pub client : after.client ≡ before.client
-    pub held : after.held ≡ after_message before.held m
+    pub held : after.held ≡ documents_after_message before.held m
     pub said : List MessageToEditor
     pub message_to_server_in : MessagesToServer sent said
     pub replies : Replies before.held m said (option_to_list (publication_in_first_message after.held said))
@@ -336,27 +336,27 @@ module _ (number_of : Data → Option ℕ) (requested : List SentAsk) where
   -- states that ask k is this one and has this id
   record Asks (id : Data) (k : ℕ) (uri : List ℕ) (ask : Ask) : Type 0 where
     numbered : number_of id ≡ Some k
-    is : IsAsk requested k uri ask
+    is : SentRequestAsksFor requested k uri ask
 
   -- The editor reads the answer with this id as the answer to ask k.
-  answered : (id : Data) (k : ℕ) (uri : List ℕ) (ask : Ask) (answer : Data) → Asks id k uri ask → option_and_then (answer_to requested answer) (number_of id) ≡ Some (answers k (edits_for uri ask answer))
+  answered : (id : Data) (k : ℕ) (uri : List ℕ) (ask : Ask) (answer : Data) → Asks id k uri ask → option_and_then (answer_to_ask requested answer) (number_of id) ≡ Some (answers k (edits_for uri ask answer))
   answered id k uri ask answer of =
-      ap (option_and_then (answer_to requested answer)) of.numbered
+      ap (option_and_then (answer_to_ask requested answer)) of.numbered
       ∙ ap (option_map (λ (a : SentAsk). answers k (edits_for a.uri a.ask answer))) of.is.is ∙ (λ i. Some (answers k (edits_for (of.is.about i) (of.is.same_ask i) answer)))
 
   -- states that the contents are the answer to ask k about this document
   record Answered (k : ℕ) (ask : Ask) (unit : Unit) (o : Option Document) (sent : List (List ℕ)) : Type 0 where
     edits : List Replacement
     message_to_server_in : MessagesToServer sent (answers k edits ∷ [])
-    replies : IsAnswer unit o ask edits
+    replies : IsAnswerForDocument unit o ask edits
 
   -- A refusal is an answer without edits.
-  refused : (id : Data) (k : ℕ) (uri : List ℕ) (ask : Ask) (unit : Unit) (o : Option Document) (code : ℤ) (why : List ℕ) (sent : List (List ℕ)) → Asks id k uri ask → Sends (error_message id code why) sent
-      → IsAnswer unit o ask [] → Answered k ask unit o sent
+  refused : (id : Data) (k : ℕ) (uri : List ℕ) (ask : Ask) (unit : Unit) (o : Option Document) (code : ℤ) (why : List ℕ) (sent : List (List ℕ)) → Asks id k uri ask → SendsMessage (error_response_message id code why) sent
+      → IsAnswerForDocument unit o ask [] → Answered k ask unit o sent
   refused id k uri ask unit o code why sent of sends none =
       record {
         edits = [];
-        message_to_server_in = heard_one sent (error_message id code why) (answers k []) sends (answered id k uri ask (error_message id code why) of);
+        message_to_server_in = heard_one sent (error_response_message id code why) (answers k []) sends (answered id k uri ask (error_response_message id code why) of);
         replies = none;
       }
 
@@ -370,11 +370,11 @@ module _ (number_of : Data → Option ℕ) (requested : List SentAsk) where
           let these : edits_for uri (format indent) answer ≡ replacements edits = ap (λ o. unwrap_or o []) (edits_read_back edits) in
           record {
             edits = replacements edits;
-            message_to_server_in = heard_one sent answer (answers k (replacements edits)) (subst (λ m. Sends m sent) is sends) (answered id k uri (format indent) answer of ∙ ap (λ es. Some (answers k es)) these);
+            message_to_server_in = heard_one sent answer (answers k (replacements edits)) (subst (λ m. SendsMessage m sent) is sends) (answered id k uri (format indent) answer of ∙ ap (λ es. Some (answers k es)) these);
             replies = inl (edits, laid, refl);
           }
-      go (inr (inl (long, is))) = refused id k uri (format indent) unit (Some (InStep version text)) (minus 32803) (refusal_text TooLong) sent of (subst (λ m. Sends m sent) is sends) (inr (inl long, refl))
-      go (inr (inr (unfit, is))) = refused id k uri (format indent) unit (Some (InStep version text)) (minus 32803) (codes "ill-typed") sent of (subst (λ m. Sends m sent) is sends) (unfit_answer unit text (format indent) unfit)
+      go (inr (inl (long, is))) = refused id k uri (format indent) unit (Some (InStep version text)) (minus 32803) (refusal_text TooLong) sent of (subst (λ m. SendsMessage m sent) is sends) (inr (inl long, refl))
+      go (inr (inr (unfit, is))) = refused id k uri (format indent) unit (Some (InStep version text)) (minus 32803) (codes "ill-typed") sent of (subst (λ m. SendsMessage m sent) is sends) (unfit_answer unit text (format indent) unfit)
 
   renamed : (id : Data) (k : ℕ) (uri : List ℕ) (position : Position) (name : List ℕ) (client : ClientFeatures) (unit : Unit) (version : ℤ) (text : List ℕ) (sent : List (List ℕ)) → Asks id k uri (rename position name)
       → AreContentsOfReply (renames unit (rename_requested client id uri position name version) text) sent → Answered k (rename position name) unit (Some (InStep version text)) sent
@@ -386,18 +386,18 @@ module _ (number_of : Data → Option ℕ) (requested : List SentAsk) where
           let these : edits_for uri (rename position name) answer ≡ replacements edits = renames_read_back id position name uri version edits client in
           record {
             edits = replacements edits;
-            message_to_server_in = heard_one sent answer (answers k (replacements edits)) (subst (λ m. Sends m sent) is sends) (answered id k uri (rename position name) answer of ∙ ap (λ es. Some (answers k es)) these);
+            message_to_server_in = heard_one sent answer (answers k (replacements edits)) (subst (λ m. SendsMessage m sent) is sends) (answered id k uri (rename position name) answer of ∙ ap (λ es. Some (answers k es)) these);
             replies = inl (edits, found, refl);
           }
-      go (inr (inl (refusal, why, is))) = refused id k uri (rename position name) unit (Some (InStep version text)) (minus 32803) (refusal_text refusal) sent of (subst (λ m. Sends m sent) is sends) (inr (inl (refusal, why), refl))
-      go (inr (inr (unfit, is))) = refused id k uri (rename position name) unit (Some (InStep version text)) (minus 32803) (codes "ill-typed") sent of (subst (λ m. Sends m sent) is sends) (unfit_answer unit text (rename position name) unfit)
+      go (inr (inl (refusal, why, is))) = refused id k uri (rename position name) unit (Some (InStep version text)) (minus 32803) (refusal_text refusal) sent of (subst (λ m. SendsMessage m sent) is sends) (inr (inl (refusal, why), refl))
+      go (inr (inr (unfit, is))) = refused id k uri (rename position name) unit (Some (InStep version text)) (minus 32803) (codes "ill-typed") sent of (subst (λ m. SendsMessage m sent) is sends) (unfit_answer unit text (rename position name) unfit)
 
   inlined_in : (how : Inlining) (id : Data) (k : ℕ) (uri : List ℕ) (position : Position) (range : Range) (only : Option (List (List ℕ))) (client : ClientFeatures) (unit : Unit) (version : ℤ) (text : List ℕ) (sent : List (List ℕ))
       → client.accepts_literal_actions ≡ true → kinds_include_inlining only ≡ true → actions_offset unit text range ≡ position_offset unit text position → Asks id k uri (inlining_at how position)
       → AreContentsOfReply (actions_reply unit (actions_requested_in client id uri range only version) text) sent → Answered k (inlining_at how position) unit (Some (InStep version text)) sent
   inlined_in how id k uri position range only client unit version text sent literal allowed place of (message, (value, how_listed, is), sends) = go how_listed
     where
-      request : RequestedActions
+      request : VersionedActionsRequest
       request = actions_requested_in client id uri range only version
 
       editing_result : (edits : List Replacement) → edits_for uri (inlining_at how position) (result_message id value) ≡ edits → IsAnswerForText unit text (inlining_at how position) edits
@@ -406,7 +406,7 @@ module _ (number_of : Data → Option ℕ) (requested : List SentAsk) where
           let answer : Data = result_message id value in
           record {
             edits = edits;
-            message_to_server_in = heard_one sent answer (answers k edits) (subst (λ m. Sends m sent) is sends) (answered id k uri (inlining_at how position) answer of ∙ ap (λ es. Some (answers k es)) these);
+            message_to_server_in = heard_one sent answer (answers k edits) (subst (λ m. SendsMessage m sent) is sends) (answered id k uri (inlining_at how position) answer of ∙ ap (λ es. Some (answers k es)) these);
             replies = answer_is;
           }
 
@@ -447,42 +447,42 @@ module _ (number_of : Data → Option ℕ) (requested : List SentAsk) where
       → ((version : ℤ) (text : List ℕ) → AreContentsOfReply (say version text) sent → Answered k ask before.held.unit (Some (InStep version text)) sent)
       → (o : Option Document) → document_at before.held uri ≡ o → after ≡ (react_about_document before id o say).after → AreContentsOfReply (react_about_document before id o say).reply sent → Served (requests k uri ask) before after sent
   about_document id k uri ask say before after sent running of in_step None at same saying =
-      asks_served k uri ask before after sent running same (refused id k uri ask before.held.unit (document_at before.held uri) (minus 32803) (codes "unopened") sent of saying (subst (λ o. IsAnswer before.held.unit o ask []) (sym at) refl))
+      asks_served k uri ask before after sent running same (refused id k uri ask before.held.unit (document_at before.held uri) (minus 32803) (codes "unopened") sent of saying (subst (λ o. IsAnswerForDocument before.held.unit o ask []) (sym at) refl))
   about_document id k uri ask say before after sent running of in_step (Some OutOfStep) at same saying =
-      asks_served k uri ask before after sent running same (refused id k uri ask before.held.unit (document_at before.held uri) (minus 32803) (codes "out of step") sent of saying (subst (λ o. IsAnswer before.held.unit o ask []) (sym at) refl))
+      asks_served k uri ask before after sent running same (refused id k uri ask before.held.unit (document_at before.held uri) (minus 32803) (codes "out of step") sent of saying (subst (λ o. IsAnswerForDocument before.held.unit o ask []) (sym at) refl))
   about_document id k uri ask say before after sent running of in_step (Some (InStep version text)) at same saying =
       asks_served k uri ask before after sent running same (subst (λ o. Answered k ask before.held.unit o sent) (sym at) (in_step version text saying))
 
   -- A running session replies to a request of this editor as the model's server does.
-  request_served : (id : Data) (k : ℕ) (uri : List ℕ) (ask : Ask) (params : Data) (before after : ServerState) (sent : List (List ℕ)) → before.phase ≡ Running → AcceptsEdits before.client ask → Asks id k uri ask → request_by_method (method_of ask) params ≡ Ok (client_request_for uri ask)
-      → after ≡ (react_to_method before id (method_of ask) params).after → AreContentsOfReply (react_to_method before id (method_of ask) params).reply sent → Served (requests k uri ask) before after sent
+  request_served : (id : Data) (k : ℕ) (uri : List ℕ) (ask : Ask) (params : Data) (before after : ServerState) (sent : List (List ℕ)) → before.phase ≡ Running → AcceptsEditsFor before.client ask → Asks id k uri ask → request_by_method (method_of_ask ask) params ≡ Ok (client_request_for uri ask)
+      → after ≡ (react_to_method before id (method_of_ask ask) params).after → AreContentsOfReply (react_to_method before id (method_of_ask ask) params).reply sent → Served (requests k uri ask) before after sent
   request_served id k uri (rename position name) params before after sent running takes of call is saying =
       let say : ℤ → List ℕ → Reply = λ version. renames before.held.unit (rename_requested before.client id uri position name version) in
-      let so : react_to_method before id (method_of (rename position name)) params ≡ react_about_document before id (document_at before.held uri) say = ap (react_to_known_request before id) call in
+      let so : react_to_method before id (method_of_ask (rename position name)) params ≡ react_about_document before id (document_at before.held uri) say = ap (react_to_known_request before id) call in
       about_document id k uri (rename position name) say before after sent running of
       (λ version text. renamed id k uri position name before.client before.held.unit version text sent of) (document_at before.held uri) refl
       (is ∙ ap (λ (x : Reaction). x.after) so) (subst (λ (x : Reaction). AreContentsOfReply x.reply sent) so saying)
   request_served id k uri (inline_here position) params before after sent running takes of call is saying =
       let say : ℤ → List ℕ → Reply = λ version. actions_reply before.held.unit (actions_requested_at before.client id uri position version) in
-      let so : react_to_method before id (method_of (inline_here position)) params ≡ react_about_document before id (document_at before.held uri) say = ap (react_to_known_request before id) call in
+      let so : react_to_method before id (method_of_ask (inline_here position)) params ≡ react_about_document before id (document_at before.held uri) say = ap (react_to_known_request before id) call in
       about_document id k uri (inline_here position) say before after sent running of
       (λ version text. inlined OneUse id k uri position before.client before.held.unit version text sent takes of) (document_at before.held uri) refl
       (is ∙ ap (λ (x : Reaction). x.after) so) (subst (λ (x : Reaction). AreContentsOfReply x.reply sent) so saying)
   request_served id k uri (inline_all position) params before after sent running takes of call is saying =
       let say : ℤ → List ℕ → Reply = λ version. actions_reply before.held.unit (actions_requested_at before.client id uri position version) in
-      let so : react_to_method before id (method_of (inline_all position)) params ≡ react_about_document before id (document_at before.held uri) say = ap (react_to_known_request before id) call in
+      let so : react_to_method before id (method_of_ask (inline_all position)) params ≡ react_about_document before id (document_at before.held uri) say = ap (react_to_known_request before id) call in
       about_document id k uri (inline_all position) say before after sent running of
       (λ version text. inlined Everywhere id k uri position before.client before.held.unit version text sent takes of) (document_at before.held uri) refl
       (is ∙ ap (λ (x : Reaction). x.after) so) (subst (λ (x : Reaction). AreContentsOfReply x.reply sent) so saying)
   request_served id k uri (format indent) params before after sent running takes of call is saying =
       let say : ℤ → List ℕ → Reply = λ version. formatting_reply before.held.unit id (clamped_indent indent) in
-      let so : react_to_method before id (method_of (format indent)) params ≡ react_about_document before id (document_at before.held uri) say = ap (react_to_known_request before id) call in
+      let so : react_to_method before id (method_of_ask (format indent)) params ≡ react_about_document before id (document_at before.held uri) say = ap (react_to_known_request before id) call in
       about_document id k uri (format indent) say before after sent running of
       (λ version text. formatted id k uri indent before.held.unit version text sent of) (document_at before.held uri) refl
       (is ∙ ap (λ (x : Reaction). x.after) so) (subst (λ (x : Reaction). AreContentsOfReply x.reply sent) so saying)
 
   -- A request for the actions in a range is answered as an inlining if the range and the position have the same offset.
-  inline_served : (how : Inlining) (id : Data) (k : ℕ) (uri : List ℕ) (position : Position) (range : Range) (only : Option (List (List ℕ))) (params : Data) (before after : ServerState) (sent : List (List ℕ)) → before.phase ≡ Running → AcceptsActions before.client
+  inline_served : (how : Inlining) (id : Data) (k : ℕ) (uri : List ℕ) (position : Position) (range : Range) (only : Option (List (List ℕ))) (params : Data) (before after : ServerState) (sent : List (List ℕ)) → before.phase ≡ Running → AcceptsLiteralActions before.client
       → Asks id k uri (inlining_at how position) → kinds_include_inlining only ≡ true → ((unit : Unit) (text : List ℕ) → actions_offset unit text range ≡ position_offset unit text position) → request_by_method (codes "textDocument/codeAction") params ≡ Ok (code_action uri range only)
       → after ≡ (react_to_method before id (codes "textDocument/codeAction") params).after → AreContentsOfReply (react_to_method before id (codes "textDocument/codeAction") params).reply sent
       → Served (requests k uri (inlining_at how position)) before after sent
@@ -504,15 +504,15 @@ module _ (number_of : Data → Option ℕ) (requested : List SentAsk) where
       note_served note before after sent running is.fits (answer.0 ∙ ap (λ (x : Reaction). x.after) so) (subst (λ (x : Reaction). AreContentsOfReply x.reply sent) so answer.1)
 
   -- A running session replies to an ask as the model's server does.
-  pub ask_answered : (id : Data) (k : ℕ) (uri : List ℕ) (ask : Ask) (before after : ServerState) (content : List ℕ) (sent : List (List ℕ)) → before.phase ≡ Running → AcceptsEdits before.client ask → number_of id ≡ Some k → IsAsk requested k uri ask
+  pub ask_answered : (id : Data) (k : ℕ) (uri : List ℕ) (ask : Ask) (before after : ServerState) (content : List ℕ) (sent : List (List ℕ)) → before.phase ≡ Running → AcceptsEditsFor before.client ask → number_of id ≡ Some k → SentRequestAsksFor requested k uri ask
       → heard_as.IsRequestWithId id uri ask content → Answers before content sent after → Served (requests k uri ask) before after sent
   ask_answered id k uri ask before after content sent running takes numbered of is h =
       let reaction = request_reaction id uri ask before after content sent running is h in
       request_served id k uri ask is.params before after sent running takes (record { numbered = numbered; is = of }) is.calls reaction.0 reaction.1
 
   -- A running session replies to a request for the actions in a range as the model's server does to an inlining.
-  pub actions_answered : (how : Inlining) (id : Data) (k : ℕ) (uri : List ℕ) (position : Position) (before after : ServerState) (content : List ℕ) (sent : List (List ℕ)) → before.phase ≡ Running → AcceptsActions before.client → number_of id ≡ Some k
-      → IsAsk requested k uri (inlining_at how position) → IsActionsRequest id uri position content → Answers before content sent after → Served (requests k uri (inlining_at how position)) before after sent
+  pub actions_answered : (how : Inlining) (id : Data) (k : ℕ) (uri : List ℕ) (position : Position) (before after : ServerState) (content : List ℕ) (sent : List (List ℕ)) → before.phase ≡ Running → AcceptsLiteralActions before.client → number_of id ≡ Some k
+      → SentRequestAsksFor requested k uri (inlining_at how position) → IsActionsRequest id uri position content → Answers before content sent after → Served (requests k uri (inlining_at how position)) before after sent
   actions_answered how id k uri position before after content sent running takes numbered of is h =
       let answer = reacts_so before after content sent is.json (going_on before after content sent running h) is.reads in
       let so : react before (meaning_of is.json) ≡ react_to_method before id (codes "textDocument/codeAction") is.params =
@@ -523,7 +523,7 @@ module _ (number_of : Data → Option ℕ) (requested : List SentAsk) where
 -- ---- the model's editor
 
 -- A session that runs with this editor has a client that accepts the edits of each ask.
-takes_all : (s : ServerState) (ask : Ask) → RunsWithEditor s → AcceptsEdits s.client ask
+takes_all : (s : ServerState) (ask : Ask) → RunsWithModelEditor s → AcceptsEditsFor s.client ask
 takes_all s (rename position name) running = tt
 takes_all s (inline_here position) running = running.2
 takes_all s (inline_all position) running = running.2
@@ -531,12 +531,12 @@ takes_all s (format indent) running = tt
 
 -- The session replies to a message of the model's editor as the model's server does. The ids of that editor's requests
 -- are their numbers.
-pub served : (requested : List SentAsk) (m : MessageToServer) (before after : ServerState) (content : List ℕ) (sent : List (List ℕ)) → RunsWithEditor before → heard_as.IsMessageToServer requested m content → Answers before content sent after → Served request_number requested m before after sent
-served requested (notifies note) before after content sent running is h = note_answered request_number requested note before after content sent running.0 is h
+pub served : (requested : List SentAsk) (m : MessageToServer) (before after : ServerState) (content : List ℕ) (sent : List (List ℕ)) → RunsWithModelEditor before → heard_as.IsMessageToServer requested m content → Answers before content sent after → Served request_number_from_id requested m before after sent
+served requested (notifies note) before after content sent running is h = note_answered request_number_from_id requested note before after content sent running.0 is h
 served requested (requests k uri ask) before after content sent running (is, of) h =
-    ask_answered request_number requested (number (unsigned k)) k uri ask before after content sent running.0 (takes_all before ask running) refl of is h
+    ask_answered request_number_from_id requested (number (unsigned k)) k uri ask before after content sent running.0 (takes_all before ask running) refl of is h
 
 -- After a message the session still runs with the same client.
-pub runs_on : (requested : List SentAsk) (m : MessageToServer) (before after : ServerState) (sent : List (List ℕ)) → RunsWithEditor before → Served request_number requested m before after sent → RunsWithEditor after
+pub runs_on : (requested : List SentAsk) (m : MessageToServer) (before after : ServerState) (sent : List (List ℕ)) → RunsWithModelEditor before → Served request_number_from_id requested m before after sent → RunsWithModelEditor after
 runs_on requested m before after sent running s =
     (s.phase, ap (λ (c : ClientFeatures). c.accepts_document_changes) s.client ∙ running.1, ap (λ (c : ClientFeatures). c.accepts_literal_actions) s.client ∙ running.2)

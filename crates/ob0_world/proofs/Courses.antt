@@ -1,42 +1,42 @@
--- Extends a course by one event, and derives the results of a list of events and the session's conversation from a
--- course.
--- The returned contents are a `Conversation` by a lemma over the course (`course_conversed`), by cases of the event.
--- `serve` has the same relation (`Served`). A step whose allocation fails keeps the results and the passed contents
--- (`SameHistory`), so the claims hold of the events before it.
+-- Extends a course by one event. Derives the results of a list of events and the session's
+-- conversation from a course. The returned contents are a conversation (`IsConversation`) by a
+-- lemma over the course (`course_conversed`), by cases of the event. `serve` has the same relation
+-- (`Served`). A step whose allocation fails keeps the results and the exchanged contents
+-- (`HaveSameHistory`), so the claims hold for the events before it.
 use Rattle.std.proofs.Common.{◌≡◌, ◌∙◌, ℕ, ◌+◌, ◌<◌, List, [], ◌∷◌, ◌++◌, length, take, get_or, map, refl, sym, ap, subst, inl, inr}
 use Rattle.std.proofs.lemmas.List.{map-append, take_more, append-nil, append_assoc}
 use Rattle.ob0_text.specs.declared.position_types.Unit.{Unit}
 use Rattle.ob0_rpc.specs.declared.clients.ClientFeatures.{ClientFeatures}
 use Rattle.ob0_session_server.specs.Answers as server
-use Rattle.ob0_session_server.specs.Answers.{ServerState, state_after_initialize, Conversation}
+use Rattle.ob0_session_server.specs.Answers.{ServerState, state_after_initialize, IsConversation}
 use Rattle.ob0_world.proofs.Conversing.{conversation_then, answered_once}
-use Rattle.ob0_world_editor.specs.InitializeRequest.{client_for}
+use Rattle.ob0_world_editor.specs.InitializeRequest.{client_features_for}
 use Rattle.ob0_world.specs.declared.events.Event as event
 use Rattle.ob0_world.specs.declared.faults.PlayFault.{PlayFault}
 use Rattle.ob0_world.specs.declared.played.Played as played
 use Rattle.ob0_world_rules.specs.ClientAndServer.{ClientAndServer, start}
-use Rattle.ob0_world_rules.specs.Happens.{Event, editor_acts, serve, take_message, Course}
+use Rattle.ob0_world_rules.specs.Happens.{Event, editor_acts, serve, take_message, IsCourse}
 use Rattle.ob0_world_rules.specs.Headline.{Headline}
 use Rattle.ob0_world_rules.specs.PublicationsInOrder.{AreMadeInOrder}
 use Rattle.ob0_world_rules.proofs.ModelEditor.{holds_in_every_interleaving, publications_in_order}
 use Rattle.ob0_world_rules.proofs.CourseIsDetermined.{course_is_determined}
 use Rattle.ob0_world.specs.Code.{event_of, played_edits, played_publications}
-use Rattle.ob0_world.specs.Worlds.{Wire, Connection, Begins, SessionTakesFirst, EditorTakesFirst, WritesContent, MovesWire, ConnectionStep, ConnectionCourse, ResultsMatch, ContentsMatch, Plays, PlaysPrefix, SameHistory}
+use Rattle.ob0_world.specs.Worlds.{Wire, Connection, IsInitialConnection, SessionTakesFirst, EditorTakesFirst, WritesContent, ChangesWire, ConnectionSteps, IsConnectionCourse, ResultsMatch, ContentsMatch, Plays, PlaysPrefix, HaveSameHistory}
 
 -- ---- one event more
 
-connection_push : (begin : Connection) (events : List Event) (between : Connection) (e : Event) (new : Connection) → ConnectionCourse begin events between → ConnectionStep between e new → ConnectionCourse begin (events ++ e ∷ []) new
-connection_push begin [] between e new is step = (new, subst (λ (x : Connection). ConnectionStep x e new) is step, refl)
+connection_push : (begin : Connection) (events : List Event) (between : Connection) (e : Event) (new : Connection) → IsConnectionCourse begin events between → ConnectionSteps between e new → IsConnectionCourse begin (events ++ e ∷ []) new
+connection_push begin [] between e new is step = (new, subst (λ (x : Connection). ConnectionSteps x e new) is step, refl)
 connection_push begin (first ∷ events) between e new (next, made, rest) step = (next, made, connection_push next events between e new rest step)
 
-pub course_more : (begin : Connection) (events : List event.Event) (i : ℕ) (e : event.Event) (between : Connection) (new : Connection) → i < length events → e ≡ get_or events i e → ConnectionCourse begin (map event_of (take i events)) between
-    → ConnectionStep between (event_of e) new → ConnectionCourse begin (map event_of (take (i + 1) events)) new
+pub course_more : (begin : Connection) (events : List event.Event) (i : ℕ) (e : event.Event) (between : Connection) (new : Connection) → i < length events → e ≡ get_or events i e → IsConnectionCourse begin (map event_of (take i events)) between
+    → ConnectionSteps between (event_of e) new → IsConnectionCourse begin (map event_of (take (i + 1) events)) new
 course_more begin events i e between new within is course step =
-    subst (λ es. ConnectionCourse begin es new)
+    subst (λ es. IsConnectionCourse begin es new)
     (sym (ap (map event_of) (take_more events i e within) ∙ map-append event_of (take i events) (get_or events i e ∷ [])))
-    (connection_push begin (map event_of (take i events)) between (event_of (get_or events i e)) new course (subst (λ x. ConnectionStep between (event_of x) new) is step))
+    (connection_push begin (map event_of (take i events)) between (event_of (get_or events i e)) new course (subst (λ x. ConnectionSteps between (event_of x) new) is step))
 
-model_course : (begin : Connection) (events : List Event) (end : Connection) → ConnectionCourse begin events end → Course begin.model events end.model
+model_course : (begin : Connection) (events : List Event) (end : Connection) → IsConnectionCourse begin events end → IsCourse begin.model events end.model
 model_course begin [] end is = ap (λ (w : Connection). w.model) is
 model_course begin (e ∷ events) end (between, step, rest) = (between.model, step.happens, model_course between events end rest)
 
@@ -44,20 +44,20 @@ model_course begin (e ∷ events) end (between, step, rest) = (between.model, st
 
 -- Everything that has passed is a conversation of a session from its beginning.
 pub Conversed : Wire → Type 0
-Conversed w = Conversation server.start w.taken (w.got ++ w.to_editor) w.session
+Conversed w = IsConversation server.start w.taken (w.got ++ w.to_editor) w.session
 
 pub takes_conversed : (q : List (List ℕ)) (old new : Wire) → SessionTakesFirst q old new → Conversed old → Conversed new
 unfolding Conversed
 takes_conversed [] old new is h = subst Conversed (sym is) h
 takes_conversed (content ∷ rest) old new (after, sent, answers, is) h =
     let more = conversation_then server.start old.taken (old.got ++ old.to_editor) old.session (content ∷ []) sent after h (answered_once old.session content sent after answers) in
-    subst Conversed (sym is) (subst (λ x. Conversation server.start (old.taken ++ content ∷ []) x after) (append_assoc old.got old.to_editor sent) more)
+    subst Conversed (sym is) (subst (λ x. IsConversation server.start (old.taken ++ content ∷ []) x after) (append_assoc old.got old.to_editor sent) more)
 
 pub gets_conversed : (q : List (List ℕ)) (old new : Wire) → old.to_editor ≡ q → EditorTakesFirst q old new → Conversed old → Conversed new
 unfolding Conversed
 gets_conversed [] old new waits is h = subst Conversed (sym is) h
 gets_conversed (content ∷ rest) old new waits is h =
-    subst Conversed (sym is) (subst (λ x. Conversation server.start old.taken x old.session) (ap (λ x. old.got ++ x) waits ∙ sym (append_assoc old.got (content ∷ []) rest)) h)
+    subst Conversed (sym is) (subst (λ x. IsConversation server.start old.taken x old.session) (ap (λ x. old.got ++ x) waits ∙ sym (append_assoc old.got (content ∷ []) rest)) h)
 
 writes_conversed : (old new : Wire) → WritesContent old new → Conversed old → Conversed new
 unfolding Conversed
@@ -68,32 +68,32 @@ pub written_conversed : (wire : Wire) (contents : List (List ℕ)) → Conversed
 unfolding Conversed
 written_conversed wire contents h = h
 
-pub initialized_conversed : (client : ClientFeatures) (taken got : List (List ℕ)) → Conversation server.start taken got (state_after_initialize client) → Conversed (record { session = state_after_initialize client; taken = taken; to_server = []; got = got; to_editor = [] })
+pub initialized_conversed : (client : ClientFeatures) (taken got : List (List ℕ)) → IsConversation server.start taken got (state_after_initialize client) → Conversed (record { session = state_after_initialize client; taken = taken; to_server = []; got = got; to_editor = [] })
 unfolding Conversed
-initialized_conversed client taken got h = subst (λ sent. Conversation server.start taken sent (state_after_initialize client)) (sym (append-nil got)) h
+initialized_conversed client taken got h = subst (λ sent. IsConversation server.start taken sent (state_after_initialize client)) (sym (append-nil got)) h
 
-pub as_conversation : (wire : Wire) → Conversed wire → Conversation server.start wire.taken (wire.got ++ wire.to_editor) wire.session
+pub as_conversation : (wire : Wire) → Conversed wire → IsConversation server.start wire.taken (wire.got ++ wire.to_editor) wire.session
 unfolding Conversed
 as_conversation wire h = h
 
-moved_conversed : (e : Event) (old new : Wire) → MovesWire e old new → Conversed old → Conversed new
+moved_conversed : (e : Event) (old new : Wire) → ChangesWire e old new → Conversed old → Conversed new
 moved_conversed (editor_acts act) old new moves h = writes_conversed old new moves h
 moved_conversed serve old new moves h = takes_conversed old.to_server old new moves h
 moved_conversed take_message old new moves h = gets_conversed old.to_editor old new refl moves h
 
-begins_conversed : (unit : Unit) (w : Connection) → Begins unit w → Conversed w.wire
+begins_conversed : (unit : Unit) (w : Connection) → IsInitialConnection unit w → Conversed w.wire
 unfolding Conversed
 begins_conversed unit w b =
     subst Conversed (sym b.wire)
-    (subst (λ x. Conversation server.start (b.content ∷ []) x (state_after_initialize (client_for unit))) (sym (append-nil b.replies)) (answered_once server.start b.content b.replies (state_after_initialize (client_for unit)) b.answers))
+    (subst (λ x. IsConversation server.start (b.content ∷ []) x (state_after_initialize (client_features_for unit))) (sym (append-nil b.replies)) (answered_once server.start b.content b.replies (state_after_initialize (client_features_for unit)) b.answers))
 
-course_conversed : (begin : Connection) (events : List Event) (end : Connection) → ConnectionCourse begin events end → Conversed begin.wire → Conversed end.wire
+course_conversed : (begin : Connection) (events : List Event) (end : Connection) → IsConnectionCourse begin events end → Conversed begin.wire → Conversed end.wire
 course_conversed begin [] end is h = subst (λ (w : Connection). Conversed w.wire) (sym is) h
 course_conversed begin (e ∷ events) end (between, step, rest) h = course_conversed between events end rest (moved_conversed e begin.wire between.wire step.moves h)
 
 -- ---- the results of a course
 
-headline : (unit : Unit) (events : List event.Event) (w : ClientAndServer) (p : played.Played) → Course (start unit) (map event_of events) w → ResultsMatch w p → Headline unit (map event_of events) (played_edits p) (played_publications p)
+headline : (unit : Unit) (events : List event.Event) (w : ClientAndServer) (p : played.Played) → IsCourse (start unit) (map event_of events) w → ResultsMatch w p → Headline unit (map event_of events) (played_edits p) (played_publications p)
 headline unit events w p course results_match =
     record {
       end = w;
@@ -105,15 +105,15 @@ headline unit events w p course results_match =
       made_in_order = subst (AreMadeInOrder unit (map event_of events)) (sym results_match.1) (publications_in_order unit (map event_of events) w course);
     }
 
-course_begun : (unit : Unit) (begin : Connection) (events : List Event) (end : Connection) → Begins unit begin → ConnectionCourse begin events end → Course (start unit) events end.model
-course_begun unit begin events end begun course = subst (λ w. Course w events end.model) begun.model (model_course begin events end course)
+course_begun : (unit : Unit) (begin : Connection) (events : List Event) (end : Connection) → IsInitialConnection unit begin → IsConnectionCourse begin events end → IsCourse (start unit) events end.model
+course_begun unit begin events end begun course = subst (λ w. IsCourse w events end.model) begun.model (model_course begin events end course)
 
-conversation_of : (w : Wire) (p : played.Played) → ContentsMatch w p → Conversed w → (after : ServerState) × Conversation server.start (map (λ v. v.items) p.taken.items) (map (λ v. v.items) p.got.items ++ map (λ v. v.items) p.unread.items) after
+conversation_of : (w : Wire) (p : played.Played) → ContentsMatch w p → Conversed w → (after : ServerState) × IsConversation server.start (map (λ v. v.items) p.taken.items) (map (λ v. v.items) p.got.items ++ map (λ v. v.items) p.unread.items) after
 unfolding Conversed
 conversation_of w p contents_match h =
-    (w.session, subst (λ (x : Wire). Conversation server.start x.taken (x.got ++ x.to_editor) w.session) (λ i. record w { taken = sym contents_match.0 i; got = sym contents_match.1 i; to_editor = sym contents_match.2 i }) h)
+    (w.session, subst (λ (x : Wire). IsConversation server.start x.taken (x.got ++ x.to_editor) w.session) (λ i. record w { taken = sym contents_match.0 i; got = sym contents_match.1 i; to_editor = sym contents_match.2 i }) h)
 
-pub plays : (unit : Unit) (events : List event.Event) (begin end : Connection) (p : played.Played) → Begins unit begin → ConnectionCourse begin (map event_of events) end → ResultsMatch end.model p → ContentsMatch end.wire p → Plays unit events p
+pub plays : (unit : Unit) (events : List event.Event) (begin end : Connection) (p : played.Played) → IsInitialConnection unit begin → IsConnectionCourse begin (map event_of events) end → ResultsMatch end.model p → ContentsMatch end.wire p → Plays unit events p
 plays unit events begin end p begun course results_match contents_match =
     let talked = conversation_of end.wire p contents_match (course_conversed begin (map event_of events) end course (begins_conversed unit begin begun)) in
     record {
@@ -133,14 +133,14 @@ pub plays_nothing : (unit : Unit) (events : List event.Event) (fault : PlayFault
     → PlaysPrefix unit events fault
 plays_nothing unit events fault none applied made taken got unread = inr (record { none = none; headline = headline unit [] (start unit) fault.played refl (applied, made); taken = taken; got = got; unread = unread })
 
-pub come_before : (old new : Connection) (p : played.Played) → SameHistory old new → ResultsMatch new.model p → ResultsMatch old.model p
+pub come_before : (old new : Connection) (p : played.Played) → HaveSameHistory old new → ResultsMatch new.model p → ResultsMatch old.model p
 come_before old new p same results_match = (results_match.0 ∙ same.applied, results_match.1 ∙ same.made)
 
-pub passed_before : (old new : Connection) (p : played.Played) → SameHistory old new → ContentsMatch new.wire p → ContentsMatch old.wire p
+pub passed_before : (old new : Connection) (p : played.Played) → HaveSameHistory old new → ContentsMatch new.wire p → ContentsMatch old.wire p
 passed_before old new p same contents_match = (contents_match.0 ∙ same.taken, contents_match.1 ∙ same.got, contents_match.2 ∙ same.unread)
 
 -- If memory runs out at the event with this index, the code returns the results of the events before it.
-pub plays_before : (unit : Unit) (events : List event.Event) (i : ℕ) (begin w : Connection) (fault : PlayFault) → fault.steps ≡ i → i < length events → Begins unit begin → ConnectionCourse begin (map event_of (take i events)) w → ResultsMatch w.model fault.played → ContentsMatch w.wire fault.played
+pub plays_before : (unit : Unit) (events : List event.Event) (i : ℕ) (begin w : Connection) (fault : PlayFault) → fault.steps ≡ i → i < length events → IsInitialConnection unit begin → IsConnectionCourse begin (map event_of (take i events)) w → ResultsMatch w.model fault.played → ContentsMatch w.wire fault.played
     → PlaysPrefix unit events fault
 plays_before unit events i begin w fault counted within begun course results_match contents_match =
     inl (subst (λ n. (n < length events) × Plays unit (take n events) fault.played) (sym counted) (within, plays unit (take i events) begin w fault.played begun course results_match contents_match))

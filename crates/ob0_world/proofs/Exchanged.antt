@@ -12,33 +12,33 @@ use Rattle.ob0_rpc.specs.Requesting.{request_by_method}
 use Rattle.ob0_session_server.specs.Answers as server
 use Rattle.ob0_session_server.specs.Answers.{state_after_initialize}
 use Rattle.ob0_session_server.specs.Units.{unit_for}
-use Rattle.ob0_world_editor.specs.InitializeRequest.{client_for}
-use Rattle.ob0_world_editor.specs.MessagesToServer.{request_number, client_request_for, IsRequestWithId, IsMessageToServer}
-use Rattle.ob0_world_editor.specs.Shapes.{method_of, empty_range_at}
+use Rattle.ob0_world_editor.specs.InitializeRequest.{client_features_for}
+use Rattle.ob0_world_editor.specs.MessagesToServer.{request_number_from_id, client_request_for, IsRequestWithId, IsMessageToServer}
+use Rattle.ob0_world_editor.specs.Shapes.{method_of_ask, empty_range_at}
 use Rattle.ob0_world_editor.specs.MessagesToEditor.{message_to_editor_in, message_to_editor_by}
 use Rattle.ob0_world_rules.specs.Asks.{Ask, rename, inline_here, inline_all, format}
 use Rattle.ob0_world_rules.specs.ClientAndServer.{SentAsk, Editor, request_numbered, MessageToServer, notifies, requests, MessageToEditor, publishes, answers, Applied, ClientAndServer, start}
-use Rattle.ob0_world_rules.specs.EditorActs.{Act, ActResult, unchanged_result, act_result, after_reading}
-use Rattle.ob0_world_rules.specs.Happens.{Event, editor_acts, serve, take_message, after_editor_takes, ServerTakes}
+use Rattle.ob0_world_rules.specs.EditorActs.{Act, ActResult, silent_result, act_result, editor_after_reading}
+use Rattle.ob0_world_rules.specs.Happens.{Event, editor_acts, serve, take_message, state_after_editor_takes, ServerTakes}
 use Rattle.ob0_world_rules.specs.EveryEditor.{Turn, editor_moves, server_takes, editor_takes}
 use Rattle.ob0_world_rules.specs.PublicationsInOrder.{AnnouncedDocument, documents_announced_in}
 use Rattle.ob0_world_rules.proofs.ModelEditor.{IsMove, act_may, knows_event}
-use Rattle.ob0_world.specs.Worlds.{Wire, Connection, SessionTakesFirst, EditorTakesFirst, MovesWire, AreMessagesToServer, ConnectionStep, ConnectionCourse}
-use Rattle.ob0_world.specs.Exchanges.{SentRequest, number_id, ask_of_request_id, ask_number_by_id, AssignsAskIds, Exchange, BeginsExchange, IsActionsRequest, IsRequestFor, AcceptsActions, AcceptsEdits, IsMessageToSession, AreMessagesToSession, message_to_editor_by_ids, after_reading_if_any, EditorReadsFirst, with_contents, ExchangeCourse, ACourseIsAnExchange}
+use Rattle.ob0_world.specs.Worlds.{Wire, Connection, SessionTakesFirst, EditorTakesFirst, ChangesWire, AreMessagesToServer, ConnectionSteps, IsConnectionCourse}
+use Rattle.ob0_world.specs.Exchanges.{SentRequestId, number_id, ask_number_of_request_id, ask_number_by_id, AssignsAskIds, Exchange, IsInitialExchange, IsActionsRequest, IsRequestFor, AcceptsLiteralActions, AcceptsEditsFor, IsMessageToSession, AreMessagesToSession, message_to_editor_by_ids, editor_after_reading_if_any, EditorReadsFirst, wire_with_queued_contents, IsExchangeCourse, ACourseIsAnExchange}
 use Rattle.ob0_world.proofs.Conversing.{answered_once}
 use Rattle.std.proofs.lemmas.Bool.{eqb-true, eqb-false}
 use Rattle.std.proofs.lemmas.Option.{same_Some, none-some}
 use Rattle.ob0_rpc.specs.declared.clients.ClientFeatures.{ClientFeatures}
 use Rattle.ob0_world_rules.proofs.PerformsAct.{of_each}
 use Rattle.ob0_world_rules.proofs.SameDocument.{Knows, knows_first}
-use Rattle.ob0_world.specs.Queues.{RunsWithEditor}
+use Rattle.ob0_world.specs.Queues.{RunsWithModelEditor}
 use Rattle.ob0_world.proofs.Answering.{served, runs_on}
 use Rattle.ob0_world.proofs.Waiting.{read_still}
 
 -- ---- the ids of the model's editor
 
 -- returns the ids of asks that have their numbers as ids; the first has this number
-abbrev ids_from : ℕ → List SentAsk → List SentRequest
+abbrev ids_from : ℕ → List SentAsk → List SentRequestId
 ids_from n [] = []
 ids_from n (a ∷ list) = record { id = number_id n; ask = Some n } ∷ ids_from (suc n) list
 
@@ -48,22 +48,22 @@ ids_push (b ∷ list) n a =
     ap (λ ids. record { id = number_id n; ask = Some n } ∷ ids)
     (ids_push list (suc n) a ∙ ap (λ m. ids_from (suc n) list ++ record { id = number_id m; ask = Some m } ∷ []) (omega arith))
 
-no_id : (list : List SentAsk) (n m : ℕ) → n + length list ≤ m → ask_of_request_id (ids_from n list) (number_id m) ≡ None
+no_id : (list : List SentAsk) (n m : ℕ) → n + length list ≤ m → ask_number_of_request_id (ids_from n list) (number_id m) ≡ None
 no_id [] n m h = refl
 no_id (a ∷ list) n m h = go (n == m) refl (no_id list (suc n) m (omega (arith, h)))
   where
-    go : (b : Bool) → (n == m) ≡ b → ask_of_request_id (ids_from (suc n) list) (number_id m) ≡ None → cond b (Some (Some n)) (ask_of_request_id (ids_from (suc n) list) (number_id m)) ≡ None
+    go : (b : Bool) → (n == m) ≡ b → ask_number_of_request_id (ids_from (suc n) list) (number_id m) ≡ None → cond b (Some (Some n)) (ask_number_of_request_id (ids_from (suc n) list) (number_id m)) ≡ None
     go true is later = let same : n ≡ m = eqb-true n m is in absurd (omega (arith, same, h))
     go false is later = later
 
-has_id : (list : List SentAsk) (n i : ℕ) (a : SentAsk) → slice_get list i ≡ Some a → ask_of_request_id (ids_from n list) (number_id (n + i)) ≡ Some (Some (n + i))
+has_id : (list : List SentAsk) (n i : ℕ) (a : SentAsk) → slice_get list i ≡ Some a → ask_number_of_request_id (ids_from n list) (number_id (n + i)) ≡ Some (Some (n + i))
 has_id [] n i a h = absurd (none-some a h)
 has_id (b ∷ list) n zero a h = go (n == n + zero) refl
   where
     here : n ≡ n + zero
     here = omega arith
 
-    go : (b : Bool) → (n == n + zero) ≡ b → cond b (Some (Some n)) (ask_of_request_id (ids_from (suc n) list) (number_id (n + zero))) ≡ Some (Some (n + zero))
+    go : (b : Bool) → (n == n + zero) ≡ b → cond b (Some (Some n)) (ask_number_of_request_id (ids_from (suc n) list) (number_id (n + zero))) ≡ Some (Some (n + zero))
     go true is = ap (λ m. Some (Some m)) here
     go false is = absurd (eqb-false n (n + zero) is here)
 has_id (b ∷ list) n (suc i) a h = go (n == n + suc i) refl (has_id list (suc n) i a h)
@@ -71,17 +71,17 @@ has_id (b ∷ list) n (suc i) a h = go (n == n + suc i) refl (has_id list (suc n
     on : suc n + i ≡ n + suc i
     on = omega arith
 
-    go : (b : Bool) → (n == n + suc i) ≡ b → ask_of_request_id (ids_from (suc n) list) (number_id (suc n + i)) ≡ Some (Some (suc n + i)) → cond b (Some (Some n)) (ask_of_request_id (ids_from (suc n) list) (number_id (n + suc i))) ≡ Some (Some (n + suc i))
+    go : (b : Bool) → (n == n + suc i) ≡ b → ask_number_of_request_id (ids_from (suc n) list) (number_id (suc n + i)) ≡ Some (Some (suc n + i)) → cond b (Some (Some n)) (ask_number_of_request_id (ids_from (suc n) list) (number_id (n + suc i))) ≡ Some (Some (n + suc i))
     go true is later = let same : n ≡ n + suc i = eqb-true n (n + suc i) is in absurd (omega (arith, same))
-    go false is later = subst (λ m. ask_of_request_id (ids_from (suc n) list) (number_id m) ≡ Some (Some m)) on later
+    go false is later = subst (λ m. ask_number_of_request_id (ids_from (suc n) list) (number_id m) ≡ Some (Some m)) on later
 
 -- The number of an ask is its id.
 numbered_so : (requested : List SentAsk) (k : ℕ) (a : SentAsk) → request_numbered requested k ≡ Some a → ask_number_by_id (ids_from 1 requested) (number (unsigned k)) ≡ Some k
 numbered_so requested zero a h = absurd (none-some a h)
-numbered_so requested (suc k) a h = ap (option_and_then (λ ask. ask)) (subst (λ m. ask_of_request_id (ids_from 1 requested) (number_id m) ≡ Some (Some m)) (omega arith) (has_id requested 1 k a h))
+numbered_so requested (suc k) a h = ap (option_and_then (λ ask. ask)) (subst (λ m. ask_number_of_request_id (ids_from 1 requested) (number_id m) ≡ Some (Some m)) (omega arith) (has_id requested 1 k a h))
 
 -- A JSON number that is the number of an ask is read as that ask's id.
-named_so : (requested : List SentAsk) (d : Data) (k : ℕ) (a : SentAsk) → request_numbered requested k ≡ Some a → request_number d ≡ Some k → ask_number_by_id (ids_from 1 requested) d ≡ Some k
+named_so : (requested : List SentAsk) (d : Data) (k : ℕ) (a : SentAsk) → request_numbered requested k ≡ Some a → request_number_from_id d ≡ Some k → ask_number_by_id (ids_from 1 requested) d ≡ Some k
 named_so requested (number (unsigned n)) k a h is =
     let same : n ≡ k = same_Some n k is in
     subst (λ j. ask_number_by_id (ids_from 1 requested) (number (unsigned n)) ≡ Some j) same (numbered_so requested n a (subst (λ j. request_numbered requested j ≡ Some a) (sym same) h))
@@ -97,7 +97,7 @@ named_so requested (object ms) k a h is = absurd (none-some k is)
 record ComesTo (x : Exchange) (editor : Editor) (wire : Wire) (applied : List Applied) : Type 0 where
   turns : List Turn
   announced : List AnnouncedDocument
-  leads : ExchangeCourse x turns (record { editor = editor; ids = ids_from 1 editor.requested; wire = wire; announced = announced; applied = applied })
+  leads : IsExchangeCourse x turns (record { editor = editor; ids = ids_from 1 editor.requested; wire = wire; announced = announced; applied = applied })
 
 abbrev exchange_of : Connection → List AnnouncedDocument → Exchange
 exchange_of c announced = record { editor = c.model.editor; ids = ids_from 1 c.model.editor.requested; wire = c.wire; announced = announced; applied = c.model.applied }
@@ -116,7 +116,7 @@ last_say requested now [] more (c ∷ contents) others h k = absurd h
 last_say requested now (m ∷ messages) more [] others h k = absurd h
 
 -- An ask to inline sends a request for the actions at an empty range, of all kinds.
-inline_said : (id : Data) (uri : List ℕ) (position : Position) (ask : Ask) (content : List ℕ) → method_of ask ≡ codes "textDocument/codeAction" → client_request_for uri ask ≡ asked.code_action uri (empty_range_at position) None → IsRequestWithId id uri ask content
+inline_said : (id : Data) (uri : List ℕ) (position : Position) (ask : Ask) (content : List ℕ) → method_of_ask ask ≡ codes "textDocument/codeAction" → client_request_for uri ask ≡ asked.code_action uri (empty_range_at position) None → IsRequestWithId id uri ask content
     → IsActionsRequest id uri position content
 inline_said id uri position ask content method call is =
     record {
@@ -138,8 +138,8 @@ request_said id uri (inline_here position) content is = inline_said id uri posit
 request_said id uri (inline_all position) content is = inline_said id uri position (inline_all position) content refl refl is
 request_said id uri (format indent) content is = is
 
-module _ (client : ClientFeatures) (takes : AcceptsActions client) where
-  takes_ask : (ask : Ask) → AcceptsEdits client ask
+module _ (client : ClientFeatures) (takes : AcceptsLiteralActions client) where
+  takes_ask : (ask : Ask) → AcceptsEditsFor client ask
   takes_ask (rename position name) = tt
   takes_ask (inline_here position) = takes
   takes_ask (inline_all position) = takes
@@ -181,26 +181,26 @@ sent_names e act =
 record Goes (c : Connection) : Type 0 where
   says : AreMessagesToServer c.model.editor.requested c.model.to_server c.wire.to_server
   means : map (message_to_editor_in c.model.editor.requested) c.wire.to_editor ≡ map Some c.model.to_editor
-  running : RunsWithEditor c.wire.session
+  running : RunsWithModelEditor c.wire.session
   knows : Knows c.model.editor
 
-taken_running : (requested : List SentAsk) (q : List MessageToServer) (contents : List (List ℕ)) (old new : Wire) → AreMessagesToServer requested q contents → SessionTakesFirst contents old new → RunsWithEditor old.session → RunsWithEditor new.session
-taken_running requested [] [] old new says is running = subst (λ (v : Wire). RunsWithEditor v.session) (sym is) running
+taken_running : (requested : List SentAsk) (q : List MessageToServer) (contents : List (List ℕ)) (old new : Wire) → AreMessagesToServer requested q contents → SessionTakesFirst contents old new → RunsWithModelEditor old.session → RunsWithModelEditor new.session
+taken_running requested [] [] old new says is running = subst (λ (v : Wire). RunsWithModelEditor v.session) (sym is) running
 taken_running requested (m ∷ q) (c ∷ rest) old new says (after, sent, answer, is) running =
-    subst (λ (v : Wire). RunsWithEditor v.session) (sym is) (runs_on requested m old.session after sent running (served requested m old.session after c sent running says.0 answer))
+    subst (λ (v : Wire). RunsWithModelEditor v.session) (sym is) (runs_on requested m old.session after sent running (served requested m old.session after c sent running says.0 answer))
 taken_running requested [] (c ∷ rest) old new says takes running = absurd says
 taken_running requested (m ∷ q) [] old new says takes running = absurd says
 
-got_running : (contents : List (List ℕ)) (old new : Wire) → EditorTakesFirst contents old new → RunsWithEditor old.session → RunsWithEditor new.session
-got_running [] old new is running = subst (λ (v : Wire). RunsWithEditor v.session) (sym is) running
-got_running (c ∷ rest) old new is running = subst (λ (v : Wire). RunsWithEditor v.session) (sym is) running
+got_running : (contents : List (List ℕ)) (old new : Wire) → EditorTakesFirst contents old new → RunsWithModelEditor old.session → RunsWithModelEditor new.session
+got_running [] old new is running = subst (λ (v : Wire). RunsWithModelEditor v.session) (sym is) running
+got_running (c ∷ rest) old new is running = subst (λ (v : Wire). RunsWithModelEditor v.session) (sym is) running
 
-event_running : (event : Event) (old new : Connection) → Goes old → MovesWire event old.wire new.wire → RunsWithEditor new.wire.session
-event_running (editor_acts act) old new goes (content, is) = subst (λ (v : Wire). RunsWithEditor v.session) (sym is) goes.running
+event_running : (event : Event) (old new : Connection) → Goes old → ChangesWire event old.wire new.wire → RunsWithModelEditor new.wire.session
+event_running (editor_acts act) old new goes (content, is) = subst (λ (v : Wire). RunsWithModelEditor v.session) (sym is) goes.running
 event_running serve old new goes takes = taken_running old.model.editor.requested old.model.to_server old.wire.to_server old.wire new.wire goes.says takes goes.running
 event_running take_message old new goes gets = got_running old.wire.to_editor old.wire new.wire gets goes.running
 
-event_goes : (event : Event) (old new : Connection) → Goes old → ConnectionStep old event new → Goes new
+event_goes : (event : Event) (old new : Connection) → Goes old → ConnectionSteps old event new → Goes new
 event_goes event old new goes step =
     record { says = step.tied.says; means = step.tied.means; running = event_running event old new goes step.moves; knows = knows_event old.model event new.model goes.knows step.happens }
 
@@ -210,7 +210,7 @@ module _ (c : Connection) (announced : List AnnouncedDocument) (goes : Goes c) w
   abbrev Comes : Editor → Wire → List Applied → Type 0
   Comes editor wire applied = ComesTo (exchange_of c announced) editor wire applied
 
-  still : (contents : List (List ℕ)) (done : ActResult) → done ≡ unchanged_result c.model.editor → AreMessagesToServer done.editor.requested done.sent contents → Comes done.editor (with_contents c.wire contents) (c.model.applied ++ done.applied)
+  still : (contents : List (List ℕ)) (done : ActResult) → done ≡ silent_result c.model.editor → AreMessagesToServer done.editor.requested done.sent contents → Comes done.editor (wire_with_queued_contents c.wire contents) (c.model.applied ++ done.applied)
   still contents done is says =
       let none : contents ≡ [] = none_said c.model.editor.requested contents (subst (λ (d : ActResult). AreMessagesToServer d.editor.requested d.sent contents) is says) in
       record {
@@ -225,17 +225,17 @@ module _ (c : Connection) (announced : List AnnouncedDocument) (goes : Goes c) w
       }
 
   act_comes : (contents : List (List ℕ)) (act : Act) → AreMessagesToServer (act_result c.model.editor act).editor.requested (act_result c.model.editor act).sent contents
-      → Comes (act_result c.model.editor act).editor (with_contents c.wire contents) (c.model.applied ++ (act_result c.model.editor act).applied)
+      → Comes (act_result c.model.editor act).editor (wire_with_queued_contents c.wire contents) (c.model.applied ++ (act_result c.model.editor act).applied)
   act_comes contents act say = go (act_may c.model.editor act goes.knows)
     where
       go : IsMove c.model.editor (act_result c.model.editor act)
-          → Comes (act_result c.model.editor act).editor (with_contents c.wire contents) (c.model.applied ++ (act_result c.model.editor act).applied)
+          → Comes (act_result c.model.editor act).editor (wire_with_queued_contents c.wire contents) (c.model.applied ++ (act_result c.model.editor act).applied)
       go (inl is) = still contents (act_result c.model.editor act) is say
       go (inr (move, may)) =
           let done : ActResult = act_result c.model.editor act in
           let more : List AnnouncedDocument = documents_announced_in done.editor done.sent in
-          let ids : List SentRequest = ids_from 1 done.editor.requested in
-          let y : Exchange = record { editor = done.editor; ids = ids; wire = with_contents c.wire contents; announced = announced ++ more; applied = c.model.applied ++ done.applied } in
+          let ids : List SentRequestId = ids_from 1 done.editor.requested in
+          let y : Exchange = record { editor = done.editor; ids = ids; wire = wire_with_queued_contents c.wire contents; announced = announced ++ more; applied = c.model.applied ++ done.applied } in
           record {
             turns = editor_moves move ∷ [];
             announced = announced ++ more;
@@ -259,26 +259,26 @@ serve_same : (w : ClientAndServer) (queue : List MessageToServer) (new : ClientA
 serve_same w [] new is = (ap (λ (v : ClientAndServer). v.editor) is, ap (λ (v : ClientAndServer). v.applied) is)
 serve_same w (m ∷ rest) new (said, made, replies, is) = (ap (λ (v : ClientAndServer). v.editor) is, ap (λ (v : ClientAndServer). v.applied) is)
 
-reads_asks : (e : Editor) (m : MessageToEditor) → (after_reading e m).requested ≡ e.requested
+reads_asks : (e : Editor) (m : MessageToEditor) → (editor_after_reading e m).requested ≡ e.requested
 reads_asks e (publishes uri version empty) = refl
 reads_asks e (answers k []) = refl
 reads_asks e (answers k (edit ∷ edits)) = refl
 
 -- An answer is read the same if the ids of asks are their numbers.
 read_so_too : (requested : List SentAsk) (content : List ℕ) (m : MessageToEditor) → message_to_editor_in requested content ≡ Some m → message_to_editor_by_ids (ids_from 1 requested) requested content ≡ Some m
-read_so_too requested content m h = subst (λ asks. message_to_editor_by (ask_number_by_id (ids_from 1 requested)) asks content ≡ Some m) (append-nil requested) (read_still request_number (ask_number_by_id (ids_from 1 requested)) requested [] (named_so requested) content m h)
+read_so_too requested content m h = subst (λ asks. message_to_editor_by (ask_number_by_id (ids_from 1 requested)) asks content ≡ Some m) (append-nil requested) (read_still request_number_from_id (ask_number_by_id (ids_from 1 requested)) requested [] (named_so requested) content m h)
 
 take_comes : (c : Connection) (announced : List AnnouncedDocument) (wire : Wire) (queue : List MessageToEditor) (contents : List (List ℕ)) → c.wire.to_editor ≡ contents
     → map (message_to_editor_in c.model.editor.requested) contents ≡ map Some queue → EditorTakesFirst contents c.wire wire
-    → ComesTo (exchange_of c announced) (after_editor_takes c.model queue).editor wire (after_editor_takes c.model queue).applied
+    → ComesTo (exchange_of c announced) (state_after_editor_takes c.model queue).editor wire (state_after_editor_takes c.model queue).applied
 take_comes c announced wire [] [] waits means is = record { turns = []; announced = announced; leads = λ i. record (exchange_of c announced) { wire = is i } }
 take_comes c announced wire (m ∷ queue) (content ∷ rest) waits means is =
     let e : Editor = c.model.editor in
     let first : message_to_editor_in e.requested content ≡ Some m = ap (λ os. get_or os 0 None) means in
     let so : message_to_editor_by_ids (ids_from 1 e.requested) e.requested content ≡ Some m = read_so_too e.requested content m first in
     let x : Exchange = exchange_of c announced in
-    let y : Exchange = record { editor = after_reading e m; ids = ids_from 1 (after_reading e m).requested; wire = wire; announced = announced; applied = c.model.applied } in
-    let gets : EditorReadsFirst (content ∷ rest) x y = λ i. record x { editor = after_reading_if_any x.editor (sym so i); ids = ids_from 1 (reads_asks e m i); wire = is i } in
+    let y : Exchange = record { editor = editor_after_reading e m; ids = ids_from 1 (editor_after_reading e m).requested; wire = wire; announced = announced; applied = c.model.applied } in
+    let gets : EditorReadsFirst (content ∷ rest) x y = λ i. record x { editor = editor_after_reading_if_any x.editor (sym so i); ids = ids_from 1 (reads_asks e m i); wire = is i } in
     record {
       turns = editor_takes ∷ [];
       announced = announced;
@@ -287,7 +287,7 @@ take_comes c announced wire (m ∷ queue) (content ∷ rest) waits means is =
 take_comes c announced wire [] (content ∷ rest) waits means is = absurd (cc)
 take_comes c announced wire (m ∷ queue) [] waits means is = absurd (cc)
 
-event_comes : (event : Event) (old new : Connection) (announced : List AnnouncedDocument) → Goes old → ConnectionStep old event new → ComesTo (exchange_of old announced) new.model.editor new.wire new.model.applied
+event_comes : (event : Event) (old new : Connection) (announced : List AnnouncedDocument) → Goes old → ConnectionSteps old event new → ComesTo (exchange_of old announced) new.model.editor new.wire new.model.applied
 event_comes (editor_acts act) old new announced goes step =
     let (content, is) = step.moves in
     let done : ActResult = act_result old.model.editor act in
@@ -312,11 +312,11 @@ event_comes take_message old new announced goes step =
 
 -- ---- all events
 
-leads_append : (turns more : List Turn) (x between y : Exchange) → ExchangeCourse x turns between → ExchangeCourse between more y → ExchangeCourse x (turns ++ more) y
-leads_append [] more x between y is leads = subst (λ v. ExchangeCourse v more y) is leads
+leads_append : (turns more : List Turn) (x between y : Exchange) → IsExchangeCourse x turns between → IsExchangeCourse between more y → IsExchangeCourse x (turns ++ more) y
+leads_append [] more x between y is leads = subst (λ v. IsExchangeCourse v more y) is leads
 leads_append (turn ∷ turns) more x between y (mid, exchanges, rest) leads = (mid, exchanges, leads_append turns more mid between y rest leads)
 
-course_comes : (events : List Event) (begin end : Connection) (announced : List AnnouncedDocument) → Goes begin → ConnectionCourse begin events end → ComesTo (exchange_of begin announced) end.model.editor end.wire end.model.applied
+course_comes : (events : List Event) (begin end : Connection) (announced : List AnnouncedDocument) → Goes begin → IsConnectionCourse begin events end → ComesTo (exchange_of begin announced) end.model.editor end.wire end.model.applied
 course_comes [] begin end announced goes is = record { turns = []; announced = announced; leads = ap (λ c. exchange_of c announced) is }
 course_comes (event ∷ events) begin end announced goes (between, step, rest) =
     let first : ComesTo (exchange_of begin announced) between.model.editor between.wire between.model.applied = event_comes event begin between announced goes step in
@@ -327,24 +327,24 @@ course_comes (event ∷ events) begin end announced goes (between, step, rest) =
       leads = leads_append first.turns more.turns (exchange_of begin announced) (exchange_of between first.announced) (exchange_of end more.announced) first.leads more.leads;
     }
 
-same_unit : (unit : Unit) → unit_for (client_for unit) ≡ unit
+same_unit : (unit : Unit) → unit_for (client_features_for unit) ≡ unit
 same_unit Utf16 = refl
 same_unit Utf8 = refl
 
 pub a_course_is_an_exchange : ACourseIsAnExchange
 a_course_is_an_exchange unit begin end events b course =
-    let wire : Wire = record { session = state_after_initialize (client_for unit); taken = b.content ∷ []; to_server = []; got = b.replies; to_editor = [] } in
+    let wire : Wire = record { session = state_after_initialize (client_features_for unit); taken = b.content ∷ []; to_server = []; got = b.replies; to_editor = [] } in
     let first_goes : Goes (record { model = start unit; wire = wire }) = record { says = tt; means = refl; running = (refl, refl, refl); knows = knows_first unit } in
     let goes : Goes begin = subst Goes (λ i. record { model = sym b.model i; wire = sym b.wire i }) first_goes in
     let c : ComesTo (exchange_of begin []) end.model.editor end.wire end.model.applied = course_comes events begin end [] goes course in
     let last : Exchange = exchange_of end c.announced in
-    let first : BeginsExchange unit (exchange_of begin []) =
+    let first : IsInitialExchange unit (exchange_of begin []) =
     record {
-      client = client_for unit;
+      client = client_features_for unit;
       counts = same_unit unit;
       taken = b.content ∷ [];
       got = b.replies;
-      initialized = answered_once server.start b.content b.replies (state_after_initialize (client_for unit)) b.answers;
+      initialized = answered_once server.start b.content b.replies (state_after_initialize (client_features_for unit)) b.answers;
       is = λ i. record { editor = (b.model i).editor; ids = ids_from 1 (b.model i).editor.requested; wire = b.wire i; announced = []; applied = (b.model i).applied };
     } in
     (exchange_of begin [], c.turns, last, first, c.leads, refl, refl, refl)

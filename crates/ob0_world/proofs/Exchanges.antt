@@ -21,60 +21,60 @@ use Rattle.ob0_rpc.specs.Messages.{ReadsContent, MessageMeaning, not_json, not_a
 use Rattle.ob0_rpc.specs.Notifications.{other}
 use Rattle.ob0_rpc.specs.Requesting as asked
 use Rattle.ob0_rpc.specs.Requesting.{DocumentPlace, ClientRequest, request_by_method}
-use Rattle.ob0_rpc.specs.Shapes.{result_message, error_message}
+use Rattle.ob0_rpc.specs.Shapes.{result_message, error_response_message}
 use Rattle.ob0_session_answers.specs.Questions.{NameQuestion, hover_question, definition_question, references_question, prepare_rename_question}
-use Rattle.ob0_session_answers.specs.Actions.{RequestedActions}
+use Rattle.ob0_session_answers.specs.Actions.{VersionedActionsRequest}
 use Rattle.ob0_session_json.specs.Shapes.{edits_value, workspace_edit}
-use Rattle.ob0_session_server.specs.Answers.{ServerState, Reply, AreContentsOfReply, Sends, Reaction, react, react_to_request, react_to_notification, apply_notification, react_to_known_request, react_to_method, react_about_document, question_reply, react_to_question, renames, actions_reply, formatting_reply, react_with_error, Answers}
-use Rattle.ob0_world_editor.specs.MessagesToServer.{request_number, sent_request, message_of_notification, message_to_server_of, message_to_server_in}
-use Rattle.ob0_world_editor.specs.MessagesToEditor.{message_to_editor_in, publication_of_notification, answer_of_response, message_to_editor_of, message_to_editor_by, answer_to, edits_for}
+use Rattle.ob0_session_server.specs.Answers.{ServerState, Reply, AreContentsOfReply, SendsMessage, Reaction, react, react_to_request, react_to_notification, apply_notification, react_to_known_request, react_to_method, react_about_document, question_reply, react_to_question, renames, actions_reply, formatting_reply, react_with_error, Answers}
+use Rattle.ob0_world_editor.specs.MessagesToServer.{request_number_from_id, message_of_sent_ask, message_of_notification, message_to_server_of, message_to_server_in}
+use Rattle.ob0_world_editor.specs.MessagesToEditor.{message_to_editor_in, publication_of_notification, answer_of_response, message_to_editor_of, message_to_editor_by, answer_to_ask, edits_for}
 use Rattle.ob0_world_editor.proofs.Hearing.{said, says_heard, read_as}
 use Rattle.ob0_world_rules.specs.Asks.{Ask, rename, inline_here, inline_all, format}
-use Rattle.ob0_world_rules.specs.ClientAndServer.{OpenDocument, SentAsk, Editor, request_numbered, MessageToServer, notifies, requests, MessageToEditor, publishes, answers, PublicationWithText, after_message}
-use Rattle.ob0_world_rules.specs.EditorActs.{ActResult, after_reading, without_answer}
+use Rattle.ob0_world_rules.specs.ClientAndServer.{OpenDocument, SentAsk, Editor, request_numbered, MessageToServer, notifies, requests, MessageToEditor, publishes, answers, PublicationWithText, documents_after_message}
+use Rattle.ob0_world_rules.specs.EditorActs.{ActResult, editor_after_reading, without_answer}
 use Rattle.ob0_world_rules.specs.Editors.{Revision, Move, to_open, to_revise, to_close, to_ask, to_apply, to_discard, revised_document, with_document, Revises, IsAllowedMove}
-use Rattle.ob0_world_rules.specs.EveryEditor.{EditorAndServer, initial_editor_and_server, modeled_messages, notifications_among, Turn, editor_moves, editor_sends_unmodeled, server_takes, editor_takes, MayHappen, MayLeadTo, HoldsWithEditor}
-use Rattle.ob0_world_rules.specs.Answers.{OneUse, Everywhere, IsEmptyIfWellTyped}
-use Rattle.ob0_world_rules.specs.Serving.{Publishes, Replies}
+use Rattle.ob0_world_rules.specs.EveryEditor.{EditorAndServer, initial_editor_and_server, modeled_messages, notifications_among, Turn, editor_moves, editor_sends_unmodeled, server_takes, editor_takes, MayHappen, MayLeadTo, HoldsForEditorAndServer}
+use Rattle.ob0_world_rules.specs.Answers.{OneUse, Everywhere, IsEmptyExactlyIfWellTyped}
+use Rattle.ob0_world_rules.specs.Serving.{SendsDiagnostics, Replies}
 use Rattle.ob0_world_rules.specs.Headline.{IsCorrectPublication, last_publication}
-use Rattle.ob0_world_rules.specs.PublicationsInOrder.{AnnouncedDocument, AreMadeForDocuments, versions_announced_by, versions_announced_in}
+use Rattle.ob0_world_rules.specs.PublicationsInOrder.{AnnouncedDocument, AreMadeForDocuments, uris_and_versions_announced_by, uris_and_versions_announced_in}
 use Rattle.ob0_world_rules.proofs.UriLaws.{mapped_choice}
 use Rattle.ob0_world_rules.proofs.EveryEditor.{holds_for_every_editor}
 use Rattle.ob0_world.specs.Worlds.{Wire, SessionTakesFirst}
 use Rattle.ob0_session_server.specs.declared.session.Phase.TheVariants.{Running}
 use Rattle.ob0_world.specs.Queues.{publication_in_first_message}
-use Rattle.ob0_world.specs.Exchanges.{RequestId, id_of_value, same_id, SentRequest, ask_of_request_id, ask_number_by_id, AssignsAskIds, with_non_ask_id, IsNonAskId, Exchange, BeginsExchange, IsMessageToSession, IsRequestFor, IsReadOnlyRequest, IsUnmodeledMessage, IsUnmodeledContent, message_to_editor_by_ids, after_reading_if_any, EditorReadsFirst, with_contents, Exchanges, ExchangeCourse, AreMessagesToSession, AreMessagesToEditor, EveryExchangeFollowsModel, VersionedPublication, versioned_publication, publications_in, AreCorrectFor, last_publication_of, notifications_in, HoldsForEveryExchange}
+use Rattle.ob0_world.specs.Exchanges.{RequestId, id_of_value, is_same_id, SentRequestId, ask_number_of_request_id, ask_number_by_id, AssignsAskIds, with_non_ask_id, IsNonAskId, Exchange, IsInitialExchange, IsMessageToSession, IsRequestFor, IsReadOnlyRequest, IsUnmodeledMessage, IsUnmodeledContent, message_to_editor_by_ids, editor_after_reading_if_any, EditorReadsFirst, wire_with_queued_contents, Exchanges, IsExchangeCourse, AreMessagesToSession, AreMessagesToEditor, EveryExchangeFollowsModel, VersionedPublication, versioned_publications_of, versioned_publications_in, AreCorrectForDocuments, last_versioned_publication, notifications_in, HoldsForEveryExchange}
 use Rattle.ob0_world.proofs.Answering.{Served, note_answered, ask_answered, actions_answered, going_on, reacts_so}
 use Rattle.ob0_world.proofs.Waiting.{read_still}
 use Rattle.ob0_world.proofs.Ending.{ends_well}
 use Rattle.ob0_world.proofs.Courses.{Conversed, takes_conversed, gets_conversed, written_conversed, initialized_conversed, as_conversation}
-use Rattle.ob0_session_answers.specs.Renamed.{RequestedRename}
+use Rattle.ob0_session_answers.specs.Renamed.{VersionedRenameRequest}
 use Rattle.ob0_rpc.specs.declared.clients.ClientFeatures.{ClientFeatures}
 use Rattle.ob0_world_rules.proofs.Asked.{numbered_push}
 use Rattle.std.proofs.lemmas.Option.{none-some}
 
 -- ---- more requests, and more contents
 
-sent_still : (ids later : List SentRequest) (id : RequestId) (o : Option ℕ) → ask_of_request_id ids id ≡ Some o → ask_of_request_id (ids ++ later) id ≡ Some o
+sent_still : (ids later : List SentRequestId) (id : RequestId) (o : Option ℕ) → ask_number_of_request_id ids id ≡ Some o → ask_number_of_request_id (ids ++ later) id ≡ Some o
 sent_still [] later id o h = absurd (none-some o h)
-sent_still (s ∷ ids) later id o h = go (same_id s.id id) h (sent_still ids later id o)
+sent_still (s ∷ ids) later id o h = go (is_same_id s.id id) h (sent_still ids later id o)
   where
-    go : (b : Bool) → cond b (Some s.ask) (ask_of_request_id ids id) ≡ Some o → (ask_of_request_id ids id ≡ Some o → ask_of_request_id (ids ++ later) id ≡ Some o) → cond b (Some s.ask) (ask_of_request_id (ids ++ later) id) ≡ Some o
+    go : (b : Bool) → cond b (Some s.ask) (ask_number_of_request_id ids id) ≡ Some o → (ask_number_of_request_id ids id ≡ Some o → ask_number_of_request_id (ids ++ later) id ≡ Some o) → cond b (Some s.ask) (ask_number_of_request_id (ids ++ later) id) ≡ Some o
     go true is next = is
     go false is next = next is
 
-ask_with_still : (ids later : List SentRequest) (d : Data) (k : ℕ) → ask_number_by_id ids d ≡ Some k → ask_number_by_id (ids ++ later) d ≡ Some k
+ask_with_still : (ids later : List SentRequestId) (d : Data) (k : ℕ) → ask_number_by_id ids d ≡ Some k → ask_number_by_id (ids ++ later) d ≡ Some k
 ask_with_still ids later d k h = go (id_of_value d) h
   where
-    at : (id : RequestId) (o : Option (Option ℕ)) → ask_of_request_id ids id ≡ o → option_and_then (λ ask. ask) o ≡ Some k → option_and_then (λ ask. ask) (ask_of_request_id (ids ++ later) id) ≡ Some k
+    at : (id : RequestId) (o : Option (Option ℕ)) → ask_number_of_request_id ids id ≡ o → option_and_then (λ ask. ask) o ≡ Some k → option_and_then (λ ask. ask) (ask_number_of_request_id (ids ++ later) id) ≡ Some k
     at id None is h = absurd (none-some k h)
     at id (Some o) is h = ap (option_and_then (λ ask. ask)) (sent_still ids later id o is) ∙ h
 
-    go : (o : Option RequestId) → option_and_then (λ ask. ask) (option_and_then (ask_of_request_id ids) o) ≡ Some k → option_and_then (λ ask. ask) (option_and_then (ask_of_request_id (ids ++ later)) o) ≡ Some k
+    go : (o : Option RequestId) → option_and_then (λ ask. ask) (option_and_then (ask_number_of_request_id ids) o) ≡ Some k → option_and_then (λ ask. ask) (option_and_then (ask_number_of_request_id (ids ++ later)) o) ≡ Some k
     go None h = absurd (none-some k h)
-    go (Some id) h = at id (ask_of_request_id ids id) refl h
+    go (Some id) h = at id (ask_number_of_request_id ids id) refl h
 
-module _ (client : ClientFeatures) (ids later : List SentRequest) (requested more : List SentAsk) where
+module _ (client : ClientFeatures) (ids later : List SentRequestId) (requested more : List SentAsk) where
   id_still : (o : Option RequestId) → IsNonAskId ids o → IsNonAskId (ids ++ later) o
   id_still None h = tt
   id_still (Some id) h = sent_still ids later id None h
@@ -117,7 +117,7 @@ module _ (client : ClientFeatures) (ids later : List SentRequest) (requested mor
   means_on (Some m ∷ r) [] h = absurd h
   means_on (None ∷ r) [] h = absurd h
 
-module _ (client : ClientFeatures) (ids : List SentRequest) (requested : List SentAsk) where
+module _ (client : ClientFeatures) (ids : List SentRequestId) (requested : List SentAsk) where
   says_append : (q p : List (Option MessageToServer)) (contents others : List (List ℕ)) → AreMessagesToSession client ids requested q contents → AreMessagesToSession client ids requested p others → AreMessagesToSession client ids requested (q ++ p) (contents ++ others)
   says_append [] p [] others h k = k
   says_append (Some m ∷ q) p (c ∷ contents) others h k = (h.0, says_append q p contents others h.1 k)
@@ -161,16 +161,16 @@ asks_more e (to_ask uri ask) done announced (d, at, is, are) = (record { ask = a
 asks_more e (to_apply k revisions) done announced a = asks_none e done (ap (λ (x : ActResult). x.editor.requested) a.is ∙ revises_asks revisions (without_answer e k) a.requested.uri a.new announced a.revises)
 asks_more e (to_discard k) done announced (is, are) = asks_none e done (ap (λ (x : ActResult). x.editor.requested) is)
 
-names_more : (ids : List SentRequest) (sent : List MessageToServer) (new : List SentRequest) → AssignsAskIds ids sent new → (later : List SentRequest) × (new ≡ ids ++ later)
+names_more : (ids : List SentRequestId) (sent : List MessageToServer) (new : List SentRequestId) → AssignsAskIds ids sent new → (later : List SentRequestId) × (new ≡ ids ++ later)
 names_more ids [] new is = ([], is ∙ sym (append-nil ids))
 names_more ids (notifies note ∷ sent) new names = names_more ids sent new names
 names_more ids (requests k uri ask ∷ sent) new (id, fresh, names) =
-    let s : SentRequest = record { id = id; ask = Some k } in
-    let more : (later : List SentRequest) × (new ≡ (ids ++ s ∷ []) ++ later) = names_more (ids ++ s ∷ []) sent new names in
+    let s : SentRequestId = record { id = id; ask = Some k } in
+    let more : (later : List SentRequestId) × (new ≡ (ids ++ s ∷ []) ++ later) = names_more (ids ++ s ∷ []) sent new names in
     (s ∷ more.0, more.1 ∙ append_assoc ids (s ∷ []) more.0)
 
 -- The ids after another request are the old ids and perhaps one more.
-others_more : (ids : List SentRequest) (id : Option RequestId) → (later : List SentRequest) × (with_non_ask_id ids id ≡ ids ++ later)
+others_more : (ids : List SentRequestId) (id : Option RequestId) → (later : List SentRequestId) × (with_non_ask_id ids id ≡ ids ++ later)
 others_more ids None = ([], sym (append-nil ids))
 others_more ids (Some id) = (record { id = id; ask = None } ∷ [], refl)
 
@@ -181,29 +181,29 @@ abbrev IsReply : Data → Data → Type 0
 IsReply id message = (is_some (get (codes "method") message) ≡ false) × (get (codes "id") message ≡ Some id)
 
 -- A reply to a request that isn't an ask is no answer to an ask.
-no_answer_to : (ids : List SentRequest) (id message : Data) → IsReply id message → IsNonAskId ids (id_of_value id) → (later : List SentRequest) (requested : List SentAsk) → message_to_editor_of (ask_number_by_id (ids ++ later)) requested message ≡ None
+no_answer_to : (ids : List SentRequestId) (id message : Data) → IsReply id message → IsNonAskId ids (id_of_value id) → (later : List SentRequestId) (requested : List SentAsk) → message_to_editor_of (ask_number_by_id (ids ++ later)) requested message ≡ None
 no_answer_to ids id message (no_method, has_id) own later requested =
     ap (λ b. cond b (publication_of_notification message) (answer_of_response (ask_number_by_id (ids ++ later)) requested message)) no_method
-    ∙ ap (λ o. option_and_then (answer_to requested message) (option_and_then (ask_number_by_id (ids ++ later)) o)) has_id
+    ∙ ap (λ o. option_and_then (answer_to_ask requested message) (option_and_then (ask_number_by_id (ids ++ later)) o)) has_id
     ∙ go (id_of_value id) own
   where
-    go : (o : Option RequestId) → IsNonAskId ids o → option_and_then (answer_to requested message) (option_and_then (λ ask. ask) (option_and_then (ask_of_request_id (ids ++ later)) o)) ≡ None
+    go : (o : Option RequestId) → IsNonAskId ids o → option_and_then (answer_to_ask requested message) (option_and_then (λ ask. ask) (option_and_then (ask_number_of_request_id (ids ++ later)) o)) ≡ None
     go None h = refl
-    go (Some i) h = ap (λ x. option_and_then (answer_to requested message) (option_and_then (λ ask. ask) x)) (sent_still ids later i None h)
+    go (Some i) h = ap (λ x. option_and_then (answer_to_ask requested message) (option_and_then (λ ask. ask) x)) (sent_still ids later i None h)
 
-record OtherServed (ids : List SentRequest) (requested : List SentAsk) (before after : ServerState) (sent : List (List ℕ)) : Type 0 where
+record OtherServed (ids : List SentRequestId) (requested : List SentAsk) (before after : ServerState) (sent : List (List ℕ)) : Type 0 where
   same : after ≡ before
   said : List (Option MessageToEditor)
   none : modeled_messages said ≡ []
   means : AreMessagesToEditor ids requested said sent
 
-module _ (ids : List SentRequest) (requested : List SentAsk) (before after : ServerState) (sent : List (List ℕ)) where
+module _ (ids : List SentRequestId) (requested : List SentAsk) (before after : ServerState) (sent : List (List ℕ)) where
   no_reply : after ≡ before → sent ≡ [] → OtherServed ids requested before after sent
   no_reply same none = record { same = same; said = []; none = refl; means = subst (AreMessagesToEditor ids requested []) (sym none) tt }
 
   -- holds if the session sends one reply to the request with this id
   abbrev Replied : Data → Type 0
-  Replied id = (message : Data) × Sends message sent × IsReply id message
+  Replied id = (message : Data) × SendsMessage message sent × IsReply id message
 
   reply_is_determined : (id : Data) → IsNonAskId ids (id_of_value id) → after ≡ before → Replied id → OtherServed ids requested before after sent
   reply_is_determined id own same (message, (content, is, writes), reply) =
@@ -215,8 +215,8 @@ module _ (ids : List SentRequest) (requested : List SentAsk) (before after : Ser
             (λ later all. read_as (ask_number_by_id (ids ++ later)) all content message writes.reads ∙ no_answer_to ids id message reply own later all, tt);
       }
 
-  refused_other : (id : Data) (code : ℤ) (why : List ℕ) → IsNonAskId ids (id_of_value id) → after ≡ before → Sends (error_message id code why) sent → OtherServed ids requested before after sent
-  refused_other id code why own same sends = reply_is_determined id own same (error_message id code why, sends, (refl, refl))
+  refused_other : (id : Data) (code : ℤ) (why : List ℕ) → IsNonAskId ids (id_of_value id) → after ≡ before → SendsMessage (error_response_message id code why) sent → OtherServed ids requested before after sent
+  refused_other id code why own same sends = reply_is_determined id own same (error_response_message id code why, sends, (refl, refl))
 
   -- A request about a document changes nothing and gets one reply or a refusal.
   about_served : (id : Data) (say : ℤ → List ℕ → Reply) → IsNonAskId ids (id_of_value id) → ((version : ℤ) (text : List ℕ) → AreContentsOfReply (say version text) sent → Replied id) → (o : Option Document)
@@ -228,18 +228,18 @@ module _ (ids : List SentRequest) (requested : List SentAsk) (before after : Ser
   named_replied : (unit : Unit) (id : Data) (at : DocumentPlace) (question : NameQuestion) (text : List ℕ) → AreContentsOfReply (question_reply unit id at question text) sent → Replied id
   named_replied unit id at question text (value, answers_it, sends) = (result_message id value, sends, (refl, refl))
 
-  rename_replied : (unit : Unit) (r : RequestedRename) (text : List ℕ) → AreContentsOfReply (renames unit r text) sent → Replied r.id
-  rename_replied unit r text (message, inl (edits, found, is), sends) = (result_message r.id (workspace_edit r.client r.at.uri r.version edits), subst (λ m. Sends m sent) is sends, (refl, refl))
-  rename_replied unit r text (message, inr (inl (refusal, why, is)), sends) = (error_message r.id (minus 32803) (refusal_text refusal), subst (λ m. Sends m sent) is sends, (refl, refl))
-  rename_replied unit r text (message, inr (inr (unfit, is)), sends) = (error_message r.id (minus 32803) (codes "ill-typed"), subst (λ m. Sends m sent) is sends, (refl, refl))
+  rename_replied : (unit : Unit) (r : VersionedRenameRequest) (text : List ℕ) → AreContentsOfReply (renames unit r text) sent → Replied r.id
+  rename_replied unit r text (message, inl (edits, found, is), sends) = (result_message r.id (workspace_edit r.client r.at.uri r.version edits), subst (λ m. SendsMessage m sent) is sends, (refl, refl))
+  rename_replied unit r text (message, inr (inl (refusal, why, is)), sends) = (error_response_message r.id (minus 32803) (refusal_text refusal), subst (λ m. SendsMessage m sent) is sends, (refl, refl))
+  rename_replied unit r text (message, inr (inr (unfit, is)), sends) = (error_response_message r.id (minus 32803) (codes "ill-typed"), subst (λ m. SendsMessage m sent) is sends, (refl, refl))
 
-  actions_replied : (unit : Unit) (r : RequestedActions) (text : List ℕ) → AreContentsOfReply (actions_reply unit r text) sent → Replied r.id
-  actions_replied unit r text (message, (value, how, is), sends) = (result_message r.id value, subst (λ m. Sends m sent) is sends, (refl, refl))
+  actions_replied : (unit : Unit) (r : VersionedActionsRequest) (text : List ℕ) → AreContentsOfReply (actions_reply unit r text) sent → Replied r.id
+  actions_replied unit r text (message, (value, how, is), sends) = (result_message r.id value, subst (λ m. SendsMessage m sent) is sends, (refl, refl))
 
   layout_replied : (unit : Unit) (id : Data) (indent : Indent) (text : List ℕ) → AreContentsOfReply (formatting_reply unit id indent text) sent → Replied id
-  layout_replied unit id indent text (message, inl (edits, laid, is), sends) = (result_message id (edits_value edits), subst (λ m. Sends m sent) is sends, (refl, refl))
-  layout_replied unit id indent text (message, inr (inl (long, is)), sends) = (error_message id (minus 32803) (refusal_text TooLong), subst (λ m. Sends m sent) is sends, (refl, refl))
-  layout_replied unit id indent text (message, inr (inr (unfit, is)), sends) = (error_message id (minus 32803) (codes "ill-typed"), subst (λ m. Sends m sent) is sends, (refl, refl))
+  layout_replied unit id indent text (message, inl (edits, laid, is), sends) = (result_message id (edits_value edits), subst (λ m. SendsMessage m sent) is sends, (refl, refl))
+  layout_replied unit id indent text (message, inr (inl (long, is)), sends) = (error_response_message id (minus 32803) (refusal_text TooLong), subst (λ m. SendsMessage m sent) is sends, (refl, refl))
+  layout_replied unit id indent text (message, inr (inr (unfit, is)), sends) = (error_response_message id (minus 32803) (codes "ill-typed"), subst (λ m. SendsMessage m sent) is sends, (refl, refl))
 
   -- A question about the name at a position changes nothing and gets one reply or a refusal.
   name_served : (id : Data) (at : DocumentPlace) (question : NameQuestion) → IsNonAskId ids (id_of_value id) → after ≡ (react_to_question before id at question).after → AreContentsOfReply (react_to_question before id at question).reply sent → OtherServed ids requested before after sent
@@ -286,46 +286,46 @@ module _ (ids : List SentRequest) (requested : List SentAsk) (before after : Ser
 -- ---- diagnostics
 
 -- An answer has no list of diagnostics in it, whatever was requested.
-answer_published : (number_of : Data → Option ℕ) (requested : List SentAsk) (d : Data) → versioned_publication (answer_of_response number_of requested d) ≡ []
+answer_published : (number_of : Data → Option ℕ) (requested : List SentAsk) (d : Data) → versioned_publications_of (answer_of_response number_of requested d) ≡ []
 answer_published number_of requested d = go (option_and_then number_of (get (codes "id") d))
   where
-    at : (k : ℕ) (o : Option SentAsk) → versioned_publication (option_map (λ (a : SentAsk). answers k (edits_for a.uri a.ask d)) o) ≡ []
+    at : (k : ℕ) (o : Option SentAsk) → versioned_publications_of (option_map (λ (a : SentAsk). answers k (edits_for a.uri a.ask d)) o) ≡ []
     at k None = refl
     at k (Some a) = refl
 
-    go : (o : Option ℕ) → versioned_publication (option_and_then (answer_to requested d) o) ≡ []
+    go : (o : Option ℕ) → versioned_publications_of (option_and_then (answer_to_ask requested d) o) ≡ []
     go None = refl
     go (Some k) = at k (request_numbered requested k)
 
-any_published : (number_of : Data → Option ℕ) (requested : List SentAsk) (content : List ℕ) → versioned_publication (message_to_editor_by number_of requested content) ≡ versioned_publication (message_to_editor_in [] content)
+any_published : (number_of : Data → Option ℕ) (requested : List SentAsk) (content : List ℕ) → versioned_publications_of (message_to_editor_by number_of requested content) ≡ versioned_publications_of (message_to_editor_in [] content)
 unfolding message_to_editor_by
 any_published number_of requested content = go (is_utf8 content) (read content)
   where
-    value : (d : Data) (b : Bool) → versioned_publication (cond b (publication_of_notification d) (answer_of_response number_of requested d)) ≡ versioned_publication (cond b (publication_of_notification d) (answer_of_response request_number [] d))
+    value : (d : Data) (b : Bool) → versioned_publications_of (cond b (publication_of_notification d) (answer_of_response number_of requested d)) ≡ versioned_publications_of (cond b (publication_of_notification d) (answer_of_response request_number_from_id [] d))
     value d true = refl
-    value d false = answer_published number_of requested d ∙ sym (answer_published request_number [] d)
+    value d false = answer_published number_of requested d ∙ sym (answer_published request_number_from_id [] d)
 
-    go : (b : Bool) (o : Option Data) → versioned_publication (cond b (option_and_then (message_to_editor_of number_of requested) o) None) ≡ versioned_publication (cond b (option_and_then (message_to_editor_of request_number []) o) None)
+    go : (b : Bool) (o : Option Data) → versioned_publications_of (cond b (option_and_then (message_to_editor_of number_of requested) o) None) ≡ versioned_publications_of (cond b (option_and_then (message_to_editor_of request_number_from_id []) o) None)
     go false o = refl
     go true None = refl
     go true (Some d) = value d (is_some (get (codes "method") d))
 
 abbrev versions : List (Option MessageToEditor) → List VersionedPublication
 versions [] = []
-versions (o ∷ r) = versioned_publication o ++ versions r
+versions (o ∷ r) = versioned_publications_of o ++ versions r
 
-means_published : (ids : List SentRequest) (requested : List SentAsk) (r : List (Option MessageToEditor)) (contents : List (List ℕ)) → AreMessagesToEditor ids requested r contents → publications_in contents ≡ versions r
+means_published : (ids : List SentRequestId) (requested : List SentAsk) (r : List (Option MessageToEditor)) (contents : List (List ℕ)) → AreMessagesToEditor ids requested r contents → versioned_publications_in contents ≡ versions r
 means_published ids requested [] [] h = refl
-means_published ids requested (Some m ∷ r) (c ∷ contents) h = λ i. (sym (any_published (ask_number_by_id ids) requested c) ∙ ap versioned_publication h.0) i ++ means_published ids requested r contents h.1 i
+means_published ids requested (Some m ∷ r) (c ∷ contents) h = λ i. (sym (any_published (ask_number_by_id ids) requested c) ∙ ap versioned_publications_of h.0) i ++ means_published ids requested r contents h.1 i
 means_published ids requested (None ∷ r) (c ∷ contents) h =
-    λ i. (sym (any_published (ask_number_by_id (ids ++ [])) requested c) ∙ ap versioned_publication (h.0 [] requested)) i ++ means_published ids requested r contents h.1 i
+    λ i. (sym (any_published (ask_number_by_id (ids ++ [])) requested c) ∙ ap versioned_publications_of (h.0 [] requested)) i ++ means_published ids requested r contents h.1 i
 means_published ids requested [] (c ∷ contents) h = absurd h
 means_published ids requested (Some m ∷ r) [] h = absurd h
 means_published ids requested (None ∷ r) [] h = absurd h
 
-published_append : (xs ys : List (List ℕ)) → publications_in (xs ++ ys) ≡ publications_in xs ++ publications_in ys
+published_append : (xs ys : List (List ℕ)) → versioned_publications_in (xs ++ ys) ≡ versioned_publications_in xs ++ versioned_publications_in ys
 published_append [] ys = refl
-published_append (c ∷ xs) ys = ap (λ ps. versioned_publication (message_to_editor_in [] c) ++ ps) (published_append xs ys) ∙ sym (append_assoc (versioned_publication (message_to_editor_in [] c)) (publications_in xs) (publications_in ys))
+published_append (c ∷ xs) ys = ap (λ ps. versioned_publications_of (message_to_editor_in [] c) ++ ps) (published_append xs ys) ∙ sym (append_assoc (versioned_publications_of (message_to_editor_in [] c)) (versioned_publications_in xs) (versioned_publications_in ys))
 
 others_published : (said : List (Option MessageToEditor)) → modeled_messages said ≡ [] → versions said ≡ []
 others_published [] none = refl
@@ -336,7 +336,7 @@ others_published (Some m ∷ said) none = absurd (cc)
 abbrev named : PublicationWithText → VersionedPublication
 named m = record { uri = m.uri; version = m.version; no_diagnostics = m.no_diagnostics }
 
-publishes_named : (uri : List ℕ) (o : Option Document) (said : List MessageToEditor) (made : List PublicationWithText) → Publishes uri o said made → versions (map Some said) ≡ map named made
+publishes_named : (uri : List ℕ) (o : Option Document) (said : List MessageToEditor) (made : List PublicationWithText) → SendsDiagnostics uri o said made → versions (map Some said) ≡ map named made
 publishes_named uri (Some (InStep version text)) said made (empty, right, is_said, is_made) = ap (λ ms. versions (map Some ms)) is_said ∙ sym (ap (map named) is_made)
 publishes_named uri (Some OutOfStep) said made h = ap (λ ms. versions (map Some ms)) h.0 ∙ sym (ap (map named) h.1)
 publishes_named uri None said made h = ap (λ ms. versions (map Some ms)) h.0 ∙ sym (ap (map named) h.1)
@@ -356,12 +356,12 @@ replies_named held (requests k uri ask) said made (edits, may, is_said, is_made)
 record Shown (got : List (List ℕ)) (wire : Wire) (made : List PublicationWithText) : Type 0 where
   since : List (List ℕ)
   sent : wire.got ++ wire.to_editor ≡ got ++ since
-  published : publications_in since ≡ map named made
+  published : versioned_publications_in since ≡ map named made
 
-shown_written : (got contents : List (List ℕ)) (wire : Wire) (made : List PublicationWithText) → Shown got wire made → Shown got (with_contents wire contents) made
+shown_written : (got contents : List (List ℕ)) (wire : Wire) (made : List PublicationWithText) → Shown got wire made → Shown got (wire_with_queued_contents wire contents) made
 shown_written got contents wire made h = record { since = h.since; sent = h.sent; published = h.published }
 
-shown_served : (got more taken rest : List (List ℕ)) (wire : Wire) (after : ServerState) (made these : List PublicationWithText) → Shown got wire made → publications_in more ≡ map named these
+shown_served : (got more taken rest : List (List ℕ)) (wire : Wire) (after : ServerState) (made these : List PublicationWithText) → Shown got wire made → versioned_publications_in more ≡ map named these
     → Shown got (record wire { session = after; taken = taken; to_server = rest; to_editor = wire.to_editor ++ more }) (made ++ these)
 shown_served got more taken rest wire after made these h new =
     record {
@@ -376,7 +376,7 @@ shown_got got rest content wire made waits h =
 
 -- ---- what is replied to asks and notifications
 
-session_served : (ids : List SentRequest) (requested : List SentAsk) (m : MessageToServer) (before after : ServerState) (content : List ℕ) (sent : List (List ℕ)) → before.phase ≡ Running → IsMessageToSession before.client ids requested m content → Answers before content sent after
+session_served : (ids : List SentRequestId) (requested : List SentAsk) (m : MessageToServer) (before after : ServerState) (content : List ℕ) (sent : List (List ℕ)) → before.phase ≡ Running → IsMessageToSession before.client ids requested m content → Answers before content sent after
     → Served (ask_number_by_id ids) requested m before after sent
 session_served ids requested (notifies note) before after content sent running is answered = note_answered (ask_number_by_id ids) requested note before after content sent running is answered
 session_served ids requested (requests k uri (rename position name)) before after content sent running (id, is, of, takes) answered =
@@ -423,7 +423,7 @@ module _ (got : List (List ℕ)) (x : Exchange) (made : List PublicationWithText
       let client : ClientFeatures = x.wire.session.client in
       let known : List SentAsk = x.editor.requested in
       let more : AsksMore x.editor done = asks_more x.editor move done announced may in
-      let later : (later : List SentRequest) × (ids ≡ x.ids ++ later) = names_more x.ids done.sent ids names in
+      let later : (later : List SentRequestId) × (ids ≡ x.ids ++ later) = names_more x.ids done.sent ids names in
       subst (Step got (model_of x q r made) (editor_moves move)) (sym is)
       (record {
         q = q ++ map Some done.sent;
@@ -447,8 +447,8 @@ module _ (got : List (List ℕ)) (x : Exchange) (made : List PublicationWithText
   says_step q r y tied (id, content, is_other, is) =
       let client : ClientFeatures = x.wire.session.client in
       let known : List SentAsk = x.editor.requested in
-      let ids : List SentRequest = with_non_ask_id x.ids id in
-      let later : (later : List SentRequest) × (ids ≡ x.ids ++ later) = others_more x.ids id in
+      let ids : List SentRequestId = with_non_ask_id x.ids id in
+      let later : (later : List SentRequestId) × (ids ≡ x.ids ++ later) = others_more x.ids id in
       subst (Step got (model_of x q r made) editor_sends_unmodeled) (sym is)
       (record {
         q = q ++ None ∷ [];
@@ -527,7 +527,7 @@ module _ (got : List (List ℕ)) (x : Exchange) (made : List PublicationWithText
   serve_step (Some m ∷ q) r [] wire waits tied takes = absurd (subst (AreMessagesToSession x.wire.session.client x.ids x.editor.requested (Some m ∷ q)) waits tied.says)
   serve_step (None ∷ q) r [] wire waits tied takes = absurd (subst (AreMessagesToSession x.wire.session.client x.ids x.editor.requested (None ∷ q)) waits tied.says)
 
-  reads_asks : (e : Editor) (m : MessageToEditor) → (after_reading e m).requested ≡ e.requested
+  reads_asks : (e : Editor) (m : MessageToEditor) → (editor_after_reading e m).requested ≡ e.requested
   reads_asks e (publishes uri version empty) = refl
   reads_asks e (answers k []) = refl
   reads_asks e (answers k (edit ∷ edits)) = refl
@@ -550,13 +550,13 @@ module _ (got : List (List ℕ)) (x : Exchange) (made : List PublicationWithText
   get_step q (Some m ∷ r) (c ∷ rest) y waits tied is =
       let means : AreMessagesToEditor x.ids x.editor.requested (Some m ∷ r) (c ∷ rest) = subst (AreMessagesToEditor x.ids x.editor.requested (Some m ∷ r)) waits tied.means in
       let now : Wire = record x.wire { got = x.wire.got ++ c ∷ []; to_editor = rest } in
-      subst (Step got (model_of x q (Some m ∷ r) made) editor_takes) (sym (is ∙ (λ i. record x { editor = after_reading_if_any x.editor (means.0 i); wire = now })))
-      (record { q = q; r = r; made = made; happens = refl; tied = got_so q (Some m ∷ r) r c rest (after_reading x.editor m) waits tied (reads_asks x.editor m) means.1 })
+      subst (Step got (model_of x q (Some m ∷ r) made) editor_takes) (sym (is ∙ (λ i. record x { editor = editor_after_reading_if_any x.editor (means.0 i); wire = now })))
+      (record { q = q; r = r; made = made; happens = refl; tied = got_so q (Some m ∷ r) r c rest (editor_after_reading x.editor m) waits tied (reads_asks x.editor m) means.1 })
   get_step q (None ∷ r) (c ∷ rest) y waits tied is =
       let means : AreMessagesToEditor x.ids x.editor.requested (None ∷ r) (c ∷ rest) = subst (AreMessagesToEditor x.ids x.editor.requested (None ∷ r)) waits tied.means in
       let now : Wire = record x.wire { got = x.wire.got ++ c ∷ []; to_editor = rest } in
       let none : message_to_editor_by_ids x.ids x.editor.requested c ≡ None = subst (λ all. message_to_editor_by_ids all x.editor.requested c ≡ None) (append-nil x.ids) (means.0 [] x.editor.requested) in
-      subst (Step got (model_of x q (None ∷ r) made) editor_takes) (sym (is ∙ (λ i. record x { editor = after_reading_if_any x.editor (none i); wire = now })))
+      subst (Step got (model_of x q (None ∷ r) made) editor_takes) (sym (is ∙ (λ i. record x { editor = editor_after_reading_if_any x.editor (none i); wire = now })))
       (record { q = q; r = r; made = made; happens = refl; tied = got_so q (None ∷ r) r c rest x.editor waits tied refl means.1 })
   get_step q [] (c ∷ rest) y waits tied is = absurd (subst (AreMessagesToEditor x.ids x.editor.requested []) waits tied.means)
   get_step q (Some m ∷ r) [] y waits tied is = absurd (subst (AreMessagesToEditor x.ids x.editor.requested (Some m ∷ r)) waits tied.means)
@@ -577,14 +577,14 @@ record Led (got : List (List ℕ)) (w : EditorAndServer) (turns : List Turn) (y 
   leads : MayLeadTo w turns (model_of y q r made)
   tied : Tied got y q r made
 
-turns_lead : (got : List (List ℕ)) (turns : List Turn) (x y : Exchange) (q : List (Option MessageToServer)) (r : List (Option MessageToEditor)) (made : List PublicationWithText) → Tied got x q r made → ExchangeCourse x turns y → Led got (model_of x q r made) turns y
+turns_lead : (got : List (List ℕ)) (turns : List Turn) (x y : Exchange) (q : List (Option MessageToServer)) (r : List (Option MessageToEditor)) (made : List PublicationWithText) → Tied got x q r made → IsExchangeCourse x turns y → Led got (model_of x q r made) turns y
 turns_lead got [] x y q r made tied is = record { q = q; r = r; made = made; leads = ap (λ v. model_of v q r made) is; tied = subst (λ v. Tied got v q r made) (sym is) tied }
 turns_lead got (turn ∷ turns) x y q r made tied (between, exchanges, rest) =
     let step : Step got (model_of x q r made) turn between = turn_step got x made q r turn between tied exchanges in
     let led : Led got (model_of between step.q step.r step.made) turns y = turns_lead got turns between y step.q step.r step.made step.tied rest in
     record { q = led.q; r = led.r; made = led.made; leads = (model_of between step.q step.r step.made, step.happens, led.leads); tied = led.tied }
 
-begun_led : (unit : Unit) (begin now : Exchange) (turns : List Turn) → BeginsExchange unit begin → ExchangeCourse begin turns now → Led begin.wire.got (initial_editor_and_server unit) turns now
+begun_led : (unit : Unit) (begin now : Exchange) (turns : List Turn) → IsInitialExchange unit begin → IsExchangeCourse begin turns now → Led begin.wire.got (initial_editor_and_server unit) turns now
 begun_led unit begin now turns b leads =
     let tied : Tied begin.wire.got begin [] [] [] =
     subst (λ (x : Exchange). Tied x.wire.got x [] [] []) (sym b.is)
@@ -617,12 +617,12 @@ every_exchange_follows_model unit begin now turns b leads =
 -- ---- the headline of an exchange
 
 -- Publications that are right and made for these documents are right of them when sent.
-right_of : (made : List PublicationWithText) (announced : List AnnouncedDocument) → All IsCorrectPublication made → AreMadeForDocuments made announced → AreCorrectFor (map named made) announced
+right_of : (made : List PublicationWithText) (announced : List AnnouncedDocument) → All IsCorrectPublication made → AreMadeForDocuments made announced → AreCorrectForDocuments (map named made) announced
 right_of [] [] all h = tt
 right_of (m ∷ made) (t ∷ announced) all ((uri_is, version_is, text_is), rest) = (
   uri_is,
   version_is,
-  subst (λ text. IsEmptyIfWellTyped text m.no_diagnostics) text_is (All-head IsCorrectPublication m made all),
+  subst (λ text. IsEmptyExactlyIfWellTyped text m.no_diagnostics) text_is (All-head IsCorrectPublication m made all),
   right_of made announced (All-tail IsCorrectPublication m made all) rest,
 )
 right_of [] (t ∷ announced) all h = absurd h
@@ -645,14 +645,14 @@ last_right uri last (m ∷ made) h all = last_right uri (cond (bytes_eq m.uri ur
     go false = h
 
 latest_right : (d : OpenDocument) (o : Option PublicationWithText) → MatchOption o ⊥ (λ m. (m.version ≡ d.version) × (m.text ≡ d.text)) → MatchOption o ⊤ IsCorrectPublication
-    → MatchOption (option_map named o) ⊥ (λ p. (p.version ≡ d.version) × IsEmptyIfWellTyped d.text p.no_diagnostics)
+    → MatchOption (option_map named o) ⊥ (λ p. (p.version ≡ d.version) × IsEmptyExactlyIfWellTyped d.text p.no_diagnostics)
 latest_right d None h right = h
-latest_right d (Some m) h right = (h.0, subst (λ text. IsEmptyIfWellTyped text m.no_diagnostics) h.1 right)
+latest_right d (Some m) h right = (h.0, subst (λ text. IsEmptyExactlyIfWellTyped text m.no_diagnostics) h.1 right)
 
 -- ---- the meaning of waiting contents
 
 -- Without known asks no request is read.
-none_read : (o : Option ℕ) → option_and_then (sent_request []) o ≡ None
+none_read : (o : Option ℕ) → option_and_then (message_of_sent_ask []) o ≡ None
 none_read None = refl
 none_read (Some zero) = refl
 none_read (Some (suc k)) = refl
@@ -660,7 +660,7 @@ none_read (Some (suc k)) = refl
 request_unheard : (content : List ℕ) (json id params : Data) (method : List ℕ) → ReadsContent content (Some json) → meaning_of json ≡ request id method params → message_to_server_in [] content ≡ None
 unfolding message_to_server_in
 request_unheard content json id params method reads_so means =
-    said (λ d. message_to_server_of [] (meaning_of d)) content json reads_so ∙ ap (message_to_server_of []) means ∙ none_read (request_number id)
+    said (λ d. message_to_server_of [] (meaning_of d)) content json reads_so ∙ ap (message_to_server_of []) means ∙ none_read (request_number_from_id id)
 
 ask_unheard : (id : Data) (uri : List ℕ) (ask : Ask) (content : List ℕ) → IsRequestFor id uri ask content → message_to_server_in [] content ≡ None
 ask_unheard id uri (rename position name) content is = request_unheard content is.json id is.params (codes "textDocument/rename") is.reads is.means
@@ -668,7 +668,7 @@ ask_unheard id uri (inline_here position) content is = request_unheard content i
 ask_unheard id uri (inline_all position) content is = request_unheard content is.json id is.params (codes "textDocument/codeAction") is.reads is.means
 ask_unheard id uri (format indent) content is = request_unheard content is.json id is.params (codes "textDocument/formatting") is.reads is.means
 
-other_unheard : (ids : List SentRequest) (content : List ℕ) → IsUnmodeledContent ids content → message_to_server_in [] content ≡ None
+other_unheard : (ids : List SentRequestId) (content : List ℕ) → IsUnmodeledContent ids content → message_to_server_in [] content ≡ None
 unfolding message_to_server_in
 other_unheard ids content (json, reads_so, is) = said (λ d. message_to_server_of [] (meaning_of d)) content json reads_so ∙ go (meaning_of json) is
   where
@@ -676,11 +676,11 @@ other_unheard ids content (json, reads_so, is) = said (λ d. message_to_server_o
     go not_json is = refl
     go not_a_message is = refl
     go response is = refl
-    go (request id method params) is = none_read (request_number id)
+    go (request id method params) is = none_read (request_number_from_id id)
     go (notice method params) is = ap message_of_notification is
 
 -- The notifications in the waiting contents are the notifications among the model's messages.
-notes_waiting : (client : ClientFeatures) (ids : List SentRequest) (requested : List SentAsk) (q : List (Option MessageToServer)) (contents : List (List ℕ)) → AreMessagesToSession client ids requested q contents → notifications_in contents ≡ notifications_among (modeled_messages q)
+notes_waiting : (client : ClientFeatures) (ids : List SentRequestId) (requested : List SentAsk) (q : List (Option MessageToServer)) (contents : List (List ℕ)) → AreMessagesToSession client ids requested q contents → notifications_in contents ≡ notifications_among (modeled_messages q)
 notes_waiting client ids requested [] [] h = refl
 notes_waiting client ids requested (Some (notifies note) ∷ q) (c ∷ contents) h = λ i. cons_option (says_heard [] (notifies note) c h.0 i) (notes_waiting client ids requested q contents h.1 i)
 notes_waiting client ids requested (Some (requests k uri ask) ∷ q) (c ∷ contents) ((id, is, of, takes), h) = λ i. cons_option (ask_unheard id uri ask c is i) (notes_waiting client ids requested q contents h i)
@@ -690,21 +690,21 @@ notes_waiting client ids requested (Some m ∷ q) [] h = absurd h
 notes_waiting client ids requested (None ∷ q) [] h = absurd h
 
 -- Only notifications announce documents.
-notes_named : (q : List MessageToServer) → versions_announced_in q ≡ versions_announced_in (notifications_among q)
+notes_named : (q : List MessageToServer) → uris_and_versions_announced_in q ≡ uris_and_versions_announced_in (notifications_among q)
 notes_named [] = refl
-notes_named (notifies note ∷ q) = ap (λ names. versions_announced_by (notifies note) ++ names) (notes_named q)
+notes_named (notifies note ∷ q) = ap (λ names. uris_and_versions_announced_by (notifies note) ++ names) (notes_named q)
 notes_named (requests k uri ask ∷ q) = notes_named q
 
-notes_change : (held : OpenDocuments) (q : List MessageToServer) → fold after_message held (notifications_among q) ≡ fold after_message held q
+notes_change : (held : OpenDocuments) (q : List MessageToServer) → fold documents_after_message held (notifications_among q) ≡ fold documents_after_message held q
 notes_change held [] = refl
-notes_change held (notifies note ∷ q) = notes_change (after_message held (notifies note)) q
+notes_change held (notifies note ∷ q) = notes_change (documents_after_message held (notifies note)) q
 notes_change held (requests k uri ask ∷ q) = notes_change held q
 
 pub holds_for_every_exchange : HoldsForEveryExchange
 holds_for_every_exchange unit begin now turns b leads =
     let led : Led begin.wire.got (initial_editor_and_server unit) turns now = begun_led unit begin now turns b leads in
     let w : EditorAndServer = model_of now led.q led.r led.made in
-    let holds : HoldsWithEditor w = holds_for_every_editor unit turns w led.leads in
+    let holds : HoldsForEditorAndServer w = holds_for_every_editor unit turns w led.leads in
     let shown : Shown begin.wire.got now.wire led.made = led.tied.shown in
     let waiting : List MessageToServer = modeled_messages led.q in
     let notes : notifications_in now.wire.to_server ≡ notifications_among waiting = notes_waiting now.wire.session.client now.ids now.editor.requested led.q now.wire.to_server led.tied.says in
@@ -715,15 +715,15 @@ holds_for_every_exchange unit begin now turns b leads =
       published_documents = holds.published;
       unpublished_documents = holds.waiting;
       announced = holds.all;
-      right = subst (λ ps. AreCorrectFor ps holds.published) (sym shown.published) (right_of led.made holds.published holds.holds.made holds.are_made_for_documents);
-      unpublished_are_queued = holds.unpublished_are_queued ∙ notes_named waiting ∙ ap versions_announced_in (sym notes);
+      right = subst (λ ps. AreCorrectForDocuments ps holds.published) (sym shown.published) (right_of led.made holds.published holds.holds.made holds.are_made_for_documents);
+      unpublished_are_queued = holds.unpublished_are_queued ∙ notes_named waiting ∙ ap uris_and_versions_announced_in (sym notes);
       latest = λ quiet uri d at.
-          subst (λ o. MatchOption o ⊥ (λ p. (p.version ≡ d.version) × IsEmptyIfWellTyped d.text p.no_diagnostics)) (sym (ap (last_publication_of uri) shown.published ∙ last_named uri None led.made))
+          subst (λ o. MatchOption o ⊥ (λ p. (p.version ≡ d.version) × IsEmptyExactlyIfWellTyped d.text p.no_diagnostics)) (sym (ap (last_versioned_publication uri) shown.published ∙ last_named uri None led.made))
           (latest_right d (last_publication uri led.made)
           (holds.latest (sym notes ∙ quiet) uri d at)
           (last_right uri None led.made tt holds.holds.made));
       mirrors = λ uri.
-          ap (λ held. document_at held uri) (ap (fold after_message now.wire.session.held) notes ∙ notes_change now.wire.session.held waiting) ∙ holds.mirrors uri;
+          ap (λ held. document_at held uri) (ap (fold documents_after_message now.wire.session.held) notes ∙ notes_change now.wire.session.held waiting) ∙ holds.mirrors uri;
       conversation = as_conversation now.wire led.tied.conversed;
       ends = λ id shutdown exit is_shutdown is_exit sent end talked. ends_well id now.wire.session shutdown exit sent end led.tied.running is_shutdown is_exit talked;
     }

@@ -7,37 +7,37 @@ use Rattle.std.proofs.lemmas.List.{map-append, length-map, length-append}
 use Rattle.std.proofs.lemmas.List.Elements.{All-nil, All-cons, All-head, All-tail}
 use Rattle.ob0_text.specs.OpenDocuments.{OpenDocuments}
 use Rattle.ob0_session_server.specs.Answers.{ServerState, Answers, AnswersInPhase}
-use Rattle.ob0_world_editor.specs.MessagesToServer.{request_number, message_to_server_in, IsMessageToServer}
+use Rattle.ob0_world_editor.specs.MessagesToServer.{request_number_from_id, message_to_server_in, IsMessageToServer}
 use Rattle.ob0_world_editor.specs.MessagesToEditor.{message_to_editor_in}
 use Rattle.ob0_world_editor.specs.declared.applied.Applied as applied
 use Rattle.ob0_world_editor.proofs.Hearing.{says_heard}
 use Rattle.ob0_world_rules.specs.ClientAndServer.{SentAsk, Editor, MessageToServer, MessageToEditor, PublicationWithText, ClientAndServer}
 use Rattle.ob0_world_rules.specs.Happens.{serve, ServerTakes}
 use Rattle.ob0_world.specs.Seen as seen
-use Rattle.ob0_world.specs.Seen.{serve_report, HappensWithReport}
+use Rattle.ob0_world.specs.Seen.{report_on_serve, HappensWithReport}
 use Rattle.ob0_world.specs.declared.played.Made as made
 use Rattle.ob0_world.specs.Code.{publication_of}
-use Rattle.ob0_world.specs.Queues.{Contents, content_bytes, all_messages_to_server, all_messages_to_editor, HasMessageToServer, HasMessageToEditor, ConnectionInvariant, RunsWithEditor, RunsWithEditorOrFailed, model_from, wire_from, publication_in_first_message, publication_in_message, publication_in_first_content}
+use Rattle.ob0_world.specs.Queues.{Contents, content_bytes, all_messages_to_server, all_messages_to_editor, MeansMessageToServer, MeansMessageToEditor, ConnectionInvariant, RunsWithModelEditor, RunsWithModelEditorOrFailed, model_from_fields, wire_from_fields, publication_in_first_message, publication_in_message, publication_in_first_content}
 use Rattle.ob0_world.specs.Worlds.{EditorTakesFirst, SessionTakesFirst}
 use Rattle.ob0_world.proofs.Answering.{Served, served, runs_on}
 use Rattle.ob0_world.proofs.Waiting.{said_append, said_first, all_appended}
 
 -- If the editor understands all contents by their bytes, all are messages to it.
-each_understood : (requested : List SentAsk) (sent : Contents) → All (λ content. (m : MessageToEditor) × (message_to_editor_in requested content ≡ Some m)) (content_bytes sent) → All (HasMessageToEditor requested) sent
-each_understood requested [] all = All-nil (HasMessageToEditor requested)
+each_understood : (requested : List SentAsk) (sent : Contents) → All (λ content. (m : MessageToEditor) × (message_to_editor_in requested content ≡ Some m)) (content_bytes sent) → All (MeansMessageToEditor requested) sent
+each_understood requested [] all = All-nil (MeansMessageToEditor requested)
 each_understood requested (c ∷ sent) all =
-    All-cons (HasMessageToEditor requested) c sent (All-head (λ content. (m : MessageToEditor) × (message_to_editor_in requested content ≡ Some m)) c.items (content_bytes sent) all)
+    All-cons (MeansMessageToEditor requested) c sent (All-head (λ content. (m : MessageToEditor) × (message_to_editor_in requested content ≡ Some m)) c.items (content_bytes sent) all)
     (each_understood requested sent (All-tail (λ content. (m : MessageToEditor) × (message_to_editor_in requested content ≡ Some m)) c.items (content_bytes sent) all))
 
 -- The publication of the first content is the publication of the first message.
-made_as_sent : (held : OpenDocuments) (requested : List SentAsk) (sent : Contents) → All (HasMessageToEditor requested) sent → publication_in_first_content held requested sent ≡ publication_in_first_message held (all_messages_to_editor requested sent)
+made_as_sent : (held : OpenDocuments) (requested : List SentAsk) (sent : Contents) → All (MeansMessageToEditor requested) sent → publication_in_first_content held requested sent ≡ publication_in_first_message held (all_messages_to_editor requested sent)
 made_as_sent held requested [] all = refl
 made_as_sent held requested (c ∷ sent) all =
-    let first : HasMessageToEditor requested c = All-head (HasMessageToEditor requested) c sent all in
+    let first : MeansMessageToEditor requested c = All-head (MeansMessageToEditor requested) c sent all in
     ap (option_and_then (publication_in_message held)) first.1 ∙ ap (publication_in_first_message held) (sym (said_first (message_to_editor_in requested) c sent first.0 first.1))
 
 -- A session that replies hasn't failed.
-not_failed : (s s' : ServerState) (content : List ℕ) (sent : List (List ℕ)) → RunsWithEditorOrFailed s → Answers s content sent s' → RunsWithEditor s
+not_failed : (s s' : ServerState) (content : List ℕ) (sent : List (List ℕ)) → RunsWithModelEditorOrFailed s → Answers s content sent s' → RunsWithModelEditor s
 not_failed s s' content sent (inl running) answers = running
 not_failed s s' content sent (inr over) answers = absurd (subst (λ phase. AnswersInPhase phase s content sent s') over answers)
 
@@ -45,14 +45,14 @@ not_failed s s' content sent (inr over) answers = absurd (subst (λ phase. Answe
 pub record Turn (e : Editor) (q rest : Contents) (s s' : ServerState) (content : Vec ℕ Global) (sent : Contents) : Type 0 where
   pub message : MessageToServer
   pub says : IsMessageToServer e.requested message content.items
-  pub served_so : Served request_number e.requested message s s' (content_bytes sent)
-  pub running : RunsWithEditor s'
+  pub served_so : Served request_number_from_id e.requested message s s' (content_bytes sent)
+  pub running : RunsWithModelEditor s'
 
 pub turn : (e : Editor) (q rest r : Contents) (s s' : ServerState) (content : Vec ℕ Global) (sent : Contents) → q ≡ content ∷ rest → ConnectionInvariant e.requested q r s → Answers s content.items (content_bytes sent) s' → Turn e q rest s s' content sent
 turn e q rest r s s' content sent first sound h =
-    let heard_first : HasMessageToServer e.requested content = All-head (HasMessageToServer e.requested) content rest (subst (All (HasMessageToServer e.requested)) first sound.to_server_are_messages) in
-    let running : RunsWithEditor s = not_failed s s' content.items (content_bytes sent) sound.running h in
-    let so : Served request_number e.requested heard_first.0 s s' (content_bytes sent) = served e.requested heard_first.0 s s' content.items (content_bytes sent) running heard_first.1 h in
+    let heard_first : MeansMessageToServer e.requested content = All-head (MeansMessageToServer e.requested) content rest (subst (All (MeansMessageToServer e.requested)) first sound.to_server_are_messages) in
+    let running : RunsWithModelEditor s = not_failed s s' content.items (content_bytes sent) sound.running h in
+    let so : Served request_number_from_id e.requested heard_first.0 s s' (content_bytes sent) = served e.requested heard_first.0 s s' content.items (content_bytes sent) running heard_first.1 h in
     record {
       message = heard_first.0;
       says = heard_first.1;
@@ -60,11 +60,11 @@ turn e q rest r s s' content sent first sound h =
       running = runs_on e.requested heard_first.0 s s' (content_bytes sent) running so;
     }
 
-pub rest_sound : (requested : List SentAsk) (q rest r : Contents) (s s' : ServerState) (content : Vec ℕ Global) → q ≡ content ∷ rest → ConnectionInvariant requested q r s → RunsWithEditorOrFailed s' → ConnectionInvariant requested rest r s'
+pub rest_sound : (requested : List SentAsk) (q rest r : Contents) (s s' : ServerState) (content : Vec ℕ Global) → q ≡ content ∷ rest → ConnectionInvariant requested q r s → RunsWithModelEditorOrFailed s' → ConnectionInvariant requested rest r s'
 rest_sound requested q rest r s s' content first sound running =
-    record { to_server_are_messages = All-tail (HasMessageToServer requested) content rest (subst (All (HasMessageToServer requested)) first sound.to_server_are_messages); to_editor_are_messages = sound.to_editor_are_messages; running = running }
+    record { to_server_are_messages = All-tail (MeansMessageToServer requested) content rest (subst (All (MeansMessageToServer requested)) first sound.to_server_are_messages); to_editor_are_messages = sound.to_editor_are_messages; running = running }
 
-pub turn_running : (e : Editor) (q rest : Contents) (s s' : ServerState) (content : Vec ℕ Global) (sent : Contents) → Turn e q rest s s' content sent → RunsWithEditorOrFailed s'
+pub turn_running : (e : Editor) (q rest : Contents) (s s' : ServerState) (content : Vec ℕ Global) (sent : Contents) → Turn e q rest s s' content sent → RunsWithModelEditorOrFailed s'
 turn_running e q rest s s' content sent t = inl t.running
 
 pub turn_sound : (e : Editor) (q rest r r' : Contents) (s s' : ServerState) (content : Vec ℕ Global) (sent : Contents) (b : Bool) → q ≡ content ∷ rest → ConnectionInvariant e.requested q r s → Turn e q rest s s' content sent → r' ≡ cond b (r ++ sent) r → ConnectionInvariant e.requested rest r' s'
@@ -72,7 +72,7 @@ turn_sound e q rest r r' s s' content sent b first sound t grown =
     let rested : ConnectionInvariant e.requested rest r s' = rest_sound e.requested q rest r s s' content first sound (turn_running e q rest s s' content sent t) in
     record {
       to_server_are_messages = rested.to_server_are_messages;
-      to_editor_are_messages = all_appended (HasMessageToEditor e.requested) r r' sent b grown sound.to_editor_are_messages (each_understood e.requested sent t.served_so.message_to_server_in.each);
+      to_editor_are_messages = all_appended (MeansMessageToEditor e.requested) r r' sent b grown sound.to_editor_are_messages (each_understood e.requested sent t.served_so.message_to_server_in.each);
       running = rested.running;
     }
 
@@ -82,19 +82,19 @@ as_list (Some m) p is = ap option_to_list is
 
 pub turn_happens : (e : Editor) (q rest r r' : Contents) (s s' : ServerState) (ap_list : List applied.Applied) (md md' : List made.Made) (content : Vec ℕ Global) (sent : Contents) (held : OpenDocuments) (o : Option made.Made) (n : ℕ)
     → q ≡ content ∷ rest → Turn e q rest s s' content sent → held ≡ s'.held → option_map publication_of o ≡ publication_in_first_content held e.requested sent → r' ≡ r ++ sent → md' ≡ md ++ option_to_list o → n ≡ length sent
-    → HappensWithReport (model_from e q s r ap_list md) serve (seen.served n) (model_from e rest s' r' ap_list md')
+    → HappensWithReport (model_from_fields e q s r ap_list md) serve (seen.served n) (model_from_fields e rest s' r' ap_list md')
 turn_happens e q rest r r' s s' ap_list md md' content sent held o n first t here is_made grown more count =
-    let w : ClientAndServer = model_from e q s r ap_list md in
+    let w : ClientAndServer = model_from_fields e q s r ap_list md in
     let said : List MessageToEditor = t.served_so.said in
     let all : all_messages_to_editor e.requested sent ≡ said = t.served_so.message_to_server_in.all in
-    let to_editor_are_messages : All (HasMessageToEditor e.requested) sent = each_understood e.requested sent t.served_so.message_to_server_in.each in
+    let to_editor_are_messages : All (MeansMessageToEditor e.requested) sent = each_understood e.requested sent t.served_so.message_to_server_in.each in
     let is_first : option_map publication_of o ≡ publication_in_first_message s'.held said =
     is_made ∙ made_as_sent held e.requested sent to_editor_are_messages ∙ (λ i. publication_in_first_message (here i) (all i)) in
     let waits : all_messages_to_server e.requested q ≡ t.message ∷ all_messages_to_server e.requested rest =
     ap (all_messages_to_server e.requested) first ∙ said_first (message_to_server_in e.requested) content rest t.message (says_heard e.requested t.message content.items t.says) in
     let grew : all_messages_to_editor e.requested r' ≡ all_messages_to_editor e.requested r ++ said =
     ap (all_messages_to_editor e.requested) grown ∙ said_append (message_to_editor_in e.requested) r sent ∙ ap (λ x. all_messages_to_editor e.requested r ++ x) all in
-    let this : ServerTakes w (t.message ∷ all_messages_to_server e.requested rest) (model_from e rest s' r' ap_list md') = (
+    let this : ServerTakes w (t.message ∷ all_messages_to_server e.requested rest) (model_from_fields e rest s' r' ap_list md') = (
       said,
       option_to_list (publication_in_first_message s'.held said),
       t.served_so.replies,
@@ -107,8 +107,8 @@ turn_happens e q rest r r' s s' ap_list md md' content sent held o n first t her
     ) in
     let many : n ≡ length (all_messages_to_editor e.requested r') - length (all_messages_to_editor e.requested r) =
     count ∙ sym (length-map sent (λ v. v.items)) ∙ t.served_so.message_to_server_in.count ∙ sym (ap (λ x. length x - length (all_messages_to_editor e.requested r)) grew ∙ ap (λ x. x - length (all_messages_to_editor e.requested r)) (length-append (all_messages_to_editor e.requested r) said) ∙ less (length (all_messages_to_editor e.requested r)) (length said)) in (
-      subst (λ x. ServerTakes w x (model_from e rest s' r' ap_list md')) (sym waits) this,
-      ap seen.served many ∙ sym (ap (λ x. serve_report x (all_messages_to_editor e.requested r) (all_messages_to_editor e.requested r')) waits),
+      subst (λ x. ServerTakes w x (model_from_fields e rest s' r' ap_list md')) (sym waits) this,
+      ap seen.served many ∙ sym (ap (λ x. report_on_serve x (all_messages_to_editor e.requested r) (all_messages_to_editor e.requested r')) waits),
     )
   where
     less : (a b : ℕ) → (a + b) - a ≡ b
@@ -117,19 +117,19 @@ turn_happens e q rest r r' s s' ap_list md md' content sent held o n first t her
 -- ---- the server is the session
 
 pub turn_taken : (q rest r r' tk tk' gt : Contents) (s s' : ServerState) (content : Vec ℕ Global) (sent : Contents) → q ≡ content ∷ rest → Answers s content.items (content_bytes sent) s' → r' ≡ r ++ sent → tk' ≡ tk ++ content ∷ []
-    → SessionTakesFirst (content_bytes q) (wire_from s tk q gt r) (wire_from s' tk' rest gt r')
+    → SessionTakesFirst (content_bytes q) (wire_from_fields s tk q gt r) (wire_from_fields s' tk' rest gt r')
 turn_taken q rest r r' tk tk' gt s s' content sent first answered grown taken =
-    subst (λ x. SessionTakesFirst (content_bytes x) (wire_from s tk q gt r) (wire_from s' tk' rest gt r')) (sym first) (
+    subst (λ x. SessionTakesFirst (content_bytes x) (wire_from_fields s tk q gt r) (wire_from_fields s' tk' rest gt r')) (sym first) (
       s',
       content_bytes sent,
       answered,
-      λ i. record (wire_from s' tk' rest gt r') {
+      λ i. record (wire_from_fields s' tk' rest gt r') {
         taken = (ap content_bytes taken ∙ map-append (λ v. v.items) tk (content ∷ [])) i;
         to_editor = (ap content_bytes grown ∙ map-append (λ v. v.items) r sent) i;
       },
     )
 
-pub got_first : (s : ServerState) (tk q gt gt' r rest : Contents) (content : Vec ℕ Global) → r ≡ content ∷ rest → gt' ≡ gt ++ content ∷ [] → EditorTakesFirst (content_bytes r) (wire_from s tk q gt r) (wire_from s tk q gt' rest)
+pub got_first : (s : ServerState) (tk q gt gt' r rest : Contents) (content : Vec ℕ Global) → r ≡ content ∷ rest → gt' ≡ gt ++ content ∷ [] → EditorTakesFirst (content_bytes r) (wire_from_fields s tk q gt r) (wire_from_fields s tk q gt' rest)
 got_first s tk q gt gt' r rest content first got =
-    subst (λ x. EditorTakesFirst (content_bytes x) (wire_from s tk q gt r) (wire_from s tk q gt' rest)) (sym first)
-    (λ i. record (wire_from s tk q gt' rest) { got = (ap content_bytes got ∙ map-append (λ v. v.items) gt (content ∷ [])) i })
+    subst (λ x. EditorTakesFirst (content_bytes x) (wire_from_fields s tk q gt r) (wire_from_fields s tk q gt' rest)) (sym first)
+    (λ i. record (wire_from_fields s tk q gt' rest) { got = (ap content_bytes got ∙ map-append (λ v. v.items) gt (content ∷ [])) i })

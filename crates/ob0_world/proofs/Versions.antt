@@ -20,31 +20,31 @@ use Rattle.ob0_text.specs.RefusalTexts.{refusal_text}
 use Rattle.ob0_rpc.specs.Faults.{minus}
 use Rattle.ob0_rpc.specs.Messages.{ReadsContent, meaning_of}
 use Rattle.ob0_rpc.specs.Requesting.{request_by_method}
-use Rattle.ob0_rpc.specs.Shapes.{result_message, error_message}
+use Rattle.ob0_rpc.specs.Shapes.{result_message, error_response_message}
 use Rattle.ob0_rpc.specs.declared.clients.ClientFeatures.{ClientFeatures}
-use Rattle.ob0_session_answers.specs.Actions.{RequestedActions, ListsActions, actions_array}
+use Rattle.ob0_session_answers.specs.Actions.{VersionedActionsRequest, ListsActions, actions_array}
 use Rattle.ob0_session_answers.specs.Formatted.{AnswersFormatting}
-use Rattle.ob0_session_answers.specs.Renamed.{RequestedRename, AnswersRenaming}
-use Rattle.ob0_session_json.specs.Shapes.{document_edit, edits_value, workspace_edit, publication}
+use Rattle.ob0_session_answers.specs.Renamed.{VersionedRenameRequest, AnswersRenaming}
+use Rattle.ob0_session_json.specs.Shapes.{document_edit_value, edits_value, workspace_edit, publication}
 use Rattle.ob0_session_server.specs.Answers as answers_of
-use Rattle.ob0_session_server.specs.Answers.{ServerState, Reply, AreContentsOfReply, Sends, Reaction, state_after_initialize, react, apply_notification, react_to_notification, react_to_method, react_to_known_request, react_about_document, formatting_reply, renames, actions_reply, publication_reply, Answers, AnswersInPhase, AnswersBeforeEnd, says}
+use Rattle.ob0_session_server.specs.Answers.{ServerState, Reply, AreContentsOfReply, SendsMessage, Reaction, state_after_initialize, react, apply_notification, react_to_notification, react_to_method, react_to_known_request, react_about_document, formatting_reply, renames, actions_reply, publication_reply, Answers, AnswersInPhase, AnswersBeforeEnd, says}
 use Rattle.ob0_session_server.specs.Units.{unit_for}
-use Rattle.ob0_world_editor.specs.InitializeRequest.{client_for}
-use Rattle.ob0_world_editor.specs.MessagesToServer.{IsMessageToServer, IsAsk, notification_for, client_request_for, request_number}
-use Rattle.ob0_world_editor.specs.Shapes.{method_of}
+use Rattle.ob0_world_editor.specs.InitializeRequest.{client_features_for}
+use Rattle.ob0_world_editor.specs.MessagesToServer.{IsMessageToServer, SentRequestAsksFor, notification_for, client_request_for, request_number_from_id}
+use Rattle.ob0_world_editor.specs.Shapes.{method_of_ask}
 use Rattle.ob0_world_editor.specs.MessagesToEditor.{edits_for}
 use Rattle.ob0_world_rules.specs.Answers.{Inlining, OneUse, Everywhere}
 use Rattle.ob0_world_rules.specs.Asks.{Ask, rename, inline_here, inline_all, format, clamped_indent}
 use Rattle.ob0_world_rules.specs.Edited.{text_after_edits, whole_text_change}
-use Rattle.ob0_world_rules.specs.EditorActs.{Act, ActResult, next_version, same_version, act_result, rewriting_result, if_unchanged_since}
-use Rattle.ob0_world_rules.specs.ClientAndServer.{OpenDocument, SentAsk, request_numbered, open_at, MessageToServer, notifies, requests, MessageToEditor, publishes, answers, ClientAndServer, start, after_message}
-use Rattle.ob0_world_rules.specs.Happens.{Event, editor_acts, serve, take_message, after_editor_takes, ServerTakes}
-use Rattle.ob0_world_rules.specs.Mirror.{in_step_document, Mirrors}
+use Rattle.ob0_world_rules.specs.EditorActs.{Act, ActResult, next_version, is_same_version, act_result, rewriting_result, document_if_unchanged_since}
+use Rattle.ob0_world_rules.specs.ClientAndServer.{OpenDocument, SentAsk, request_numbered, open_document_at, MessageToServer, notifies, requests, MessageToEditor, publishes, answers, ClientAndServer, start, documents_after_message}
+use Rattle.ob0_world_rules.specs.Happens.{Event, editor_acts, serve, take_message, state_after_editor_takes, ServerTakes}
+use Rattle.ob0_world_rules.specs.Mirror.{in_step_document, WillMirrorEditor}
 use Rattle.ob0_world_rules.proofs.PerformsAct.{of_each}
 use Rattle.ob0_world_rules.proofs.Asked.{numbered_push, slice_get_last}
-use Rattle.ob0_world.specs.Queues.{IsReachable, RunsWithEditor}
-use Rattle.ob0_world.specs.Versions.{answer_uri_and_version, edited_uri_and_version, MentionsAskedDocument, MentionsDocumentOfAsk, IsFormatting, AnswersMentionVersions, VersionsSuffice}
-use Rattle.ob0_world.specs.Worlds.{Wire, Connection, Begins, SessionTakesFirst, EditorTakesFirst, AreMessagesToServer, QueuesMatch, ConnectionStep, ConnectionCourse}
+use Rattle.ob0_world.specs.Queues.{IsReachable, RunsWithModelEditor}
+use Rattle.ob0_world.specs.Versions.{uri_and_version_in_answer, uri_and_version_in_edit, MentionsAskedDocument, MentionsDocumentOfAsk, IsFormatting, AnswersMentionVersions, VersionsSufficeForApplying}
+use Rattle.ob0_world.specs.Worlds.{Wire, Connection, IsInitialConnection, SessionTakesFirst, EditorTakesFirst, AreMessagesToServer, QueuesMatch, ConnectionSteps, IsConnectionCourse}
 use Rattle.ob0_world.proofs.Answering.{reacts_so, request_reaction, served, runs_on, inlining_at, none_read_back, actions_requested_at}
 use Rattle.ob0_world.proofs.Stepping.{reached_start, reached_more, reached_mirrors}
 
@@ -70,13 +70,13 @@ asks_more requested more held (notifies note ∷ rest) h = asks_more requested m
 asks_more requested more held (requests k uri ask ∷ rest) (h, others) =
     (record { sent = h.sent; is = numbered_push requested more k h.sent h.is; text = h.text; holds = h.holds }, asks_more requested more held rest others)
 
-asks_append : (requested : List SentAsk) (held : OpenDocuments) (q more : List MessageToServer) → AsksHeld requested held q → AsksHeld requested (fold after_message held q) more → AsksHeld requested held (q ++ more)
+asks_append : (requested : List SentAsk) (held : OpenDocuments) (q more : List MessageToServer) → AsksHeld requested held q → AsksHeld requested (fold documents_after_message held q) more → AsksHeld requested held (q ++ more)
 asks_append requested held [] more h k = k
 asks_append requested held (notifies note ∷ rest) more h k = asks_append requested (documents_after_event held note) rest more h k
 asks_append requested held (requests n uri ask ∷ rest) more (h, others) k = (h, asks_append requested held rest more others k)
 
 -- If the property holds of a queue, it holds of its first message, and of the rest after that message.
-sees_first : (requested : List SentAsk) (held : OpenDocuments) (m : MessageToServer) (rest : List MessageToServer) → AsksHeld requested held (m ∷ rest) → AsksHeld requested held (m ∷ []) × AsksHeld requested (after_message held m) rest
+sees_first : (requested : List SentAsk) (held : OpenDocuments) (m : MessageToServer) (rest : List MessageToServer) → AsksHeld requested held (m ∷ rest) → AsksHeld requested held (m ∷ []) × AsksHeld requested (documents_after_message held m) rest
 sees_first requested held (notifies note) rest h = (tt, h)
 sees_first requested held (requests k uri ask) rest h = ((h.0, tt), h.1)
 
@@ -91,17 +91,17 @@ names_more requested more contents all =
 abbrev Keeps : ClientAndServer → List (List ℕ) → ActResult → Type 0
 Keeps w contents done = AsksHeld done.editor.requested w.held (w.to_server ++ done.sent) × All (MentionsDocumentOfAsk done.editor.requested) contents
 
-module _ (w : ClientAndServer) (contents : List (List ℕ)) (mirrors : Mirrors w) (asked : AsksHeld w.editor.requested w.held w.to_server) (named : All (MentionsDocumentOfAsk w.editor.requested) contents) where
+module _ (w : ClientAndServer) (contents : List (List ℕ)) (mirrors : WillMirrorEditor w) (asked : AsksHeld w.editor.requested w.held w.to_server) (named : All (MentionsDocumentOfAsk w.editor.requested) contents) where
   quiet : AsksHeld w.editor.requested w.held (w.to_server ++ [])
   quiet = subst (AsksHeld w.editor.requested w.held) (sym (append-nil w.to_server)) asked
 
   noted : (note : DocumentEvent) → AsksHeld w.editor.requested w.held (w.to_server ++ notifies note ∷ [])
   noted note = asks_append w.editor.requested w.held w.to_server (notifies note ∷ []) asked tt
 
-  asks_now : (uri : List ℕ) (ask : Ask) (d : OpenDocument) → open_at w.editor uri ≡ Some d → (a : SentAsk) → a.version ≡ d.version
+  asks_now : (uri : List ℕ) (ask : Ask) (d : OpenDocument) → open_document_at w.editor uri ≡ Some d → (a : SentAsk) → a.version ≡ d.version
       → AsksHeld (w.editor.requested ++ a ∷ []) w.held (w.to_server ++ requests (suc (length w.editor.requested)) uri ask ∷ []) × All (MentionsDocumentOfAsk (w.editor.requested ++ a ∷ [])) contents
   asks_now uri ask d is a same =
-      let this : IsHeldAsAsked (w.editor.requested ++ a ∷ []) (fold after_message w.held w.to_server) (suc (length w.editor.requested)) uri = record {
+      let this : IsHeldAsAsked (w.editor.requested ++ a ∷ []) (fold documents_after_message w.held w.to_server) (suc (length w.editor.requested)) uri = record {
         sent = a;
         is = slice_get_last w.editor.requested a;
         text = d.text;
@@ -133,14 +133,14 @@ abbrev Names : List SentAsk → ℕ → Data → Type 0
 Names requested k answer = (a : SentAsk) × (request_numbered requested k ≡ Some a) × MentionsAskedDocument a answer
 
 -- If one message is sent, `MentionsDocumentOfAsk` holds of the sent contents if it holds of that message.
-sent_one : (requested : List SentAsk) (message : Data) (sent : List (List ℕ)) → Sends message sent → ((k : ℕ) → option_and_then request_number (get (codes "id") message) ≡ Some k → Names requested k message) → All (MentionsDocumentOfAsk requested) sent
+sent_one : (requested : List SentAsk) (message : Data) (sent : List (List ℕ)) → SendsMessage message sent → ((k : ℕ) → option_and_then request_number_from_id (get (codes "id") message) ≡ Some k → Names requested k message) → All (MentionsDocumentOfAsk requested) sent
 sent_one requested message sent (content, is, writes) names =
     subst (All (MentionsDocumentOfAsk requested)) (sym is) (All-push (MentionsDocumentOfAsk requested) [] content (All-nil (MentionsDocumentOfAsk requested)) this)
   where
     this : MentionsDocumentOfAsk requested content
     this answer k reads numbered =
         let same : message ≡ answer = same_data content message answer writes.reads reads in
-        subst (Names requested k) same (names k (subst (λ m. option_and_then request_number (get (codes "id") m) ≡ Some k) (sym same) numbered))
+        subst (Names requested k) same (names k (subst (λ m. option_and_then request_number_from_id (get (codes "id") m) ≡ Some k) (sym same) numbered))
 
 sent_none : (requested : List SentAsk) (sent : List (List ℕ)) → sent ≡ [] → All (MentionsDocumentOfAsk requested) sent
 sent_none requested sent none = subst (All (MentionsDocumentOfAsk requested)) (sym none) (All-nil (MentionsDocumentOfAsk requested))
@@ -168,23 +168,23 @@ integer_back (pos n) = refl
 integer_back (negsuc n) = refl
 
 -- The uri and the version that a WorkspaceEdit has are read back.
-edit_names : (client : ClientFeatures) (uri : List ℕ) (version : ℤ) (edits : List Edit) → client.accepts_document_changes ≡ true → edited_uri_and_version (workspace_edit client uri version edits) ≡ Some (uri, version)
+edit_names : (client : ClientFeatures) (uri : List ℕ) (version : ℤ) (edits : List Edit) → client.accepts_document_changes ≡ true → uri_and_version_in_edit (workspace_edit client uri version edits) ≡ Some (uri, version)
 edit_names client uri version edits takes = go client.accepts_document_changes takes
   where
     pair : ℤ → List ℕ × ℤ
     pair v = (uri, v)
 
     go : (b : Bool) → b ≡ true
-        → edited_uri_and_version (cond b (object (member (codes "documentChanges") (array (item (document_edit uri version edits) no_items)) no_members)) (object (member (codes "changes") (object (member uri (edits_value edits) no_members)) no_members)))
+        → uri_and_version_in_edit (cond b (object (member (codes "documentChanges") (array (item (document_edit_value uri version edits) no_items)) no_members)) (object (member (codes "changes") (object (member uri (edits_value edits) no_members)) no_members)))
         ≡ Some (uri, version)
     go true is = ap (option_map pair) (integer_back version)
     go false is = absurd (cc)
 
 abbrev NamesFor : Ask → List ℕ → ℤ → Data → Type 0
-NamesFor ask uri version answer = (answer_uri_and_version ask answer ≡ Some (uri, version)) ⊎ ((edits_for uri ask answer ≡ []) ⊎ IsFormatting ask)
+NamesFor ask uri version answer = (uri_and_version_in_answer ask answer ≡ Some (uri, version)) ⊎ ((edits_for uri ask answer ≡ []) ⊎ IsFormatting ask)
 
 module _ (requested : List SentAsk) (k : ℕ) (uri : List ℕ) (sent : List (List ℕ)) where
-  answer_names : (ask : Ask) (of : IsAsk requested k uri ask) (message : Data) → Sends message sent → option_and_then request_number (get (codes "id") message) ≡ Some k → NamesFor ask uri of.sent.version message → All (MentionsDocumentOfAsk requested) sent
+  answer_names : (ask : Ask) (of : SentRequestAsksFor requested k uri ask) (message : Data) → SendsMessage message sent → option_and_then request_number_from_id (get (codes "id") message) ≡ Some k → NamesFor ask uri of.sent.version message → All (MentionsDocumentOfAsk requested) sent
   answer_names ask of message sends numbered names =
       sent_one requested message sent sends
       (λ n is. (
@@ -193,30 +193,30 @@ module _ (requested : List SentAsk) (k : ℕ) (uri : List ℕ) (sent : List (Lis
         subst (λ u. NamesFor of.sent.ask u of.sent.version message) (sym of.about) (subst (λ x. NamesFor x uri of.sent.version message) (sym of.same_ask) names),
       ))
 
-  refusal_names : (ask : Ask) (of : IsAsk requested k uri ask) (code : ℤ) (why : List ℕ) (message : Data) → Sends message sent → message ≡ error_message (number (unsigned k)) code why → All (MentionsDocumentOfAsk requested) sent
-  refusal_names ask of code why message sends is = answer_names ask of (error_message (number (unsigned k)) code why) (subst (λ m. Sends m sent) is sends) refl (inr (inl refl))
+  refusal_names : (ask : Ask) (of : SentRequestAsksFor requested k uri ask) (code : ℤ) (why : List ℕ) (message : Data) → SendsMessage message sent → message ≡ error_response_message (number (unsigned k)) code why → All (MentionsDocumentOfAsk requested) sent
+  refusal_names ask of code why message sends is = answer_names ask of (error_response_message (number (unsigned k)) code why) (subst (λ m. SendsMessage m sent) is sends) refl (inr (inl refl))
 
-  rename_names : (position : Position) (name : List ℕ) (of : IsAsk requested k uri (rename position name)) (client : ClientFeatures) (unit : Unit) (text : List ℕ) → client.accepts_document_changes ≡ true
+  rename_names : (position : Position) (name : List ℕ) (of : SentRequestAsksFor requested k uri (rename position name)) (client : ClientFeatures) (unit : Unit) (text : List ℕ) → client.accepts_document_changes ≡ true
       → AreContentsOfReply (renames unit (record { id = number (unsigned k); client = client; at = record { uri = uri; position = position }; version = of.sent.version; new = name }) text) sent → All (MentionsDocumentOfAsk requested) sent
   rename_names position name of client unit text takes (message, how, sends) = go how
     where
-      request : RequestedRename
+      request : VersionedRenameRequest
       request = record { id = number (unsigned k); client = client; at = record { uri = uri; position = position }; version = of.sent.version; new = name }
 
       go : AnswersRenaming unit request text message → All (MentionsDocumentOfAsk requested) sent
       go (inl (edits, found, is)) =
-          answer_names (rename position name) of (result_message (number (unsigned k)) (workspace_edit client uri of.sent.version edits)) (subst (λ m. Sends m sent) is sends) refl (inl (edit_names client uri of.sent.version edits takes))
+          answer_names (rename position name) of (result_message (number (unsigned k)) (workspace_edit client uri of.sent.version edits)) (subst (λ m. SendsMessage m sent) is sends) refl (inl (edit_names client uri of.sent.version edits takes))
       go (inr (inl (refusal, why, is))) = refusal_names (rename position name) of (minus 32803) (refusal_text refusal) message sends is
       go (inr (inr (unfit, is))) = refusal_names (rename position name) of (minus 32803) (codes "ill-typed") message sends is
 
-  inline_names : (how : Inlining) (position : Position) (of : IsAsk requested k uri (inlining_at how position)) (client : ClientFeatures) (unit : Unit) (text : List ℕ) → client.accepts_document_changes ≡ true
+  inline_names : (how : Inlining) (position : Position) (of : SentRequestAsksFor requested k uri (inlining_at how position)) (client : ClientFeatures) (unit : Unit) (text : List ℕ) → client.accepts_document_changes ≡ true
       → AreContentsOfReply (actions_reply unit (actions_requested_at client (number (unsigned k)) uri position of.sent.version) text) sent → All (MentionsDocumentOfAsk requested) sent
   inline_names how position of client unit text takes (message, (value, listed, is), sends) = go listed
     where
-      request : RequestedActions
+      request : VersionedActionsRequest
       request = actions_requested_at client (number (unsigned k)) uri position of.sent.version
 
-      names_edit : (edits : List Edit) → edited_uri_and_version (workspace_edit client uri of.sent.version edits) ≡ Some (uri, of.sent.version)
+      names_edit : (edits : List Edit) → uri_and_version_in_edit (workspace_edit client uri of.sent.version edits) ≡ Some (uri, of.sent.version)
       names_edit edits = edit_names client uri of.sent.version edits takes
 
       offered : (how : Inlining) (here everywhere : Option (Vec Edit Global)) → NamesFor (inlining_at how position) uri of.sent.version (result_message (number (unsigned k)) (actions_array request here everywhere))
@@ -229,46 +229,46 @@ module _ (requested : List SentAsk) (k : ℕ) (uri : List ℕ) (sent : List (Lis
       offered Everywhere None None = inr (inl refl)
 
       with_value : (v : Data) → value ≡ v → NamesFor (inlining_at how position) uri of.sent.version (result_message (number (unsigned k)) v) → All (MentionsDocumentOfAsk requested) sent
-      with_value v same names = answer_names (inlining_at how position) of (result_message (number (unsigned k)) v) (subst (λ m. Sends m sent) (is ∙ ap (result_message (number (unsigned k))) same) sends) refl names
+      with_value v same names = answer_names (inlining_at how position) of (result_message (number (unsigned k)) v) (subst (λ m. SendsMessage m sent) (is ∙ ap (result_message (number (unsigned k))) same) sends) refl names
 
       go : ListsActions unit request text value → All (MentionsDocumentOfAsk requested) sent
       go (inl h) = with_value (actions_array request h.here h.everywhere) h.listed (offered how h.here h.everywhere)
       go (inr (why, none)) = with_value (array no_items) none (inr (inl (none_read_back how position uri (number (unsigned k)))))
 
-  layout_names : (indent : Indent) (of : IsAsk requested k uri (format indent)) (unit : Unit) (text : List ℕ) → AreContentsOfReply (formatting_reply unit (number (unsigned k)) (clamped_indent indent) text) sent → All (MentionsDocumentOfAsk requested) sent
+  layout_names : (indent : Indent) (of : SentRequestAsksFor requested k uri (format indent)) (unit : Unit) (text : List ℕ) → AreContentsOfReply (formatting_reply unit (number (unsigned k)) (clamped_indent indent) text) sent → All (MentionsDocumentOfAsk requested) sent
   layout_names indent of unit text (message, how, sends) = go how
     where
       go : AnswersFormatting unit (number (unsigned k)) (clamped_indent indent) text message → All (MentionsDocumentOfAsk requested) sent
-      go (inl (edits, laid, is)) = answer_names (format indent) of (result_message (number (unsigned k)) (edits_value edits)) (subst (λ m. Sends m sent) is sends) refl (inr (inr tt))
+      go (inl (edits, laid, is)) = answer_names (format indent) of (result_message (number (unsigned k)) (edits_value edits)) (subst (λ m. SendsMessage m sent) is sends) refl (inr (inr tt))
       go (inr (inl (long, is))) = refusal_names (format indent) of (minus 32803) (refusal_text TooLong) message sends is
       go (inr (inr (unfit, is))) = refusal_names (format indent) of (minus 32803) (codes "ill-typed") message sends is
 
   -- `MentionsDocumentOfAsk` holds of the answer of a running session to a request about a document in step.
-  request_names : (ask : Ask) (of : IsAsk requested k uri ask) (params : Data) (before : ServerState) (text : List ℕ) → RunsWithEditor before → document_at before.held uri ≡ Some (InStep of.sent.version text) → request_by_method (method_of ask) params ≡ Ok (client_request_for uri ask)
-      → AreContentsOfReply (react_to_method before (number (unsigned k)) (method_of ask) params).reply sent → All (MentionsDocumentOfAsk requested) sent
+  request_names : (ask : Ask) (of : SentRequestAsksFor requested k uri ask) (params : Data) (before : ServerState) (text : List ℕ) → RunsWithModelEditor before → document_at before.held uri ≡ Some (InStep of.sent.version text) → request_by_method (method_of_ask ask) params ≡ Ok (client_request_for uri ask)
+      → AreContentsOfReply (react_to_method before (number (unsigned k)) (method_of_ask ask) params).reply sent → All (MentionsDocumentOfAsk requested) sent
   request_names (rename position name) of params before text running holds call saying =
       let id : Data = number (unsigned k) in
       let say : ℤ → List ℕ → Reply = λ version. renames before.held.unit (record { id = id; client = before.client; at = record { uri = uri; position = position }; version = version; new = name }) in
-      let so : react_to_method before id (method_of (rename position name)) params ≡ react_about_document before id (document_at before.held uri) say = ap (react_to_known_request before id) call in
+      let so : react_to_method before id (method_of_ask (rename position name)) params ≡ react_about_document before id (document_at before.held uri) say = ap (react_to_known_request before id) call in
       rename_names position name of before.client before.held.unit text running.1 (subst (λ (x : Reaction). AreContentsOfReply x.reply sent) (so ∙ ap (λ o. react_about_document before id o say) holds) saying)
   request_names (inline_here position) of params before text running holds call saying =
       let id : Data = number (unsigned k) in
       let say : ℤ → List ℕ → Reply = λ version. actions_reply before.held.unit (actions_requested_at before.client (number (unsigned k)) uri position version) in
-      let so : react_to_method before id (method_of (inline_here position)) params ≡ react_about_document before id (document_at before.held uri) say = ap (react_to_known_request before id) call in
+      let so : react_to_method before id (method_of_ask (inline_here position)) params ≡ react_about_document before id (document_at before.held uri) say = ap (react_to_known_request before id) call in
       inline_names OneUse position of before.client before.held.unit text running.1 (subst (λ (x : Reaction). AreContentsOfReply x.reply sent) (so ∙ ap (λ o. react_about_document before id o say) holds) saying)
   request_names (inline_all position) of params before text running holds call saying =
       let id : Data = number (unsigned k) in
       let say : ℤ → List ℕ → Reply = λ version. actions_reply before.held.unit (actions_requested_at before.client (number (unsigned k)) uri position version) in
-      let so : react_to_method before id (method_of (inline_all position)) params ≡ react_about_document before id (document_at before.held uri) say = ap (react_to_known_request before id) call in
+      let so : react_to_method before id (method_of_ask (inline_all position)) params ≡ react_about_document before id (document_at before.held uri) say = ap (react_to_known_request before id) call in
       inline_names Everywhere position of before.client before.held.unit text running.1 (subst (λ (x : Reaction). AreContentsOfReply x.reply sent) (so ∙ ap (λ o. react_about_document before id o say) holds) saying)
   request_names (format indent) of params before text running holds call saying =
       let id : Data = number (unsigned k) in
       let say : ℤ → List ℕ → Reply = λ version. formatting_reply before.held.unit id (clamped_indent indent) in
-      let so : react_to_method before id (method_of (format indent)) params ≡ react_about_document before id (document_at before.held uri) say = ap (react_to_known_request before id) call in
+      let so : react_to_method before id (method_of_ask (format indent)) params ≡ react_about_document before id (document_at before.held uri) say = ap (react_to_known_request before id) call in
       layout_names indent of before.held.unit text (subst (λ (x : Reaction). AreContentsOfReply x.reply sent) (so ∙ ap (λ o. react_about_document before id o say) holds) saying)
 
 -- `MentionsDocumentOfAsk` holds of the replies to each message.
-content_names : (requested : List SentAsk) (m : MessageToServer) (before after : ServerState) (content : List ℕ) (sent : List (List ℕ)) → RunsWithEditor before → IsMessageToServer requested m content → Answers before content sent after → AsksHeld requested before.held (m ∷ []) → All (MentionsDocumentOfAsk requested) sent
+content_names : (requested : List SentAsk) (m : MessageToServer) (before after : ServerState) (content : List ℕ) (sent : List (List ℕ)) → RunsWithModelEditor before → IsMessageToServer requested m content → Answers before content sent after → AsksHeld requested before.held (m ∷ []) → All (MentionsDocumentOfAsk requested) sent
 content_names requested (notifies note) before after content sent running is h meets =
     let going : AnswersBeforeEnd before content sent after = subst (λ phase. AnswersInPhase phase before content sent after) running.0 h in
     let answer = reacts_so before after content sent is.json going is.reads in
@@ -286,7 +286,7 @@ content_names requested (requests k uri ask) before after content sent running (
 record Known (w : Connection) : Type 0 where
   pub reached : IsReachable w.model
   pub tied : QueuesMatch w
-  pub running : RunsWithEditor w.wire.session
+  pub running : RunsWithModelEditor w.wire.session
   pub asks : AsksHeld w.model.editor.requested w.model.held w.model.to_server
   pub named : All (MentionsDocumentOfAsk w.model.editor.requested) w.wire.to_editor
 
@@ -298,7 +298,7 @@ serve_known old new [] [] waits says_all happens moves k tied reached =
     record {
       reached = reached;
       tied = tied;
-      running = subst RunsWithEditor (sym (ap (λ (x : Wire). x.session) moves)) k.running;
+      running = subst RunsWithModelEditor (sym (ap (λ (x : Wire). x.session) moves)) k.running;
       asks = subst AsksOf (sym happens) k.asks;
       named = subst (λ (x : ClientAndServer). All (MentionsDocumentOfAsk x.editor.requested) new.wire.to_editor) (sym happens) (subst (λ (x : Wire). All (MentionsDocumentOfAsk old.model.editor.requested) x.to_editor) (sym moves) k.named);
     }
@@ -311,7 +311,7 @@ serve_known old new (m ∷ rest) (content ∷ contents) waits (says_this, others
     record {
       reached = reached;
       tied = tied;
-      running = subst RunsWithEditor (sym (ap (λ (x : Wire). x.session) wire_is)) (runs_on r m before after sent k.running (served r m before after content sent k.running says_this answer));
+      running = subst RunsWithModelEditor (sym (ap (λ (x : Wire). x.session) wire_is)) (runs_on r m before after sent k.running (served r m before after content sent k.running says_this answer));
       asks = subst AsksOf (sym is_new) see.1;
       named = subst (λ (x : ClientAndServer). All (MentionsDocumentOfAsk x.editor.requested) new.wire.to_editor) (sym is_new)
           (subst (λ (x : Wire). All (MentionsDocumentOfAsk r) x.to_editor) (sym wire_is) (All-append (MentionsDocumentOfAsk r) old.wire.to_editor sent k.named names));
@@ -320,7 +320,7 @@ serve_known old new [] (content ∷ contents) waits says_all happens moves k tie
 serve_known old new (m ∷ rest) [] waits says_all happens moves k tied reached = absurd says_all
 
 -- Taking a message changes neither the editor's requests nor the messages that wait for the server.
-take_keeps : (w : ClientAndServer) (queue : List MessageToEditor) (contents : List (List ℕ)) → AsksOf w → All (MentionsDocumentOfAsk w.editor.requested) contents → AsksOf (after_editor_takes w queue) × All (MentionsDocumentOfAsk (after_editor_takes w queue).editor.requested) contents
+take_keeps : (w : ClientAndServer) (queue : List MessageToEditor) (contents : List (List ℕ)) → AsksOf w → All (MentionsDocumentOfAsk w.editor.requested) contents → AsksOf (state_after_editor_takes w queue) × All (MentionsDocumentOfAsk (state_after_editor_takes w queue).editor.requested) contents
 take_keeps w [] contents asked named = (asked, named)
 take_keeps w (publishes uri version empty ∷ rest) contents asked named = (asked, named)
 take_keeps w (answers k [] ∷ rest) contents asked named = (asked, named)
@@ -334,13 +334,13 @@ gets_session : (c : List (List ℕ)) (old new : Wire) → EditorTakesFirst c old
 gets_session [] old new is = ap (λ (x : Wire). x.session) is
 gets_session (content ∷ rest) old new is = ap (λ (x : Wire). x.session) is
 
-step_known : (old : Connection) (event : Event) (new : Connection) → Known old → ConnectionStep old event new → Known new
+step_known : (old : Connection) (event : Event) (new : Connection) → Known old → ConnectionSteps old event new → Known new
 step_known old (editor_acts act) new k step =
     let keeps : Keeps old.model old.wire.to_editor (act_result old.model.editor act) = act_keeps old.model old.wire.to_editor (reached_mirrors old.model k.reached) k.asks k.named act in
     record {
       reached = reached_more old.model (editor_acts act) new.model k.reached step.happens;
       tied = step.tied;
-      running = subst RunsWithEditor (sym (ap (λ (x : Wire). x.session) step.moves.1)) k.running;
+      running = subst RunsWithModelEditor (sym (ap (λ (x : Wire). x.session) step.moves.1)) k.running;
       asks = subst AsksOf (sym step.happens) keeps.0;
       named = subst (λ (x : ClientAndServer). All (MentionsDocumentOfAsk x.editor.requested) new.wire.to_editor) (sym step.happens)
           (subst (λ (x : Wire). All (MentionsDocumentOfAsk (act_result old.model.editor act).editor.requested) x.to_editor) (sym step.moves.1) keeps.1);
@@ -352,26 +352,26 @@ step_known old take_message new k step =
     record {
       reached = reached_more old.model take_message new.model k.reached step.happens;
       tied = step.tied;
-      running = subst RunsWithEditor (sym (gets_session old.wire.to_editor old.wire new.wire step.moves)) k.running;
+      running = subst RunsWithModelEditor (sym (gets_session old.wire.to_editor old.wire new.wire step.moves)) k.running;
       asks = subst AsksOf (sym step.happens) keeps.0;
       named = subst (λ (x : ClientAndServer). All (MentionsDocumentOfAsk x.editor.requested) new.wire.to_editor) (sym step.happens) keeps.1;
     }
 
-course_known : (begin : Connection) (events : List Event) (now : Connection) → Known begin → ConnectionCourse begin events now → Known now
+course_known : (begin : Connection) (events : List Event) (now : Connection) → Known begin → IsConnectionCourse begin events now → Known now
 course_known begin [] now k is = subst Known (sym is) k
 course_known begin (e ∷ events) now k (between, step, rest) = course_known between events now (step_known begin e between k step) rest
 
-unit_back : (unit : Unit) → unit ≡ unit_for (client_for unit)
+unit_back : (unit : Unit) → unit ≡ unit_for (client_features_for unit)
 unit_back Utf16 = refl
 unit_back Utf8 = refl
 
-begin_known : (unit : Unit) (begin : Connection) → Begins unit begin → Known begin
+begin_known : (unit : Unit) (begin : Connection) → IsInitialConnection unit begin → Known begin
 begin_known unit begin b = subst Known (λ i. record { model = sym b.model i; wire = sym b.wire i }) first
   where
     this : Connection
     this = record {
       model = start unit;
-      wire = record { session = state_after_initialize (client_for unit); taken = b.content ∷ []; to_server = []; got = b.replies; to_editor = [] };
+      wire = record { session = state_after_initialize (client_features_for unit); taken = b.content ∷ []; to_server = []; got = b.replies; to_editor = [] };
     }
 
     first : Known this
@@ -388,8 +388,8 @@ answers_mention_versions unit begin events now begins_so course = (course_known 
 
 -- ---- a client that goes by the version
 
-pub versions_suffice : VersionsSuffice
-versions_suffice e k a edits numbered not_reopened = go (open_at e a.uri) refl ∙ sym (ap (option_and_then then_asked) numbered)
+pub versions_suffice_for_applying : VersionsSufficeForApplying
+versions_suffice_for_applying e k a edits numbered not_reopened = go (open_document_at e a.uri) refl ∙ sym (ap (option_and_then then_asked) numbered)
   where
     makes : (uri : List ℕ) → OpenDocument → List ℕ → Option ActResult
     makes uri d text = Some (rewriting_result e uri d text (whole_text_change text ∷ []) (record { uri = uri; before = d.text; after = text } ∷ []))
@@ -398,14 +398,14 @@ versions_suffice e k a edits numbered not_reopened = go (open_at e a.uri) refl �
     then_open uri d = option_and_then (makes uri d) (text_after_edits e.unit d.text edits)
 
     then_asked : SentAsk → Option ActResult
-    then_asked x = option_and_then (then_open x.uri) (option_and_then (if_unchanged_since x) (open_at e x.uri))
+    then_asked x = option_and_then (then_open x.uri) (option_and_then (document_if_unchanged_since x) (open_document_at e x.uri))
 
     of_version : (d : OpenDocument) (b : Bool) → option_and_then (makes a.uri d) (cond b (text_after_edits e.unit d.text edits) None) ≡ option_and_then (then_open a.uri) (cond b (Some d) None)
     of_version d true = refl
     of_version d false = refl
 
-    go : (o : Option OpenDocument) → open_at e a.uri ≡ o → option_and_then (λ d. option_and_then (makes a.uri d) (cond (same_version d.version a.version) (text_after_edits e.unit d.text edits) None)) o ≡ option_and_then (then_open a.uri) (option_and_then (if_unchanged_since a) o)
+    go : (o : Option OpenDocument) → open_document_at e a.uri ≡ o → option_and_then (λ d. option_and_then (makes a.uri d) (cond (is_same_version d.version a.version) (text_after_edits e.unit d.text edits) None)) o ≡ option_and_then (then_open a.uri) (option_and_then (document_if_unchanged_since a) o)
     go None is = refl
     go (Some d) is =
-        of_version d (same_version d.version a.version)
-        ∙ ap (λ b. option_and_then (then_open a.uri) (cond (b && same_version d.version a.version) (Some d) None)) (sym (eq-eqb d.opening a.opening (not_reopened d is)))
+        of_version d (is_same_version d.version a.version)
+        ∙ ap (λ b. option_and_then (then_open a.uri) (cond (b && is_same_version d.version a.version) (Some d) None)) (sym (eq-eqb d.opening a.opening (not_reopened d is)))

@@ -11,28 +11,28 @@ use Rattle.std.proofs.lemmas.List.Elements.{All-append, All-head, All-tail, All-
 use Rattle.serde_json.specs.Data.{Data}
 use Rattle.serde_json.specs.Find.{get}
 use Rattle.serde_json.specs.Read.{read}
-use Rattle.ob0_world_editor.specs.MessagesToServer.{message_to_server_in, IsMessageToServer, request_number}
-use Rattle.ob0_world_editor.specs.MessagesToEditor.{message_to_editor_in, publication_of_notification, answer_of_response, message_to_editor_of, message_to_editor_by, answer_to, edits_for}
+use Rattle.ob0_world_editor.specs.MessagesToServer.{message_to_server_in, IsMessageToServer, request_number_from_id}
+use Rattle.ob0_world_editor.specs.MessagesToEditor.{message_to_editor_in, publication_of_notification, answer_of_response, message_to_editor_of, message_to_editor_by, answer_to_ask, edits_for}
 use Rattle.ob0_world_editor.proofs.Hearing.{says_heard}
 use Rattle.ob0_world_rules.specs.ClientAndServer.{SentAsk, request_numbered, MessageToServer, notifies, requests, MessageToEditor, answers}
 use Rattle.ob0_world_rules.proofs.Asked.{numbered_push}
-use Rattle.ob0_world.specs.Queues.{Contents, content_bytes, all_messages_to_server, all_messages_to_editor, HasMessageToServer, HasMessageToEditor}
+use Rattle.ob0_world.specs.Queues.{Contents, content_bytes, all_messages_to_server, all_messages_to_editor, MeansMessageToServer, MeansMessageToEditor}
 
 -- ---- more asks
 
 -- A content is read the same after further asks, and with other ids for the same asks.
 module _ (f g : Data → Option ℕ) (requested more : List SentAsk) (grows : (d : Data) (k : ℕ) (a : SentAsk) → request_numbered requested k ≡ Some a → f d ≡ Some k → g d ≡ Some k) where
-  answer_still : (d : Data) (o : Option Data) (m : MessageToEditor) → option_and_then (answer_to requested d) (option_and_then f o) ≡ Some m → option_and_then (answer_to (requested ++ more) d) (option_and_then g o) ≡ Some m
+  answer_still : (d : Data) (o : Option Data) (m : MessageToEditor) → option_and_then (answer_to_ask requested d) (option_and_then f o) ≡ Some m → option_and_then (answer_to_ask (requested ++ more) d) (option_and_then g o) ≡ Some m
   answer_still d None m h = absurd (none-some m h)
   answer_still d (Some id) m h = go (f id) refl h
     where
-      at : (k : ℕ) (o : Option SentAsk) → f id ≡ Some k → request_numbered requested k ≡ o → option_map (λ (a : SentAsk). answers k (edits_for a.uri a.ask d)) o ≡ Some m → option_and_then (answer_to (requested ++ more) d) (g id) ≡ Some m
+      at : (k : ℕ) (o : Option SentAsk) → f id ≡ Some k → request_numbered requested k ≡ o → option_map (λ (a : SentAsk). answers k (edits_for a.uri a.ask d)) o ≡ Some m → option_and_then (answer_to_ask (requested ++ more) d) (g id) ≡ Some m
       at k None named is h = absurd (none-some m h)
       at k (Some a) named is h =
-          ap (option_and_then (answer_to (requested ++ more) d)) (grows id k a is named)
+          ap (option_and_then (answer_to_ask (requested ++ more) d)) (grows id k a is named)
           ∙ ap (option_map (λ (a : SentAsk). answers k (edits_for a.uri a.ask d))) (numbered_push requested more k a is) ∙ h
 
-      go : (o : Option ℕ) → f id ≡ o → option_and_then (answer_to requested d) o ≡ Some m → option_and_then (answer_to (requested ++ more) d) (g id) ≡ Some m
+      go : (o : Option ℕ) → f id ≡ o → option_and_then (answer_to_ask requested d) o ≡ Some m → option_and_then (answer_to_ask (requested ++ more) d) (g id) ≡ Some m
       go None named h = absurd (none-some m h)
       go (Some k) named h = at k (request_numbered requested k) named refl h
 
@@ -55,32 +55,32 @@ module _ (requested more : List SentAsk) where
   says_still (requests k uri ask) content (is, of) = (is, record { sent = of.sent; is = numbered_push requested more k of.sent of.is; about = of.about; same_ask = of.same_ask })
 
   pub understood_still : (content : List ℕ) (m : MessageToEditor) → message_to_editor_in requested content ≡ Some m → message_to_editor_in (requested ++ more) content ≡ Some m
-  understood_still content m h = read_still request_number request_number requested more (λ d k a is named. named) content m h
+  understood_still content m h = read_still request_number_from_id request_number_from_id requested more (λ d k a is named. named) content m h
 
-  pub all_heard_still : (q : Contents) → All (HasMessageToServer requested) q → All (HasMessageToServer (requested ++ more)) q
-  all_heard_still q all = All-weaker (HasMessageToServer requested) (HasMessageToServer (requested ++ more)) (λ c h. (h.0, says_still h.0 c.items h.1)) q all
+  pub all_heard_still : (q : Contents) → All (MeansMessageToServer requested) q → All (MeansMessageToServer (requested ++ more)) q
+  all_heard_still q all = All-weaker (MeansMessageToServer requested) (MeansMessageToServer (requested ++ more)) (λ c h. (h.0, says_still h.0 c.items h.1)) q all
 
-  pub all_understood_still : (q : Contents) → All (HasMessageToEditor requested) q → All (HasMessageToEditor (requested ++ more)) q
-  all_understood_still q all = All-weaker (HasMessageToEditor requested) (HasMessageToEditor (requested ++ more)) (λ c h. (h.0, understood_still c.items h.0 h.1)) q all
+  pub all_understood_still : (q : Contents) → All (MeansMessageToEditor requested) q → All (MeansMessageToEditor (requested ++ more)) q
+  all_understood_still q all = All-weaker (MeansMessageToEditor requested) (MeansMessageToEditor (requested ++ more)) (λ c h. (h.0, understood_still c.items h.0 h.1)) q all
 
-  pub heard_still : (q : Contents) → All (HasMessageToServer requested) q → all_messages_to_server (requested ++ more) q ≡ all_messages_to_server requested q
+  pub heard_still : (q : Contents) → All (MeansMessageToServer requested) q → all_messages_to_server (requested ++ more) q ≡ all_messages_to_server requested q
   heard_still [] all = refl
   heard_still (c ∷ q) all =
-      let h : HasMessageToServer requested c = All-head (HasMessageToServer requested) c q all in
-      (λ i. cons_option (same i) (heard_still q (All-tail (HasMessageToServer requested) c q all) i))
+      let h : MeansMessageToServer requested c = All-head (MeansMessageToServer requested) c q all in
+      (λ i. cons_option (same i) (heard_still q (All-tail (MeansMessageToServer requested) c q all) i))
     where
-      h : HasMessageToServer requested c
-      h = All-head (HasMessageToServer requested) c q all
+      h : MeansMessageToServer requested c
+      h = All-head (MeansMessageToServer requested) c q all
 
       same : message_to_server_in (requested ++ more) c.items ≡ message_to_server_in requested c.items
       same = says_heard (requested ++ more) h.0 c.items (says_still h.0 c.items h.1) ∙ sym (says_heard requested h.0 c.items h.1)
 
-  pub understood_same : (q : Contents) → All (HasMessageToEditor requested) q → all_messages_to_editor (requested ++ more) q ≡ all_messages_to_editor requested q
+  pub understood_same : (q : Contents) → All (MeansMessageToEditor requested) q → all_messages_to_editor (requested ++ more) q ≡ all_messages_to_editor requested q
   understood_same [] all = refl
-  understood_same (c ∷ q) all = (λ i. cons_option (same i) (understood_same q (All-tail (HasMessageToEditor requested) c q all) i))
+  understood_same (c ∷ q) all = (λ i. cons_option (same i) (understood_same q (All-tail (MeansMessageToEditor requested) c q all) i))
     where
-      h : HasMessageToEditor requested c
-      h = All-head (HasMessageToEditor requested) c q all
+      h : MeansMessageToEditor requested c
+      h = All-head (MeansMessageToEditor requested) c q all
 
       same : message_to_editor_in (requested ++ more) c.items ≡ message_to_editor_in requested c.items
       same = understood_still c.items h.0 h.1 ∙ sym h.1

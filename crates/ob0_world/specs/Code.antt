@@ -13,7 +13,7 @@ use Rattle.ob0_world_rules.specs.ClientAndServer.{Applied, PublicationWithText}
 use Rattle.ob0_world_rules.specs.EditorActs.{open_document, change_document, close_document, ask_about, apply, discard}
 use Rattle.ob0_world_rules.specs.Happens.{Event, editor_acts, serve, take_message}
 
--- returns the model's event for a value of the code's type `Event`
+-- converts an event of the code's type `Event` to the model's
 abbrev pub event_of : event.Event → Event
 event_of (event.TheVariants.OpenDoc uri text) =
     editor_acts (open_document (string_bytes uri) (chars (string_bytes text)))
@@ -26,7 +26,7 @@ event_of event.TheVariants.Take = take_message
 event_of (event.TheVariants.Apply k) = editor_acts (apply k)
 event_of (event.TheVariants.Discard k) = editor_acts (discard k)
 
--- returns the model's publication for a value of the code's type `Made`
+-- converts a publication of the code's type `Made` to the model's
 abbrev pub publication_of : made.Made → PublicationWithText
 publication_of m =
     record {
@@ -40,12 +40,11 @@ publication_of m =
 abbrev pub content_bytes : List (Vec ℕ Global) → List (List ℕ)
 content_bytes contents = map (λ v. v.items) contents
 
--- returns the applied edits in `p`, the results that `play` returns, as values of the model's type
--- `Applied`
+-- returns the applied edits in `p`, which `play` returns, as values of the model's type `Applied`
 abbrev pub played_edits : played.Played → List Applied
 played_edits p = map applied_of p.applied.items
 
--- returns the publications in `p`, the results that `play` returns, as values of the model's type
+-- returns the publications in `p`, which `play` returns, as values of the model's type
 -- `PublicationWithText`
 abbrev pub played_publications : played.Played → List PublicationWithText
 played_publications p = map publication_of p.made.items

@@ -1,9 +1,8 @@
--- Defines the exchanges of a session and an editor that keeps ob0's rules, and states the
--- guarantees for them. An exchange is like a state of the model (`EditorAndServer`). It has a
--- session in place of the model's server, and contents in place of the messages. A content is the
--- bytes of one message. The session may be any that the protocol (`Answers`) allows. An ask is a
--- request whose answer the editor may apply: a rename, an inlining or a formatting.
--- Rule: LSP 3.17; used in laws about every editor that keeps ob0's rules.
+-- Defines the exchanges between a session and an editor that keeps ob0's rules, and states the
+-- guarantees for them. An exchange is like a state of the model (`EditorAndServer`), with a session
+-- instead of the model's server and contents instead of messages. A content is the bytes of one
+-- message. The session may be any that the protocol (`Answers`) allows. An ask is a request whose
+-- answer the editor may apply: a rename, an inlining or a formatting.
 use Rattle.std.specs.Prelude.{◌≡◌, ◌⊎◌, ◌<◌, ◌≤◌, ◌==◌, map, filter_map, ⊤, ℕ, ℤ, List, [], ◌∷◌, ◌++◌, All, fold, Bool, true, false, Option, Some, None, MatchOption, option_map, option_and_then, Result, Ok, Err, if◌then◌else◌, codes}
 use Rattle.std.specs.Str.{bytes_eq}
 use Rattle.serde_json.specs.Data.{Data, null, boolean, number, string, array, object, unsigned, negative, float}
@@ -20,32 +19,33 @@ use Rattle.ob0_rpc.specs.Requesting as asked
 use Rattle.ob0_rpc.specs.Requesting.{ClientRequest, request_by_method}
 use Rattle.ob0_session_answers.specs.Actions.{kinds_include_inlining}
 use Rattle.ob0_session_server.specs.Answers as server
-use Rattle.ob0_session_server.specs.Answers.{ServerState, state_after_initialize, Sends, Conversation}
+use Rattle.ob0_session_server.specs.Answers.{ServerState, state_after_initialize, SendsMessage, IsConversation}
 use Rattle.ob0_session_server.specs.declared.session.Phase.TheVariants.{Ended}
 use Rattle.ob0_session_server.specs.Units.{unit_for}
-use Rattle.ob0_world_editor.specs.MessagesToServer.{message_to_server_in, IsNotificationFor, IsRequestWithId, IsAsk}
+use Rattle.ob0_world_editor.specs.MessagesToServer.{message_to_server_in, IsNotificationFor, IsRequestWithId, SentRequestAsksFor}
 use Rattle.ob0_world_editor.specs.MessagesToEditor.{message_to_editor_in, message_to_editor_by}
 use Rattle.ob0_world_rules.specs.Asks.{Ask, rename, inline_here, inline_all, format}
-use Rattle.ob0_world_rules.specs.ClientAndServer.{OpenDocument, SentAsk, Editor, new_editor, open_at, MessageToServer, notifies, requests, MessageToEditor, publishes, answers, Applied, after_message}
-use Rattle.ob0_world_rules.specs.EditorActs.{ActResult, after_reading}
+use Rattle.ob0_world_rules.specs.ClientAndServer.{OpenDocument, SentAsk, Editor, new_editor, open_document_at, MessageToServer, notifies, requests, MessageToEditor, publishes, answers, Applied, documents_after_message}
+use Rattle.ob0_world_rules.specs.EditorActs.{ActResult, editor_after_reading}
 use Rattle.ob0_world_rules.specs.Editors.{IsAllowedMove}
-use Rattle.ob0_world_rules.specs.EveryEditor.{EditorAndServer, initial_editor_and_server, Turn, editor_moves, editor_sends_unmodeled, server_takes, editor_takes, MayLeadTo, HoldsWithEditor}
-use Rattle.ob0_world_rules.specs.Answers.{IsEmptyIfWellTyped}
-use Rattle.ob0_world_rules.specs.Headline.{KeepsTheRun}
+use Rattle.ob0_world_rules.specs.EveryEditor.{EditorAndServer, initial_editor_and_server, Turn, editor_moves, editor_sends_unmodeled, server_takes, editor_takes, MayLeadTo, HoldsForEditorAndServer}
+use Rattle.ob0_world_rules.specs.Answers.{IsEmptyExactlyIfWellTyped}
+use Rattle.ob0_world_rules.specs.Headline.{PreservesRun}
 use Rattle.ob0_world_rules.specs.Mirror.{in_step_document}
-use Rattle.ob0_world_rules.specs.PublicationsInOrder.{AnnouncedDocument, versions_announced_in, versioned_uri}
+use Rattle.ob0_world_rules.specs.PublicationsInOrder.{AnnouncedDocument, uris_and_versions_announced_in, uri_and_version_of}
 use Rattle.ob0_world_rules.specs.Happens.{Event}
-use Rattle.ob0_world.specs.Worlds.{Wire, Connection, Begins, ConnectionCourse, SessionTakesFirst}
+use Rattle.ob0_world.specs.Worlds.{Wire, Connection, IsInitialConnection, IsConnectionCourse, SessionTakesFirst}
 
 -- ---- the ids of requests
 
--- a request's id: a whole number that isn't negative, or a text (JSON-RPC 2.0, request object)
+-- a request's id: a whole number that isn't negative, or a string, given by its bytes (JSON-RPC
+-- 2.0, request object)
 pub data RequestId : Type 0 where
   number_id : ℕ → RequestId
   text_id : List ℕ → RequestId
 
--- Returns the id that a JSON value means. None if the value is neither a text nor a whole number of
--- at least 0.
+-- Converts a JSON value to a request's id. Returns None if the value is neither a text nor a whole
+-- number of at least 0.
 abbrev pub id_of_value : Data → Option RequestId
 id_of_value (number (unsigned n)) = Some (number_id n)
 id_of_value (number (negative z)) = None
@@ -57,53 +57,52 @@ id_of_value (array ds) = None
 id_of_value (object ms) = None
 
 -- returns whether the two ids are equal
-abbrev pub same_id : RequestId → RequestId → Bool
-same_id (number_id n) (number_id m) = n == m
-same_id (number_id n) (text_id t) = false
-same_id (text_id s) (number_id m) = false
-same_id (text_id s) (text_id t) = bytes_eq s t
+abbrev pub is_same_id : RequestId → RequestId → Bool
+is_same_id (number_id n) (number_id m) = n == m
+is_same_id (number_id n) (text_id t) = false
+is_same_id (text_id s) (number_id m) = false
+is_same_id (text_id s) (text_id t) = bytes_eq s t
 
--- The id of a request that the editor sent. If the request is for edits (an ask), `ask` is its
--- number, counted from 1. For any other request, such as a hover request, `ask` is None.
-pub record SentRequest : Type 0 where
+-- The id of a request that the editor sent. `ask` is the number of the ask (request for edits),
+-- counted from 1. It is None for any other request, such as a hover request.
+pub record SentRequestId : Type 0 where
   pub id : RequestId
   pub ask : Option ℕ
 
--- Searches the sent requests for the first one with this id. Returns `Some (Some k)` if that
--- request is the ask (request for edits) with number `k`, `Some None` if it isn't an ask, and None
--- if no request has this id.
-abbrev pub ask_of_request_id : List SentRequest → RequestId → Option (Option ℕ)
-ask_of_request_id [] id = None
-ask_of_request_id (s ∷ sent) id = if same_id s.id id then Some s.ask else ask_of_request_id sent id
+-- Looks up the first sent request with this id. If it is the ask (request for edits) with number
+-- `k`, returns `Some (Some k)`. If it isn't an ask, returns `Some None`. If no request has this id,
+-- returns None.
+abbrev pub ask_number_of_request_id : List SentRequestId → RequestId → Option (Option ℕ)
+ask_number_of_request_id [] id = None
+ask_number_of_request_id (s ∷ sent) id = if is_same_id s.id id then Some s.ask else ask_number_of_request_id sent id
 
--- Returns the number of the ask (request for edits) that has this JSON value as its id. None if no
--- request has this id, or if the first request with this id isn't an ask.
-abbrev pub ask_number_by_id : List SentRequest → Data → Option ℕ
-ask_number_by_id sent id = option_and_then (λ ask. ask) (option_and_then (ask_of_request_id sent) (id_of_value id))
+-- Returns the number of the ask (request for edits) that has this JSON value as its id. Returns
+-- None if no request has this id, or if the first request with this id isn't an ask.
+abbrev pub ask_number_by_id : List SentRequestId → Data → Option ℕ
+ask_number_by_id sent id = option_and_then (λ ask. ask) (option_and_then (ask_number_of_request_id sent) (id_of_value id))
 
 -- States that each ask (request for edits) among the messages `sent` gets an id that no request in
 -- `ids` and no earlier ask in `sent` has. The list `new` is `ids` with the ids of these asks
 -- appended, in order.
-abbrev pub AssignsAskIds : List SentRequest → List MessageToServer → List SentRequest → Type 0
+abbrev pub AssignsAskIds : List SentRequestId → List MessageToServer → List SentRequestId → Type 0
 AssignsAskIds ids [] new = new ≡ ids
 AssignsAskIds ids (notifies note ∷ sent) new = AssignsAskIds ids sent new
 AssignsAskIds ids (requests k uri ask ∷ sent) new =
     (id : RequestId)
-    × (ask_of_request_id ids id ≡ None)
+    × (ask_number_of_request_id ids id ≡ None)
     × AssignsAskIds (ids ++ record { id = id; ask = Some k } ∷ []) sent new
 
--- Returns `ids` with this id appended, as the id of a request that isn't for edits (not an ask).
--- For None (the message has no valid id), the list is unchanged.
-abbrev pub with_non_ask_id : List SentRequest → Option RequestId → List SentRequest
+-- Appends this id to `ids`, as the id of a request that isn't an ask (a request for edits). If the
+-- message has no valid id (None), the list is unchanged.
+abbrev pub with_non_ask_id : List SentRequestId → Option RequestId → List SentRequestId
 with_non_ask_id ids None = ids
 with_non_ask_id ids (Some id) = ids ++ record { id = id; ask = None } ∷ []
 
--- States that the id is None, or that the first request in `ids` with this id isn't for edits (not
--- an ask). None means that the message has no valid id. If no request in `ids` has the id, the fact
--- doesn't hold.
-abbrev pub IsNonAskId : List SentRequest → Option RequestId → Type 0
+-- States that the first request in `ids` with this id isn't an ask (a request for edits). If no
+-- request in `ids` has the id, this is false. If the message has no valid id (None), it is true.
+abbrev pub IsNonAskId : List SentRequestId → Option RequestId → Type 0
 IsNonAskId ids None = ⊤
-IsNonAskId ids (Some id) = ask_of_request_id ids id ≡ Some None
+IsNonAskId ids (Some id) = ask_number_of_request_id ids id ≡ Some None
 
 -- ---- an editor and a session
 
@@ -112,20 +111,20 @@ IsNonAskId ids (Some id) = ask_of_request_id ids id ≡ Some None
 -- edits that it applied.
 pub record Exchange : Type 0 where
   pub editor : Editor
-  pub ids : List SentRequest
+  pub ids : List SentRequestId
   pub wire : Wire
   pub announced : List AnnouncedDocument
   pub applied : List Applied
 
--- States that the exchange `x` begins: a client that counts positions in `unit` has initialized the
--- session. No document is open and no content waits. The list of used ids is empty, so the ids of
--- the initialization may be used again.
-pub record BeginsExchange (unit : Unit) (x : Exchange) : Type 0 where
+-- States that no turn has been made in `x`: a client that counts positions in `unit` has
+-- initialized the session. No document is open and no content waits. The list of ids is empty, so
+-- the ids of the initialization may be used again.
+pub record IsInitialExchange (unit : Unit) (x : Exchange) : Type 0 where
   pub client : ClientFeatures
   pub counts : unit_for client ≡ unit
   pub taken : List (List ℕ)
   pub got : List (List ℕ)
-  pub initialized : Conversation server.start taken got (state_after_initialize client)
+  pub initialized : IsConversation server.start taken got (state_after_initialize client)
   pub is : x
       ≡ record {
         editor = new_editor unit;
@@ -162,7 +161,7 @@ IsReadOnlyRequest (Err fault) = ⊤
 -- requests no edits that the editor applies. It is a response, JSON that isn't a message, a
 -- notification that the server ignores, or a request that changes nothing in the session and
 -- doesn't have the id of a request for edits.
-abbrev pub IsUnmodeledMessage : List SentRequest → MessageMeaning → Type 0
+abbrev pub IsUnmodeledMessage : List SentRequestId → MessageMeaning → Type 0
 IsUnmodeledMessage ids not_json = ⊥
 IsUnmodeledMessage ids not_a_message = ⊤
 IsUnmodeledMessage ids response = ⊤
@@ -173,7 +172,7 @@ IsUnmodeledMessage ids (request id method params) =
 IsUnmodeledMessage ids (notice method params) = notification_by_method method params ≡ other
 
 -- states that the content is a message outside the model (`IsUnmodeledMessage`)
-abbrev pub IsUnmodeledContent : List SentRequest → List ℕ → Type 0
+abbrev pub IsUnmodeledContent : List SentRequestId → List ℕ → Type 0
 IsUnmodeledContent ids content =
     (json : Data) × ReadsContent content (Some json) × IsUnmodeledMessage ids (meaning_of json)
 
@@ -201,8 +200,8 @@ pub record IsActionsRequest (id : Data) (uri : List ℕ) (position : Position) (
   pub ordered : IsAtOrBefore range.start range.end
   pub allowed : kinds_include_inlining only ≡ true
 
--- States that the content is the request with this id that asks for these edits of the document
--- with this uri. For an inlining, the content is a request for code actions.
+-- States that the content is the request, with this id, for these edits of the document with this
+-- uri. An inlining is requested by a request for code actions.
 abbrev pub IsRequestFor : Data → List ℕ → Ask → List ℕ → Type 0
 IsRequestFor id uri (rename position name) content =
     IsRequestWithId id uri (rename position name) content
@@ -211,28 +210,29 @@ IsRequestFor id uri (inline_all position) content = IsActionsRequest id uri posi
 IsRequestFor id uri (format indent) content = IsRequestWithId id uri (format indent) content
 
 -- states that the client accepts literal code actions, which contain their edits
-abbrev pub AcceptsActions : ClientFeatures → Type 0
-AcceptsActions client = client.accepts_literal_actions ≡ true
+abbrev pub AcceptsLiteralActions : ClientFeatures → Type 0
+AcceptsLiteralActions client = client.accepts_literal_actions ≡ true
 
--- States that the client accepts the edits that answer this ask (request for edits). Only for an
--- inlining there is a condition: the client accepts literal code actions (`AcceptsActions`).
-abbrev pub AcceptsEdits : ClientFeatures → Ask → Type 0
-AcceptsEdits client (rename position name) = ⊤
-AcceptsEdits client (inline_here position) = AcceptsActions client
-AcceptsEdits client (inline_all position) = AcceptsActions client
-AcceptsEdits client (format indent) = ⊤
+-- States that the client accepts the edits that answer this ask (request for edits). For an
+-- inlining, it must accept literal code actions (`AcceptsLiteralActions`). For any other ask there
+-- is no condition.
+abbrev pub AcceptsEditsFor : ClientFeatures → Ask → Type 0
+AcceptsEditsFor client (rename position name) = ⊤
+AcceptsEditsFor client (inline_here position) = AcceptsLiteralActions client
+AcceptsEditsFor client (inline_all position) = AcceptsLiteralActions client
+AcceptsEditsFor client (format indent) = ⊤
 
 -- states that the sent request with number `k` asks for these edits (`ask`) of the document with
 -- this uri, and that it has this id
-pub record IsAskWithId (ids : List SentRequest) (requested : List SentAsk) (id : Data) (k : ℕ)
+pub record IsAskWithId (ids : List SentRequestId) (requested : List SentAsk) (id : Data) (k : ℕ)
     (uri : List ℕ) (ask : Ask) : Type 0 where
   pub numbered : ask_number_by_id ids id ≡ Some k
-  pub is : IsAsk requested k uri ask
+  pub is : SentRequestAsksFor requested k uri ask
 
--- States that the content is this message to a session whose client has these features. If the
--- message is a request for edits, the client must accept the edits (`AcceptsEdits`).
+-- States that the content is this message, sent to a session whose client has these features. If
+-- the message is a request for edits, the client must accept the edits (`AcceptsEditsFor`).
 abbrev pub IsMessageToSession : ClientFeatures
-    → List SentRequest
+    → List SentRequestId
     → List SentAsk
     → MessageToServer
     → List ℕ
@@ -242,12 +242,12 @@ IsMessageToSession client ids requested (requests k uri ask) content =
     (id : Data)
     × IsRequestFor id uri ask content
     × IsAskWithId ids requested id k uri ask
-    × AcceptsEdits client ask
+    × AcceptsEditsFor client ask
 
--- States that there are as many contents as messages, and that the n-th content is the n-th message
--- to the session. If the n-th message is None, the n-th content is a message outside the model.
+-- States that there are as many contents as messages, and that the n-th content is the n-th
+-- message. If the n-th message is None, the n-th content is a message outside the model.
 abbrev pub AreMessagesToSession : ClientFeatures
-    → List SentRequest
+    → List SentRequestId
     → List SentAsk
     → List (Option MessageToServer)
     → List (List ℕ)
@@ -264,39 +264,38 @@ AreMessagesToSession client ids requested (None ∷ messages) [] = ⊥
 
 -- ---- turns, and the exchanges to which they lead
 
--- Returns the message that the editor reads in a content, or None if the content is no message to
--- the editor. The list `ids` has the ids of the sent requests, so it decides which request an
--- answer belongs to.
-abbrev pub message_to_editor_by_ids : List SentRequest → List SentAsk → List ℕ → Option MessageToEditor
+-- Returns the message that the editor reads in a content, or None if the content isn't a message to
+-- the editor. The ids of the sent requests (`ids`) decide which request is answered.
+abbrev pub message_to_editor_by_ids : List SentRequestId → List SentAsk → List ℕ → Option MessageToEditor
 message_to_editor_by_ids ids requested content = message_to_editor_by (ask_number_by_id ids) requested content
 
--- Returns the editor after it has read this message. The editor stores an answer that has edits,
--- and nothing else. For None (no message), the editor is unchanged.
-abbrev pub after_reading_if_any : Editor → Option MessageToEditor → Editor
-after_reading_if_any e None = e
-after_reading_if_any e (Some message) = after_reading e message
+-- Returns the editor after it has read this message, or the unchanged editor for None (no message).
+-- The editor stores each answer that has edits, and nothing else.
+abbrev pub editor_after_reading_if_any : Editor → Option MessageToEditor → Editor
+editor_after_reading_if_any e None = e
+editor_after_reading_if_any e (Some message) = editor_after_reading e message
 
--- States that the editor takes the first content that waits for it, and reads the message in this
--- content, if there is one. If no content waits for the editor, nothing changes.
+-- States that the editor takes the first waiting content, and reads the message in it if there is
+-- one. If no content waits for the editor, nothing changes.
 abbrev pub EditorReadsFirst : List (List ℕ) → Exchange → Exchange → Type 0
 EditorReadsFirst [] old new = new ≡ old
 EditorReadsFirst (content ∷ rest) old new =
     new
     ≡ record old {
-      editor = after_reading_if_any old.editor (message_to_editor_by_ids old.ids old.editor.requested content);
+      editor = editor_after_reading_if_any old.editor (message_to_editor_by_ids old.ids old.editor.requested content);
       wire = record old.wire { got = old.wire.got ++ content ∷ []; to_editor = rest };
     }
 
 -- returns the wire with these contents appended to the queue to the session
-abbrev pub with_contents : Wire → List (List ℕ) → Wire
-with_contents wire contents = record wire { to_server = wire.to_server ++ contents }
+abbrev pub wire_with_queued_contents : Wire → List (List ℕ) → Wire
+wire_with_queued_contents wire contents = record wire { to_server = wire.to_server ++ contents }
 
 -- states that this turn (`Turn`) may lead from the exchange `old` to the exchange `new`
 abbrev pub Exchanges : Exchange → Turn → Exchange → Type 0
 Exchanges old (editor_moves move) new =
     (done : ActResult)
     × (announced : List AnnouncedDocument)
-    × (ids : List SentRequest)
+    × (ids : List SentRequestId)
     × (contents : List (List ℕ))
     × IsAllowedMove old.editor move done announced
     × AssignsAskIds old.ids done.sent ids
@@ -305,7 +304,7 @@ Exchanges old (editor_moves move) new =
     ≡ record {
       editor = done.editor;
       ids = ids;
-      wire = with_contents old.wire contents;
+      wire = wire_with_queued_contents old.wire contents;
       announced = old.announced ++ announced;
       applied = old.applied ++ done.applied;
     })
@@ -316,7 +315,7 @@ Exchanges old editor_sends_unmodeled new =
     × (new
     ≡ record old {
       ids = with_non_ask_id old.ids id;
-      wire = with_contents old.wire (content ∷ []);
+      wire = wire_with_queued_contents old.wire (content ∷ []);
     })
 Exchanges old server_takes new =
     (wire : Wire)
@@ -326,23 +325,22 @@ Exchanges old editor_takes new = EditorReadsFirst old.wire.to_editor old new
 
 -- states that these turns, one after another, may lead from the exchange `old` to the exchange
 -- `new`
-abbrev pub ExchangeCourse : Exchange → List Turn → Exchange → Type 0
-ExchangeCourse old [] new = new ≡ old
-ExchangeCourse old (turn ∷ turns) new =
-    (between : Exchange) × Exchanges old turn between × ExchangeCourse between turns new
+abbrev pub IsExchangeCourse : Exchange → List Turn → Exchange → Type 0
+IsExchangeCourse old [] new = new ≡ old
+IsExchangeCourse old (turn ∷ turns) new =
+    (between : Exchange) × Exchanges old turn between × IsExchangeCourse between turns new
 
 -- ---- the law that every exchange follows the model
 
 -- states that the editor reads no message in the content, whatever requests the editor sends later
-abbrev pub NeverMeansMessage : List SentRequest → List ℕ → Type 0
-NeverMeansMessage ids content =
-    (later : List SentRequest) (requested : List SentAsk)
+abbrev pub NeverMeansMessageToEditor : List SentRequestId → List ℕ → Type 0
+NeverMeansMessageToEditor ids content =
+    (later : List SentRequestId) (requested : List SentAsk)
     → message_to_editor_by_ids (ids ++ later) requested content ≡ None
 
 -- States that there are as many contents as messages, and that the editor reads the n-th message in
--- the n-th content. If the n-th message is None, the editor never reads a message in the n-th
--- content.
-abbrev pub AreMessagesToEditor : List SentRequest
+-- the n-th content. If the n-th message is None, the editor never reads a message there.
+abbrev pub AreMessagesToEditor : List SentRequestId
     → List SentAsk
     → List (Option MessageToEditor)
     → List (List ℕ)
@@ -351,15 +349,15 @@ AreMessagesToEditor ids requested [] [] = ⊤
 AreMessagesToEditor ids requested (Some m ∷ messages) (content ∷ contents) =
     (message_to_editor_by_ids ids requested content ≡ Some m) × AreMessagesToEditor ids requested messages contents
 AreMessagesToEditor ids requested (None ∷ messages) (content ∷ contents) =
-    NeverMeansMessage ids content × AreMessagesToEditor ids requested messages contents
+    NeverMeansMessageToEditor ids content × AreMessagesToEditor ids requested messages contents
 AreMessagesToEditor ids requested [] (content ∷ contents) = ⊥
 AreMessagesToEditor ids requested (Some m ∷ messages) [] = ⊥
 AreMessagesToEditor ids requested (None ∷ messages) [] = ⊥
 
--- States that `turns` can lead the model (`EditorAndServer`) to a state that matches the exchange
--- `x`. The editors are the same, and the session has the documents of the model's server. The
--- waiting contents are the model's waiting messages. So the model's guarantees hold for the
--- exchange (`HoldsWithEditor`).
+-- States that these turns may lead the model (`EditorAndServer`) to a state that matches the
+-- exchange `x`. Both have the same editor, and the session has the documents of the model's server.
+-- The waiting contents are the model's waiting messages. So the model's guarantees hold for the
+-- exchange (`HoldsForEditorAndServer`).
 pub record FollowsModel (unit : Unit) (turns : List Turn) (x : Exchange) : Type 0 where
   pub model : EditorAndServer
   pub leads : MayLeadTo (initial_editor_and_server unit) turns model
@@ -370,9 +368,9 @@ pub record FollowsModel (unit : Unit) (turns : List Turn) (x : Exchange) : Type 
   pub says : AreMessagesToSession x.wire.session.client x.ids x.editor.requested model.to_server
       x.wire.to_server
   pub means : AreMessagesToEditor x.ids x.editor.requested model.to_editor x.wire.to_editor
-  pub holds : HoldsWithEditor model
+  pub holds : HoldsForEditorAndServer model
   -- the session has taken and sent these contents in one conversation, from the session's start
-  pub conversation : Conversation server.start x.wire.taken (x.wire.got ++ x.wire.to_editor)
+  pub conversation : IsConversation server.start x.wire.taken (x.wire.got ++ x.wire.to_editor)
       x.wire.session
 
 -- states that every exchange of a session and an editor that keeps ob0's rules follows the model
@@ -380,31 +378,31 @@ pub record FollowsModel (unit : Unit) (turns : List Turn) (x : Exchange) : Type 
 abbrev pub EveryExchangeFollowsModel : Type 0
 EveryExchangeFollowsModel =
     (unit : Unit) (begin now : Exchange) (turns : List Turn)
-    → BeginsExchange unit begin
-    → ExchangeCourse begin turns now
+    → IsInitialExchange unit begin
+    → IsExchangeCourse begin turns now
     → FollowsModel unit turns now
 
 -- ---- the end of a session: `shutdown` and `exit`
 
 -- states that the content is the request `shutdown` with this id
-pub record IsShutdown (id : Data) (content : List ℕ) : Type 0 where
+pub record IsShutdownRequest (id : Data) (content : List ℕ) : Type 0 where
   pub json : Data
   pub reads : ReadsContent content (Some json)
   pub params : Data
   pub means : meaning_of json ≡ request id (codes "shutdown") params
 
 -- states that the content is the notification `exit`
-pub record IsExit (content : List ℕ) : Type 0 where
+pub record IsExitNotification (content : List ℕ) : Type 0 where
   pub json : Data
   pub reads : ReadsContent content (Some json)
   pub params : Data
   pub means : meaning_of json ≡ notice (codes "exit") params
 
--- States that the session has sent the answer to the `shutdown` with this id, and nothing else. The
+-- States that the session has sent only the answer to the `shutdown` request with this id. The
 -- session has ended with status 0, and its documents are unchanged.
-pub record EndsSession (id : Data) (before : ServerState) (sent : List (List ℕ)) (end : ServerState)
+pub record EndsAfterShutdown (id : Data) (before : ServerState) (sent : List (List ℕ)) (end : ServerState)
     : Type 0 where
-  pub answer : Sends (result_message id null) sent
+  pub answer : SendsMessage (result_message id null) sent
   pub ended : end.phase ≡ Ended 0
   pub held : end.held ≡ before.held
 
@@ -419,47 +417,46 @@ pub record VersionedPublication : Type 0 where
 
 -- returns a list of one publication if the message publishes diagnostics with a version, otherwise
 -- an empty list
-abbrev pub versioned_publication : Option MessageToEditor → List VersionedPublication
-versioned_publication (Some (publishes uri (Some version) empty)) =
+abbrev pub versioned_publications_of : Option MessageToEditor → List VersionedPublication
+versioned_publications_of (Some (publishes uri (Some version) empty)) =
     record { uri = uri; version = version; no_diagnostics = empty } ∷ []
-versioned_publication (Some (publishes uri None empty)) = []
-versioned_publication (Some (answers k edits)) = []
-versioned_publication None = []
+versioned_publications_of (Some (publishes uri None empty)) = []
+versioned_publications_of (Some (answers k edits)) = []
+versioned_publications_of None = []
 
 -- returns the publications with a version in these contents, in order
-abbrev pub publications_in : List (List ℕ) → List VersionedPublication
-publications_in [] = []
-publications_in (content ∷ contents) = versioned_publication (message_to_editor_in [] content) ++ publications_in contents
+abbrev pub versioned_publications_in : List (List ℕ) → List VersionedPublication
+versioned_publications_in [] = []
+versioned_publications_in (content ∷ contents) = versioned_publications_of (message_to_editor_in [] content) ++ versioned_publications_in contents
 
--- States that there are as many lists of diagnostics as documents. The n-th list has the uri and
--- version of the n-th document, and is empty exactly when that document's text is a well-typed
--- module.
-abbrev pub AreCorrectFor : List VersionedPublication → List AnnouncedDocument → Type 0
-AreCorrectFor [] [] = ⊤
-AreCorrectFor (p ∷ published) (t ∷ announced) =
+-- States that there are as many lists of diagnostics as documents. The n-th list has the n-th
+-- document's uri and version, and is empty exactly if that document's text is a well-typed module.
+abbrev pub AreCorrectForDocuments : List VersionedPublication → List AnnouncedDocument → Type 0
+AreCorrectForDocuments [] [] = ⊤
+AreCorrectForDocuments (p ∷ published) (t ∷ announced) =
     (p.uri ≡ t.uri)
     × (p.version ≡ t.document.version)
-    × IsEmptyIfWellTyped t.document.text p.no_diagnostics
-    × AreCorrectFor published announced
-AreCorrectFor [] (t ∷ announced) = ⊥
-AreCorrectFor (p ∷ published) [] = ⊥
+    × IsEmptyExactlyIfWellTyped t.document.text p.no_diagnostics
+    × AreCorrectForDocuments published announced
+AreCorrectForDocuments [] (t ∷ announced) = ⊥
+AreCorrectForDocuments (p ∷ published) [] = ⊥
 
--- Returns the last list of diagnostics for the document with this uri. None if there is no list for
--- this document.
-abbrev pub last_publication_of : List ℕ → List VersionedPublication → Option VersionedPublication
-last_publication_of uri published =
+-- Returns the last list of diagnostics for the document with this uri, or None if there is none.
+abbrev pub last_versioned_publication : List ℕ → List VersionedPublication → Option VersionedPublication
+last_versioned_publication uri published =
     fold (λ last p. if bytes_eq p.uri uri then Some p else last) None published
 
--- Returns the notifications about documents in these contents, in order. Each opens, changes or
--- closes a document, or can't be read and so puts a document out of step.
+-- Returns the notifications about documents in these contents, in order. Each one opens, changes or
+-- closes a document. A notification that can't be read, but has a uri, puts that document out of
+-- step.
 abbrev pub notifications_in : List (List ℕ) → List MessageToServer
 notifications_in contents = filter_map (message_to_server_in []) contents
 
--- States the guarantees for an exchange of a session and an editor that keeps ob0's rules, which
--- led from `begin` to `now`.
-pub record HoldsOfExchange (begin now : Exchange) : Type 0 where
+-- States the guarantees for an exchange of a session and an editor that keeps ob0's rules, from
+-- `begin` to `now`.
+pub record HoldsForExchange (begin now : Exchange) : Type 0 where
   -- each edit that the editor applied keeps the module's run
-  pub applied : All KeepsTheRun now.applied
+  pub applied : All PreservesRun now.applied
   -- `since` are the contents that the session has sent after `begin`. The lists of diagnostics with
   -- a version in these contents are correct for the first documents that the editor announced, in
   -- order.
@@ -468,52 +465,52 @@ pub record HoldsOfExchange (begin now : Exchange) : Type 0 where
   pub published_documents : List AnnouncedDocument
   pub unpublished_documents : List AnnouncedDocument
   pub announced : now.announced ≡ published_documents ++ unpublished_documents
-  pub right : AreCorrectFor (publications_in since) published_documents
+  pub right : AreCorrectForDocuments (versioned_publications_in since) published_documents
   -- the contents that still wait for the session announce the other documents, `unpublished_documents`
-  pub unpublished_are_queued : map versioned_uri unpublished_documents ≡ versions_announced_in (notifications_in now.wire.to_server)
+  pub unpublished_are_queued : map uri_and_version_of unpublished_documents ≡ uris_and_versions_announced_in (notifications_in now.wire.to_server)
   -- If no notification about a document waits for the session, the latest list of diagnostics of
   -- each open document is for the document's present version and text.
   pub latest : notifications_in now.wire.to_server ≡ [] → (uri : List ℕ) (d : OpenDocument)
-      → open_at now.editor uri ≡ Some d
-      → MatchOption (last_publication_of uri (publications_in since)) ⊥
-      (λ p. (p.version ≡ d.version) × IsEmptyIfWellTyped d.text p.no_diagnostics)
+      → open_document_at now.editor uri ≡ Some d
+      → MatchOption (last_versioned_publication uri (versioned_publications_in since)) ⊥
+      (λ p. (p.version ≡ d.version) × IsEmptyExactlyIfWellTyped d.text p.no_diagnostics)
   -- once the session has taken the waiting contents, the session's documents are the editor's
   pub mirrors : (uri : List ℕ)
-      → document_at (fold after_message now.wire.session.held (notifications_in now.wire.to_server)) uri
-      ≡ option_map in_step_document (open_at now.editor uri)
+      → document_at (fold documents_after_message now.wire.session.held (notifications_in now.wire.to_server)) uri
+      ≡ option_map in_step_document (open_document_at now.editor uri)
   -- the session has taken and sent these contents in one conversation, from the session's start
-  pub conversation : Conversation server.start now.wire.taken
+  pub conversation : IsConversation server.start now.wire.taken
       (now.wire.got ++ now.wire.to_editor) now.wire.session
   -- if the session next takes `shutdown` and `exit`, it ends with status 0
-  pub ends : (id : Data) (shutdown exit : List ℕ) → IsShutdown id shutdown → IsExit exit
+  pub ends : (id : Data) (shutdown exit : List ℕ) → IsShutdownRequest id shutdown → IsExitNotification exit
       → (sent : List (List ℕ)) (end : ServerState)
-      → Conversation now.wire.session (shutdown ∷ exit ∷ []) sent end
-      → EndsSession id now.wire.session sent end
+      → IsConversation now.wire.session (shutdown ∷ exit ∷ []) sent end
+      → EndsAfterShutdown id now.wire.session sent end
 
--- states that the guarantees (`HoldsOfExchange`) hold for every exchange of a session and an editor
--- that keeps ob0's rules
+-- states that the guarantees (`HoldsForExchange`) hold for every exchange between a session and an
+-- editor that keeps ob0's rules
 abbrev pub HoldsForEveryExchange : Type 0
 HoldsForEveryExchange =
     (unit : Unit) (begin now : Exchange) (turns : List Turn)
-    → BeginsExchange unit begin
-    → ExchangeCourse begin turns now
-    → HoldsOfExchange begin now
+    → IsInitialExchange unit begin
+    → IsExchangeCourse begin turns now
+    → HoldsForExchange begin now
 
 -- ---- the law that each list of events that `play` plays is an exchange
 
--- States that each list of events of the model's editor and a session (`ConnectionCourse`) is also
--- an exchange of an editor that keeps ob0's rules. So each guarantee about exchanges holds for
--- every list of events that `play` plays.
+-- States that each list of events of the model's editor and a session (`IsConnectionCourse`) is
+-- also an exchange of an editor that keeps ob0's rules. So each guarantee for exchanges also holds
+-- for every list of events that `play` plays.
 abbrev pub ACourseIsAnExchange : Type 0
 ACourseIsAnExchange =
     (unit : Unit) (begin end : Connection) (events : List Event)
-    → Begins unit begin
-    → ConnectionCourse begin events end
+    → IsInitialConnection unit begin
+    → IsConnectionCourse begin events end
     → (first : Exchange)
     × (turns : List Turn)
     × (last : Exchange)
-    × BeginsExchange unit first
-    × ExchangeCourse first turns last
+    × IsInitialExchange unit first
+    × IsExchangeCourse first turns last
     × (last.editor ≡ end.model.editor)
     × (last.wire ≡ end.wire)
     × (last.applied ≡ end.model.applied)

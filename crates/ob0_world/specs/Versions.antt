@@ -1,27 +1,26 @@
 -- Defines the versions that answers mention, and a client that compares versions. The model's
--- editor numbers the openings of a document, and a real client doesn't. Versions are enough for a
--- real client, because an answer mentions the document that was asked about, with the version that
--- this document had when the request was sent.
--- Rule: none; laws of client and server, on LSP 3.17, OptionalVersionedTextDocumentIdentifier.
+-- editor numbers each opening of a document, but LSP has no such number. Versions are enough for a
+-- real client, because an answer mentions the document that was asked about, with its version at
+-- the time of the request.
 use Rattle.std.specs.Prelude.{◌≡◌, ◌⊎◌, ⊤, ℕ, ℤ, List, [], ◌∷◌, All, Bool, Option, Some, None, option_and_then, option_map, if◌then◌else◌, codes}
 use Rattle.serde_json.specs.Data.{Data}
 use Rattle.serde_json.specs.Find.{get, at, as_array, as_number, as_integer}
 use Rattle.ob0_text.specs.declared.position_types.Unit.{Unit}
 use Rattle.ob0_rpc.specs.Members.{text_member}
 use Rattle.ob0_rpc.specs.Messages.{ReadsContent}
-use Rattle.ob0_world_editor.specs.MessagesToServer.{request_number}
+use Rattle.ob0_world_editor.specs.MessagesToServer.{request_number_from_id}
 use Rattle.ob0_world_editor.specs.MessagesToEditor.{first_action_with_title, edits_for}
 use Rattle.ob0_world_rules.specs.Asks.{Ask, rename, inline_here, inline_all, format}
 use Rattle.ob0_world_rules.specs.Edited.{Replacement, text_after_edits, whole_text_change}
-use Rattle.ob0_world_rules.specs.EditorActs.{ActResult, same_version, rewriting_result, applying_result}
-use Rattle.ob0_world_rules.specs.ClientAndServer.{OpenDocument, SentAsk, Editor, request_numbered, open_at}
+use Rattle.ob0_world_rules.specs.EditorActs.{ActResult, is_same_version, rewriting_result, applying_result}
+use Rattle.ob0_world_rules.specs.ClientAndServer.{OpenDocument, SentAsk, Editor, request_numbered, open_document_at}
 use Rattle.ob0_world_rules.specs.Happens.{Event}
-use Rattle.ob0_world.specs.Worlds.{Connection, Begins, ConnectionCourse}
+use Rattle.ob0_world.specs.Worlds.{Connection, IsInitialConnection, IsConnectionCourse}
 
 -- ---- the versions in answers
 
--- Returns the uri and the version in a document's identifier. None if the uri or the version is
--- missing.
+-- Returns the uri and the version in a document's identifier. Returns None if the uri or the
+-- version is missing.
 abbrev pub uri_and_version_in : Data → Option (List ℕ × ℤ)
 uri_and_version_in d =
     option_and_then
@@ -30,16 +29,16 @@ uri_and_version_in d =
     (text_member (codes "uri") d)
 
 -- Returns the uri and the version of the first document in the `documentChanges` of a
--- WorkspaceEdit. None if there is no such document, or if its uri or version is missing.
-abbrev pub edited_uri_and_version : Data → Option (List ℕ × ℤ)
-edited_uri_and_version edit =
+-- WorkspaceEdit. Returns None if there is no such document, or if its uri or version is missing.
+abbrev pub uri_and_version_in_edit : Data → Option (List ℕ × ℤ)
+uri_and_version_in_edit edit =
     option_and_then uri_and_version_in (option_and_then (get (codes "textDocument"))
     (option_and_then (at 0) (get (codes "documentChanges") edit)))
 
--- Returns the WorkspaceEdit of the first action with this title in a list of code actions. None if
--- there is no such action, or if the action has no edit.
-abbrev pub edit_of_action : List ℕ → Data → Option Data
-edit_of_action title value =
+-- Returns the WorkspaceEdit of the first action with this title in a list of code actions. Returns
+-- None if there is no such action, or if the action has no edit.
+abbrev pub edit_of_action_with_title : List ℕ → Data → Option Data
+edit_of_action_with_title title value =
     option_and_then (get (codes "edit")) (option_and_then (first_action_with_title title) (as_array value))
 
 -- Returns the WorkspaceEdit in the result of a request for edits, or None if there is none. The
@@ -47,15 +46,15 @@ edit_of_action title value =
 -- a WorkspaceEdit. The result of a formatting is a list of edits, without a WorkspaceEdit.
 abbrev pub edit_in_result : Ask → Data → Option Data
 edit_in_result (rename position name) value = Some value
-edit_in_result (inline_here position) value = edit_of_action (codes "Inline here") value
-edit_in_result (inline_all position) value = edit_of_action (codes "Inline everywhere") value
+edit_in_result (inline_here position) value = edit_of_action_with_title (codes "Inline here") value
+edit_in_result (inline_all position) value = edit_of_action_with_title (codes "Inline everywhere") value
 edit_in_result (format indent) value = None
 
--- Returns the uri and the version that the answer to a request for edits mentions. None if the
--- answer doesn't mention both.
-abbrev pub answer_uri_and_version : Ask → Data → Option (List ℕ × ℤ)
-answer_uri_and_version ask answer =
-    option_and_then edited_uri_and_version
+-- Returns the uri and the version that the answer to a request for edits mentions. Returns None if
+-- the answer doesn't mention both.
+abbrev pub uri_and_version_in_answer : Ask → Data → Option (List ℕ × ℤ)
+uri_and_version_in_answer ask answer =
+    option_and_then uri_and_version_in_edit
     (option_and_then (edit_in_result ask) (get (codes "result") answer))
 
 -- states that this request for edits is for a formatting
@@ -66,41 +65,41 @@ IsFormatting (inline_all position) = ⊥
 IsFormatting (format indent) = ⊤
 
 -- States that the answer mentions the request's document, with the version that the document had
--- when the request was sent. An answer without edits and an answer to a formatting needn't mention
--- the document.
+-- when the request was sent. Two kinds of answers needn't mention it: an answer without edits, and
+-- an answer to a formatting request.
 abbrev pub MentionsAskedDocument : SentAsk → Data → Type 0
 MentionsAskedDocument a answer =
-    (answer_uri_and_version a.ask answer ≡ Some (a.uri, a.version))
+    (uri_and_version_in_answer a.ask answer ≡ Some (a.uri, a.version))
     ⊎ ((edits_for a.uri a.ask answer ≡ []) ⊎ IsFormatting a.ask)
 
--- States that a content whose id is a number answers the request with this number, and mentions the
--- document of that request (`MentionsAskedDocument`). For any other content nothing is stated.
+-- States that a content with a number as its id answers the request with this number, and mentions
+-- that request's document (`MentionsAskedDocument`). Nothing is stated about any other content.
 abbrev pub MentionsDocumentOfAsk : List SentAsk → List ℕ → Type 0
 MentionsDocumentOfAsk requested content =
     (answer : Data) (k : ℕ)
     → ReadsContent content (Some answer)
-    → option_and_then request_number (get (codes "id") answer) ≡ Some k
+    → option_and_then request_number_from_id (get (codes "id") answer) ≡ Some k
     → (a : SentAsk) × (request_numbered requested k ≡ Some a) × MentionsAskedDocument a answer
 
--- States that `MentionsDocumentOfAsk` holds for each content that waits for the editor, after any
--- list of events. Each content that the editor has taken waited before, so the fact also holds for
--- the taken contents.
+-- States that after any list of events, `MentionsDocumentOfAsk` holds for each content that waits
+-- for the editor. Each content that the editor has taken waited before, so it also holds for the
+-- taken contents.
 abbrev pub AnswersMentionVersions : Type 0
 AnswersMentionVersions =
     (unit : Unit) (begin : Connection) (events : List Event) (now : Connection)
-    → Begins unit begin
-    → ConnectionCourse begin events now
+    → IsInitialConnection unit begin
+    → IsConnectionCourse begin events now
     → All (MentionsDocumentOfAsk now.model.editor.requested) now.wire.to_editor
 
 -- ---- a client that compares versions
 
 -- returns whether a document has this version
 abbrev pub has_version : ℤ → OpenDocument → Bool
-has_version version d = same_version d.version version
+has_version version d = is_same_version d.version version
 
--- Returns the result of applying an answer's edits in a client that goes by the uri and the version
--- in the answer. The edits are made in the open document with this uri. None if no open document
--- has this uri and this version, or if two edits share a character.
+-- Returns the result of applying an answer's edits in a client that relies on the uri and the
+-- version in the answer. The edits are made in the open document with this uri. Returns None if no
+-- open document has this uri and this version, or if two edits share a character.
 abbrev pub applying_result_by_version : Editor → List ℕ → ℤ → List Replacement → Option ActResult
 applying_result_by_version e uri version edits =
     option_and_then
@@ -108,18 +107,18 @@ applying_result_by_version e uri version edits =
     (λ text. Some (rewriting_result e uri d text (whole_text_change text ∷ [])
     (record { uri = uri; before = d.text; after = text } ∷ [])))
     (if has_version version d then text_after_edits e.unit d.text edits else None))
-    (open_at e uri)
+    (open_document_at e uri)
 
 -- States that the request's document hasn't been opened again since the request: it is closed, or
 -- has the opening number that is stored with the request.
 abbrev pub IsNotReopened : Editor → SentAsk → Type 0
-IsNotReopened e a = (d : OpenDocument) → open_at e a.uri ≡ Some d → d.opening ≡ a.opening
+IsNotReopened e a = (d : OpenDocument) → open_document_at e a.uri ≡ Some d → d.opening ≡ a.opening
 
--- States that a client that goes by the version in an answer gets the same result as the model's
+-- States that a client that relies on the version in an answer gets the same result as the model's
 -- editor when it applies the answer's edits. The condition is that the document hasn't been opened
 -- again since the request.
-abbrev pub VersionsSuffice : Type 0
-VersionsSuffice =
+abbrev pub VersionsSufficeForApplying : Type 0
+VersionsSufficeForApplying =
     (e : Editor) (k : ℕ) (a : SentAsk) (edits : List Replacement)
     → request_numbered e.requested k ≡ Some a
     → IsNotReopened e a

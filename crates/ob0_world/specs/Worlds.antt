@@ -6,15 +6,15 @@ use Rattle.std.specs.Option.{option_to_list}
 use Rattle.ob0_text.specs.declared.position_types.Unit.{Unit}
 use Rattle.ob0_rpc.specs.Messages.{ReadsContent}
 use Rattle.ob0_session_server.specs.Answers as server
-use Rattle.ob0_session_server.specs.Answers.{ServerState, state_after_initialize, Answers, Conversation}
-use Rattle.ob0_world_editor.specs.InitializeRequest.{client_for, initialize_message}
+use Rattle.ob0_session_server.specs.Answers.{ServerState, state_after_initialize, Answers, IsConversation}
+use Rattle.ob0_world_editor.specs.InitializeRequest.{client_features_for, initialize_message}
 use Rattle.ob0_world_editor.specs.MessagesToServer.{IsMessageToServer}
 use Rattle.ob0_world_editor.specs.MessagesToEditor.{message_to_editor_in}
 use Rattle.ob0_world_rules.specs.ClientAndServer.{SentAsk, MessageToServer, ClientAndServer, start}
 use Rattle.ob0_world_rules.specs.Happens.{Event, editor_acts, serve, take_message, Happens}
 use Rattle.ob0_world_rules.specs.Headline.{Headline}
 use Rattle.ob0_world.specs.Code.{event_of, content_bytes, played_edits, played_publications}
-use Rattle.ob0_world.specs.Seen.{Seen, event_report}
+use Rattle.ob0_world.specs.Seen.{Seen, report_on_event}
 use Rattle.ob0_world.specs.declared.events.Event as event
 use Rattle.ob0_world.specs.declared.faults.PlayFault.{PlayFault}
 use Rattle.ob0_world.specs.declared.faults.WorldFault.{WorldFault}
@@ -26,12 +26,12 @@ use Rattle.ob0_world.specs.declared.played.Played as played
 -- the session that serves the editor, and the contents of all messages between the two
 pub record Wire : Type 0 where
   pub session : ServerState
-  -- the contents that the editor has written: the session has taken the first list (`taken`), and
-  -- the second (`to_server`) still waits for the session
+  -- the contents that the editor has sent: the session has taken those in `taken`, and those in
+  -- `to_server` still wait for the session
   pub taken : List (List ℕ)
   pub to_server : List (List ℕ)
-  -- the contents that the session has sent: the editor has taken the first list (`got`), and the
-  -- second (`to_editor`) still waits for the editor
+  -- the contents that the session has sent: the editor has taken those in `got`, and those in
+  -- `to_editor` still wait for the editor
   pub got : List (List ℕ)
   pub to_editor : List (List ℕ)
 
@@ -40,26 +40,25 @@ pub record Connection : Type 0 where
   pub model : ClientAndServer
   pub wire : Wire
 
--- States that the editor has initialized a new session and has taken the session's answer, and that
--- nothing else has happened.
-pub record Begins (unit : Unit) (w : Connection) : Type 0 where
+-- States that the editor has initialized a new session and taken its answer, and that nothing else
+-- has happened.
+pub record IsInitialConnection (unit : Unit) (w : Connection) : Type 0 where
   pub content : List ℕ
   pub replies : List (List ℕ)
   pub initializes : ReadsContent content (Some (initialize_message unit))
-  pub answers : Answers server.start content replies (state_after_initialize (client_for unit))
+  pub answers : Answers server.start content replies (state_after_initialize (client_features_for unit))
   pub model : w.model ≡ start unit
   pub wire : w.wire
       ≡ record {
-        session = state_after_initialize (client_for unit);
+        session = state_after_initialize (client_features_for unit);
         taken = content ∷ [];
         to_server = [];
         got = replies;
         to_editor = [];
       }
 
--- States that the session takes the first content that waits for it, and that the session's replies
--- are added to the contents that wait for the editor. If no content waits for the session, nothing
--- changes.
+-- States that the session takes the first waiting content, and that its replies are appended to the
+-- contents that wait for the editor. If no content waits for the session, nothing changes.
 abbrev pub SessionTakesFirst : List (List ℕ) → Wire → Wire → Type 0
 SessionTakesFirst [] old new = new ≡ old
 SessionTakesFirst (content ∷ rest) old new =
@@ -72,26 +71,26 @@ SessionTakesFirst (content ∷ rest) old new =
       to_editor = old.to_editor ++ sent;
     })
 
--- States that the editor takes the first content that waits for it. If no content waits for the
--- editor, nothing changes.
+-- States that the editor takes the first waiting content. If no content waits for the editor,
+-- nothing changes.
 abbrev pub EditorTakesFirst : List (List ℕ) → Wire → Wire → Type 0
 EditorTakesFirst [] old new = new ≡ old
 EditorTakesFirst (content ∷ rest) old new =
     new ≡ record old { got = old.got ++ content ∷ []; to_editor = rest }
 
--- states that the editor writes at most one content, which is appended to the queue to the session
+-- states that the editor appends at most one content to the queue to the session, and that nothing
+-- else changes
 abbrev pub WritesContent : Wire → Wire → Type 0
 WritesContent old new =
     (content : Option (List ℕ))
     × (new ≡ record old { to_server = old.to_server ++ option_to_list content })
 
 -- States that this event changes the session and the contents from `old` to `new`. Only the event
--- `serve` changes the session. No waiting content is lost, changed or moved to another place in its
--- queue.
-abbrev pub MovesWire : Event → Wire → Wire → Type 0
-MovesWire (editor_acts act) old new = WritesContent old new
-MovesWire serve old new = SessionTakesFirst old.to_server old new
-MovesWire take_message old new = EditorTakesFirst old.to_editor old new
+-- `serve` changes the session. No waiting content is lost, changed or reordered.
+abbrev pub ChangesWire : Event → Wire → Wire → Type 0
+ChangesWire (editor_acts act) old new = WritesContent old new
+ChangesWire serve old new = SessionTakesFirst old.to_server old new
+ChangesWire take_message old new = EditorTakesFirst old.to_editor old new
 
 -- states that there are as many contents as messages, and that the n-th content is the n-th message
 -- to the server
@@ -110,28 +109,28 @@ pub record QueuesMatch (w : Connection) : Type 0 where
       ≡ map Some w.model.to_editor
   pub documents : w.model.held ≡ w.wire.session.held
 
--- States that this event leads from `old` to `new`, in the model (`Happens`) and for the session
--- and the contents (`MovesWire`). After the event, the waiting contents are the messages that wait
--- in the model (`QueuesMatch`).
-pub record ConnectionStep (old : Connection) (event : Event) (new : Connection) : Type 0 where
+-- States that this event leads from `old` to `new`, both in the model (`Happens`) and for the
+-- session and the contents (`ChangesWire`). After the event, the waiting contents are the messages
+-- that wait in the model (`QueuesMatch`).
+pub record ConnectionSteps (old : Connection) (event : Event) (new : Connection) : Type 0 where
   pub happens : Happens old.model event new.model
-  pub moves : MovesWire event old.wire new.wire
+  pub moves : ChangesWire event old.wire new.wire
   pub tied : QueuesMatch new
 
 -- states that these events, one after another, lead from `old` to `new`
-abbrev pub ConnectionCourse : Connection → List Event → Connection → Type 0
-ConnectionCourse old [] new = new ≡ old
-ConnectionCourse old (event ∷ events) new =
-    (between : Connection) × ConnectionStep old event between × ConnectionCourse between events new
+abbrev pub IsConnectionCourse : Connection → List Event → Connection → Type 0
+IsConnectionCourse old [] new = new ≡ old
+IsConnectionCourse old (event ∷ events) new =
+    (between : Connection) × ConnectionSteps old event between × IsConnectionCourse between events new
 
 -- ---- the results that `play` returns for a list of events
 
--- states that `p`, the results in the code, has the applied edits and the publications of the
--- model's state `w`, in order
+-- states that `p`, which `play` returns, has the applied edits and the publications of the model's
+-- state `w`, in order
 abbrev pub ResultsMatch : ClientAndServer → played.Played → Type 0
 ResultsMatch w p = (played_edits p ≡ w.applied) × (played_publications p ≡ w.made)
 
--- states that `p`, the results in the code, has the contents that each side has taken according to
+-- states that `p`, which `play` returns, has the contents that each side has taken according to
 -- `w`, and the contents that wait for the editor
 abbrev pub ContentsMatch : Wire → played.Played → Type 0
 ContentsMatch w p =
@@ -139,23 +138,23 @@ ContentsMatch w p =
     × (content_bytes p.got.items ≡ w.got)
     × (content_bytes p.unread.items ≡ w.to_editor)
 
--- States the guarantees (`Headline`) for a list of events, and for the edits and publications that
--- the code returns in `p`. Also states that `p` has the contents that a session took and sent in
--- one conversation, from the session's start to the end of these events.
+-- States the guarantees (`Headline`) for these events and for the edits and publications in the
+-- results `p`. The events lead from an initialized connection to one that has these results and
+-- contents. The contents in `p` are a session's conversation, from the session's start.
 pub record Plays (unit : Unit) (events : List event.Event) (p : played.Played) : Type 0 where
   pub headline : Headline unit (map event_of events) (played_edits p) (played_publications p)
   pub begin : Connection
-  pub begins : Begins unit begin
+  pub begins : IsInitialConnection unit begin
   pub end : Connection
-  pub course : ConnectionCourse begin (map event_of events) end
+  pub course : IsConnectionCourse begin (map event_of events) end
   pub results_match : ResultsMatch end.model p
   pub contents_match : ContentsMatch end.wire p
   pub after : ServerState
-  pub conversation : Conversation server.start (content_bytes p.taken.items)
+  pub conversation : IsConversation server.start (content_bytes p.taken.items)
       (content_bytes p.got.items ++ content_bytes p.unread.items) after
 
--- States that `fault` reports 0 steps, and has no edit, no publication and no content. So the
--- guarantees (`Headline`) hold for the empty list of events.
+-- States that no event happened: `fault` reports 0 steps, and has no edit, no publication and no
+-- content. So the guarantees (`Headline`) hold for the empty list of events.
 pub record PlaysNothing (unit : Unit) (fault : PlayFault) : Type 0 where
   pub none : fault.steps ≡ 0
   pub headline : Headline unit [] (played_edits fault.played) (played_publications fault.played)
@@ -163,9 +162,9 @@ pub record PlaysNothing (unit : Unit) (fault : PlayFault) : Type 0 where
   pub got : fault.played.got.items ≡ []
   pub unread : fault.played.unread.items ≡ []
 
--- States which results `play` returns with this fault. Either only the first `fault.steps` events
--- happened, fewer than all, and `Plays` holds for them. Or no event happened, and there are no
--- results (`PlaysNothing`).
+-- States which results `play` may return with this fault. Either the first `fault.steps` events
+-- happened, which aren't all of them, and `Plays` holds for these events. Or no event happened, and
+-- there are no results (`PlaysNothing`).
 abbrev pub PlaysPrefix : Unit → List event.Event → PlayFault → Type 0
 PlaysPrefix unit events fault =
     ((fault.steps < length events) × Plays unit (take fault.steps events) fault.played)
@@ -173,30 +172,30 @@ PlaysPrefix unit events fault =
 
 -- ---- a world, event by event
 
--- a connection, the number of steps that were made, and whether a step has failed
+-- a connection whose events are counted as steps
 pub record World : Type 0 where
   pub connection : Connection
   -- the number of steps that were made
   pub steps : ℕ
-  -- true if a step has failed; an ended world makes no more steps
+  -- true if a step has failed; then each later step also fails
   pub ended : Bool
 
 -- states that no event has happened in this world yet: the editor has only initialized the session
-pub record IsNew (unit : Unit) (w : World) : Type 0 where
-  pub begins : Begins unit w.connection
+pub record IsNewWorld (unit : Unit) (w : World) : Type 0 where
+  pub begins : IsInitialConnection unit w.connection
   pub none : w.steps ≡ 0
   pub has_not_ended : w.ended ≡ false
 
 -- states that the event happens, is reported and is counted as a step, and that the world hasn't
 -- ended
 pub record MakesStep (old : World) (event : Event) (seen : Seen) (new : World) : Type 0 where
-  pub made : ConnectionStep old.connection event new.connection
-  pub shown : seen ≡ event_report old.connection.model event new.connection.model
+  pub made : ConnectionSteps old.connection event new.connection
+  pub shown : seen ≡ report_on_event old.connection.model event new.connection.model
   pub counted : new.steps ≡ old.steps + 1
   pub has_not_ended : new.ended ≡ false
 
--- States that the world makes this step. The first argument is true if the world had ended before
--- the step. An ended world makes no step.
+-- States that the world makes this step (`MakesStep`). The first argument is true if the world had
+-- ended before the step. Then this never holds.
 abbrev pub StepsUnlessEnded : Bool → World → Event → Seen → World → Type 0
 StepsUnlessEnded false old event seen new = MakesStep old event seen new
 StepsUnlessEnded true old event seen new = ⊥
@@ -205,9 +204,9 @@ StepsUnlessEnded true old event seen new = ⊥
 abbrev pub WorldSteps : World → Event → Seen → World → Type 0
 WorldSteps old event seen new = StepsUnlessEnded old.ended old event seen new
 
--- states that `old` and `new` have the same applied edits, publications and contents: the contents
--- that each side has taken, and the contents that wait for the editor
-pub record SameHistory (old new : Connection) : Type 0 where
+-- States that `old` and `new` have the same applied edits and publications. In both, each side has
+-- taken the same contents, and the same contents wait for the editor.
+pub record HaveSameHistory (old new : Connection) : Type 0 where
   pub applied : new.model.applied ≡ old.model.applied
   pub made : new.model.made ≡ old.model.made
   pub taken : new.wire.taken ≡ old.wire.taken
@@ -216,15 +215,15 @@ pub record SameHistory (old new : Connection) : Type 0 where
 
 -- States that a step fails with this fault. The first argument is true if the world had ended
 -- before the step. A step that fails with `Memory` isn't counted, and ends the world. The world
--- keeps its results and the exchanged contents (`SameHistory`). Each step of an ended world fails
--- with `Ended` and changes nothing.
-abbrev pub FailsGivenEnded : Bool → World → WorldFault → World → Type 0
-FailsGivenEnded false old Memory new =
-    SameHistory old.connection new.connection × (new.steps ≡ old.steps) × (new.ended ≡ true)
-FailsGivenEnded false old Ended new = ⊥
-FailsGivenEnded true old Memory new = ⊥
-FailsGivenEnded true old Ended new = new ≡ old
+-- keeps its results and the exchanged contents (`HaveSameHistory`). Each step of an ended world
+-- fails with `Ended` and changes nothing.
+abbrev pub WorldFailsGivenEnded : Bool → World → WorldFault → World → Type 0
+WorldFailsGivenEnded false old Memory new =
+    HaveSameHistory old.connection new.connection × (new.steps ≡ old.steps) × (new.ended ≡ true)
+WorldFailsGivenEnded false old Ended new = ⊥
+WorldFailsGivenEnded true old Memory new = ⊥
+WorldFailsGivenEnded true old Ended new = new ≡ old
 
 -- states that a step of the world fails with this fault
 abbrev pub WorldFails : World → WorldFault → World → Type 0
-WorldFails old fault new = FailsGivenEnded old.ended old fault new
+WorldFails old fault new = WorldFailsGivenEnded old.ended old fault new

@@ -16,8 +16,8 @@ ghost use Rattle.ob0_world_rules.specs.Happens as events;
 ghost use Rattle.ob0_world_rules.specs.Happens.{editor_acts, take_message};
 ghost use Rattle.ob0_world.specs.Code.{event_of, publication_of};
 ghost use Rattle.ob0_world.specs.Seen.{report_of, HappensWithReport};
-ghost use Rattle.ob0_world.specs.Queues.{content_bytes, QueuesContent, MovesFirst, publication_in_message, publication_with_text, publication_in_first_content};
-ghost use Rattle.ob0_world.specs.Worlds.{Begins, EditorTakesFirst, ResultsMatch, ContentsMatch, QueuesMatch, MovesWire, SameHistory, SessionTakesFirst, WritesContent};
+ghost use Rattle.ob0_world.specs.Queues.{content_bytes, QueuesContent, MovesFirstContent, publication_in_message, publication_with_text, publication_in_first_content};
+ghost use Rattle.ob0_world.specs.Worlds.{IsInitialConnection, EditorTakesFirst, ResultsMatch, ContentsMatch, QueuesMatch, ChangesWire, HaveSameHistory, SessionTakesFirst, WritesContent};
 
 use crate::events::{Event, Seen};
 use crate::played::{Made, Played};
@@ -48,15 +48,15 @@ pub struct Connection<T: TextStore> {
 impl<T: TextStore> Model for Connection<T> {
     ghost use Rattle.std.specs.Coded.{codes};
     ghost use Rattle.ob0_text.specs.OpenDocuments.{coded_open_documents};
-    ghost use Rattle.ob0_world_editor.specs.Entries.{open_documents_code};
-    ghost use Rattle.ob0_world.specs.Queues.{ConnectionInvariant, connection_from};
+    ghost use Rattle.ob0_world_editor.specs.Entries.{coded_editor_documents};
+    ghost use Rattle.ob0_world.specs.Queues.{ConnectionInvariant, connection_from_fields};
     ghost use Rattle.ob0_world.specs.Worlds.{Connection};
 
     ghost Value = { Connection };
 
-    ghost coded = { Prim.hlevel (codes, coded_open_documents, open_documents_code) };
+    ghost coded = { Prim.hlevel (codes, coded_open_documents, coded_editor_documents) };
 
-    ghost view = { λ w. connection_from w.editor w.to_server.items w.session w.to_editor.items
+    ghost view = { λ w. connection_from_fields w.editor w.to_server.items w.session w.to_editor.items
         w.applied.items w.made.items w.taken.items w.got.items };
 
     ghost invariant = { λ w.
@@ -64,10 +64,10 @@ impl<T: TextStore> Model for Connection<T> {
 }
 
 impl<T: TextStore> Connection<T> {
-    /// Returns a connection of an editor without documents and a session that this editor has
+    /// Returns a connection between an editor without documents and a session that this editor has
     /// initialized. Both sides count positions in `unit`.
     pub fn new(alloc: Global, unit: Unit) -> Result<Connection<T>, AllocError>
-        ensures { IfOk result (Begins unit) }
+        ensures { IfOk result (IsInitialConnection unit) }
     {
         let mut session = Session::new(alloc);
         let content = initialize(alloc, unit)?;
@@ -87,9 +87,9 @@ impl<T: TextStore> Connection<T> {
         })
     }
 
-    /// Does nothing, and is called only for its contract, which is a law. By this law, the contents
-    /// that wait in the two queues are the messages that wait in the model (`ClientAndServer`), and
-    /// the session has the documents of the model's server.
+    /// Changes nothing, and is called only for its contract. By this contract, the queued contents
+    /// are the messages that wait in the model (`ClientAndServer`), and the session has the
+    /// documents of the model's server.
     pub(crate) fn contents_match_messages(&self)
         ensures { QueuesMatch self.now }
     {
@@ -113,13 +113,13 @@ impl<T: TextStore> Connection<T> {
     }
 
     /// Makes an event happen and returns the report on it. If an allocation fails, the results and
-    /// the exchanged contents are unchanged (`SameHistory`).
+    /// the exchanged contents are unchanged (`HaveSameHistory`).
     pub fn perform_event(&mut self, event: &Event) -> Result<Seen, AllocError>
         requires { CountsCanGrow self.old.model.editor }
         ensures ok { IfOk result
             (λ seen. HappensWithReport self.old.model (event_of event.now) (report_of seen) self.new.model) }
-        ensures wire { OnOk result (MovesWire (event_of event.now) self.old.wire self.new.wire) }
-        ensures err { OnErr result (SameHistory self.old self.new) }
+        ensures wire { OnOk result (ChangesWire (event_of event.now) self.old.wire self.new.wire) }
+        ensures err { OnErr result (HaveSameHistory self.old self.new) }
     {
         match event {
             Event::OpenDoc { uri, text } => self.open(uri.as_str(), text.as_str()),
@@ -138,7 +138,7 @@ impl<T: TextStore> Connection<T> {
         ensures ok { IfOk result (λ seen. HappensWithReport self.old.model
             (editor_acts (open_document uri.now (chars text.now))) (report_of seen) self.new.model) }
         ensures wire { OnOk result (WritesContent self.old.wire self.new.wire) }
-        ensures err { OnErr result (SameHistory self.old self.new) }
+        ensures err { OnErr result (HaveSameHistory self.old self.new) }
     {
         let content = self.editor.open(uri, text)?;
         send(&mut self.to_server, content)
@@ -150,7 +150,7 @@ impl<T: TextStore> Connection<T> {
             (editor_acts (change_document uri.now (map text_change_of changes.now))) (report_of seen)
             self.new.model) }
         ensures wire { OnOk result (WritesContent self.old.wire self.new.wire) }
-        ensures err { OnErr result (SameHistory self.old self.new) }
+        ensures err { OnErr result (HaveSameHistory self.old self.new) }
     {
         let content = self.editor.change(uri, changes)?;
         send(&mut self.to_server, content)
@@ -160,7 +160,7 @@ impl<T: TextStore> Connection<T> {
         ensures ok { IfOk result (λ seen. HappensWithReport self.old.model
             (editor_acts (close_document uri.now)) (report_of seen) self.new.model) }
         ensures wire { OnOk result (WritesContent self.old.wire self.new.wire) }
-        ensures err { OnErr result (SameHistory self.old self.new) }
+        ensures err { OnErr result (HaveSameHistory self.old self.new) }
     {
         let content = self.editor.close(uri)?;
         send(&mut self.to_server, content)
@@ -171,22 +171,21 @@ impl<T: TextStore> Connection<T> {
         ensures ok { IfOk result (λ seen. HappensWithReport self.old.model
             (editor_acts (ask_about uri.now (ask_of ask.now))) (report_of seen) self.new.model) }
         ensures wire { OnOk result (WritesContent self.old.wire self.new.wire) }
-        ensures err { OnErr result (SameHistory self.old self.new) }
+        ensures err { OnErr result (HaveSameHistory self.old self.new) }
     {
         let content = self.editor.ask(uri, ask)?;
         send(&mut self.to_server, content)
     }
 
-    /// Lets the session take the first content that waits for it, and queues the session's replies
-    /// for the editor. If the first reply publishes diagnostics with a version, the publication is
-    /// recorded with the text that its document then has in the session. If no content waits,
-    /// nothing happens.
+    /// Lets the session take the first waiting content, and queues its replies for the editor. If
+    /// the first reply publishes diagnostics with a version, the publication is recorded with its
+    /// document's text in the session. If no content waits, nothing happens.
     fn serve(&mut self) -> Result<Seen, AllocError>
         ensures ok { IfOk result
             (λ seen. HappensWithReport self.old.model events.serve (report_of seen) self.new.model) }
         ensures wire { OnOk result
             (SessionTakesFirst self.old.wire.to_server self.old.wire self.new.wire) }
-        ensures err { OnErr result (SameHistory self.old self.new) }
+        ensures err { OnErr result (HaveSameHistory self.old self.new) }
     {
         let Some(content) = self.to_server.pop_front() else {
             return Ok(Seen::Nothing);
@@ -214,7 +213,7 @@ impl<T: TextStore> Connection<T> {
             (λ seen. HappensWithReport self.old.model take_message (report_of seen) self.new.model) }
         ensures wire { OnOk result
             (EditorTakesFirst self.old.wire.to_editor self.old.wire self.new.wire) }
-        ensures err { OnErr result (SameHistory self.old self.new) }
+        ensures err { OnErr result (HaveSameHistory self.old self.new) }
     {
         let Some(content) = self.to_editor.front() else {
             return Ok(Seen::Nothing);
@@ -229,12 +228,12 @@ impl<T: TextStore> Connection<T> {
                 version: _version,
                 empty,
             } => {
-                move_first(&mut self.to_editor, &mut self.got);
+                move_first_content(&mut self.to_editor, &mut self.got);
                 Ok(Seen::Published { uri, empty })
             }
             Message::Answered { number, edits } => {
                 let edits = self.editor.keep(number, edits)?;
-                move_first(&mut self.to_editor, &mut self.got);
+                move_first_content(&mut self.to_editor, &mut self.got);
                 Ok(Seen::Answered { k: number, edits })
             }
         }
@@ -245,7 +244,7 @@ impl<T: TextStore> Connection<T> {
         ensures ok { IfOk result
             (λ seen. HappensWithReport self.old.model (editor_acts (acts.apply k)) (report_of seen) self.new.model) }
         ensures wire { OnOk result (WritesContent self.old.wire self.new.wire) }
-        ensures err { OnErr result (SameHistory self.old self.new) }
+        ensures err { OnErr result (HaveSameHistory self.old self.new) }
     {
         match self.editor.apply(k)? {
             ApplyOutcome::NotHeld => Ok(Seen::Nothing),
@@ -270,19 +269,19 @@ impl<T: TextStore> Connection<T> {
     }
 }
 
-/// Moves the first content of `waiting`, if there is one, to the end of `got`. The list `got` must
-/// have room for one more content.
-fn move_first(waiting: &mut VecDeque<Vec<u8>>, got: &mut Vec<Vec<u8>>)
+/// Moves the first content of `waiting` to the end of `got`. If nothing waits, does nothing. The
+/// list `got` must have room for one more content.
+fn move_first_content(waiting: &mut VecDeque<Vec<u8>>, got: &mut Vec<Vec<u8>>)
     requires { vec_len got.old < vec_capacity got.old }
-    ensures { MovesFirst waiting.old.items got.old.items waiting.new.items got.new.items }
+    ensures { MovesFirstContent waiting.old.items got.old.items waiting.new.items got.new.items }
 {
     if let Some(content) = waiting.pop_front() {
         got.push_reserved(content);
     }
 }
 
-/// Puts a content, if there is one, at the end of the queue, and returns `Sent`. For None, returns
-/// `Nothing`. If the allocation fails, the queue is unchanged.
+/// Appends a content to the queue, and returns `Sent`. If there is no content, returns `Nothing`.
+/// If the allocation fails, the queue is unchanged.
 fn send(queue: &mut VecDeque<Vec<u8>>, content: Option<Vec<u8>>) -> Result<Seen, AllocError>
     ensures ok { IfOk result (λ seen. QueuesContent queue.old.items content seen queue.new.items) }
     ensures err { OnErr result (queue.new.items ≡ queue.old.items) }
@@ -296,8 +295,8 @@ fn send(queue: &mut VecDeque<Vec<u8>>, content: Option<Vec<u8>>) -> Result<Seen,
     }
 }
 
-/// Lets the session take a content, and returns the contents of the session's replies. After a
-/// failed allocation, the session's phase is `Failed` for good.
+/// Gives a content to the session, and returns the contents of its replies. After a failed
+/// allocation, the session's phase is `Failed` for good.
 fn serve_content<T: TextStore>(
     session: &mut Session<T>,
     content: &[u8],
@@ -316,7 +315,7 @@ fn serve_content<T: TextStore>(
 }
 
 /// Returns the publication in the first content of `sent`, with the text that the publication's
-/// document has in `documents`. None if there is no content, if the first content isn't a
+/// document has in `documents`. Returns None if there is no content, if the first content isn't a
 /// publication with a version, or if the document isn't open or is out of step.
 fn first_publication<T: TextStore>(
     alloc: Global,
@@ -363,7 +362,7 @@ fn publication_in_content<T: TextStore>(
 }
 
 /// Returns the publication with this uri and version, and with the text that its document has in
-/// `documents`. None if the document isn't open or is out of step (its text isn't known).
+/// `documents`. Returns None if the document isn't open or is out of step (its text isn't known).
 fn publication_from_documents<T: TextStore>(
     alloc: Global,
     documents: &Documents<T>,

@@ -8,8 +8,8 @@ use ob0_world_editor::Ask;
 pub enum Event {
     /// The editor opens a document, with version 1. If it is open already, nothing happens.
     OpenDoc { uri: String, text: String },
-    /// The editor makes these changes in order, each in the text that the previous change has left.
-    /// If the document isn't open, nothing happens.
+    /// The editor makes these changes in order, each in the text that results from the previous
+    /// one. If the document isn't open, nothing happens.
     ChangeDoc { uri: String, changes: Vec<Change> },
     CloseDoc { uri: String },
     /// The editor sends a request for edits of a document. If the document isn't open, nothing
@@ -34,13 +34,13 @@ pub enum Seen {
     Nothing,
     /// The editor sent a message.
     Sent,
-    /// The server took a message and sent this many messages.
+    /// The server took a message and sent this many replies.
     Served(usize),
     /// The editor took the diagnostics of the document `uri`. `empty` is true if the list of
     /// diagnostics is empty.
     Published { uri: String, empty: bool },
     /// The editor took the answer to the request with number `k`. `edits` is true if the answer has
-    /// edits, and only such an answer is stored.
+    /// edits. The editor stores only such an answer.
     Answered { k: u64, edits: bool },
     Applied { k: u64 },
     Dropped { k: u64 },

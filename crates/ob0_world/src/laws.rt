@@ -1,11 +1,11 @@
 //! Proves laws about an editor and a session: which versions answers mention, and what holds in
 //! every exchange of messages.
 ghost use Rattle.ob0_world.specs.Exchanges.{ACourseIsAnExchange, HoldsForEveryExchange, EveryExchangeFollowsModel};
-ghost use Rattle.ob0_world.specs.Versions.{AnswersMentionVersions, VersionsSuffice};
+ghost use Rattle.ob0_world.specs.Versions.{AnswersMentionVersions, VersionsSufficeForApplying};
 
 /// Proves that an answer with edits mentions the document that was asked about, and the version
-/// that this document had when the request was sent. Both are in `documentChanges`. The answer to a
-/// formatting request is an exception: it is a list of edits and mentions no document.
+/// that this document had when the request was sent. Both are in `documentChanges`. This excludes
+/// the answer to a formatting request: it is a list of edits and mentions no document.
 pub fn answers_mention_versions()
     ensures { AnswersMentionVersions }
 {}
@@ -13,8 +13,8 @@ pub fn answers_mention_versions()
 /// Proves that a client may decide by the version in an answer whether to apply the answer's edits.
 /// If the document hasn't been opened again since the request, such a client gets the same result
 /// as the model's editor.
-pub fn versions_suffice()
-    ensures { VersionsSuffice }
+pub fn versions_suffice_for_applying()
+    ensures { VersionsSufficeForApplying }
 {}
 
 /// Proves that every exchange between a session and an editor that keeps ob0's rules follows the
@@ -27,8 +27,8 @@ pub fn every_exchange_follows_model()
 /// Proves the guarantees for a session and an editor that keeps ob0's rules, whatever they have
 /// exchanged. Each edit that the editor applied keeps the module's run: the same output and the
 /// same end. The n-th list of diagnostics with a version is correct for the n-th document that the
-/// editor announced by opening or changing it. The session will have the editor's documents once
-/// the session has taken the waiting contents.
+/// editor announced by opening or changing it. Once the session has taken the waiting contents, it
+/// will have the editor's documents.
 pub fn holds_for_every_exchange()
     ensures { HoldsForEveryExchange }
 {}

@@ -1,25 +1,25 @@
 //! Plays lists of events with an editor and a session.
 //!
-//! A `Connection` has two parts. The first is the model: a client and a server (`ClientAndServer`),
-//! with their documents and messages. The second is the `Wire`: the session, and the contents of
-//! all messages in each direction, taken or still waiting.
+//! A `Connection` consists of a model and a `Wire`. The model is a client and a server
+//! (`ClientAndServer`), with their documents and messages. The `Wire` is the session, with the
+//! contents of all messages in each direction, taken or still waiting.
 //!
-//! `MovesWire` states how each event changes the session and the contents, and `QueuesMatch` states
-//! that the two parts agree. (`Connection::contents_match_messages` is called only for its
-//! contract.) The contract of `step` has two cases: the world had ended before the step, or it
-//! hadn't (`WorldSteps`, `WorldFails`).
+//! `ChangesWire` states how each event changes the session and the contents, and `QueuesMatch`
+//! states that the model and the `Wire` agree. (`Connection::contents_match_messages` is called
+//! only for its contract.) The contract of `step` has two cases: the step makes its event happen
+//! (`WorldSteps`), or it fails (`WorldFails`).
 //!
 //! `Plays` states the guarantees (`Headline`), and that the events are a course of the connection
-//! (`ConnectionCourse`) that starts with an initialized session (`Begins`). The code also returns
-//! the exchanged contents, which the contract requires to be a session's conversation. So a body
-//! that only invents edits and publications doesn't meet the contract.
+//! (`IsConnectionCourse`) that starts with an initialized session (`IsInitialConnection`). The code
+//! also returns the exchanged contents, which the contract requires to be a session's conversation.
+//! So a body that only invents edits and publications doesn't meet the contract.
 ghost use Rattle.std.specs.Prelude.{◌≡◌, ◌<◌, ◌-◌, ◌^◌, [], length, IfOk, OnOk, IfErr};
 ghost use Rattle.ob0_text.specs.declared.position_types.Unit.TheVariants.{Utf16};
-ghost use Rattle.ob0_world_rules.specs.Headline.{Holds};
-ghost use Rattle.ob0_world_rules.specs.Mirror.{Mirrors};
+ghost use Rattle.ob0_world_rules.specs.Headline.{GuaranteesHold};
+ghost use Rattle.ob0_world_rules.specs.Mirror.{WillMirrorEditor};
 ghost use Rattle.ob0_world.specs.Code.{event_of, played_edits, played_publications};
 ghost use Rattle.ob0_world.specs.Seen.{report_of};
-ghost use Rattle.ob0_world.specs.Worlds.{ResultsMatch, ContentsMatch, IsNew, Plays, PlaysPrefix, WorldSteps, WorldFails};
+ghost use Rattle.ob0_world.specs.Worlds.{ResultsMatch, ContentsMatch, IsNewWorld, Plays, PlaysPrefix, WorldSteps, WorldFails};
 ghost use Rattle.ob0_world.specs.declared.faults.WorldFault.TheVariants.{Memory};
 
 use crate::connection::Connection;
@@ -45,19 +45,19 @@ impl<T: TextStore> Model for World<T> {
     ghost use Rattle.std.specs.Prelude.{◌≡◌, false};
     ghost use Rattle.std.specs.Coded.{codes};
     ghost use Rattle.ob0_text.specs.OpenDocuments.{coded_open_documents};
-    ghost use Rattle.ob0_world_editor.specs.Entries.{open_documents_code};
+    ghost use Rattle.ob0_world_editor.specs.Entries.{coded_editor_documents};
     ghost use Rattle.ob0_world.specs.Worlds as worlds;
-    ghost use Rattle.ob0_world.specs.Queues.{CountsAtMost, IsReachable};
+    ghost use Rattle.ob0_world.specs.Queues.{CountsAreAtMost, IsReachable};
 
     ghost Value = { worlds.World };
 
-    ghost coded = { Prim.hlevel (codes, coded_open_documents, open_documents_code) };
+    ghost coded = { Prim.hlevel (codes, coded_open_documents, coded_editor_documents) };
 
     ghost view = { λ w.
         record { connection = w.connection; steps = w.steps; ended = w.has_ended } };
 
     ghost invariant = { λ w. w.has_ended ≡ false
-        → CountsAtMost w.steps w.connection.model.editor × IsReachable w.connection.model };
+        → CountsAreAtMost w.steps w.connection.model.editor × IsReachable w.connection.model };
 }
 
 impl<T: TextStore> World<T> {
@@ -65,7 +65,7 @@ impl<T: TextStore> World<T> {
     /// initialized the session, and has declared that it accepts edits with document versions and
     /// literal code actions. Both sides count positions in UTF-16 units.
     pub fn new(alloc: Global) -> Result<World<T>, WorldFault>
-        ensures start { IfOk result (IsNew Utf16) }
+        ensures start { IfOk result (IsNewWorld Utf16) }
         ensures err { IfErr result (λ fault. fault ≡ Memory) }
     {
         World::new_in(alloc, Unit::Utf16)
@@ -74,7 +74,7 @@ impl<T: TextStore> World<T> {
     /// Returns a world in which no document is open and no message waits. Both sides count
     /// positions in this unit.
     pub fn new_in(alloc: Global, unit: Unit) -> Result<World<T>, WorldFault>
-        ensures start { IfOk result (IsNew unit) }
+        ensures start { IfOk result (IsNewWorld unit) }
         ensures err { IfErr result (λ fault. fault ≡ Memory) }
     {
         match Connection::new(alloc, unit) {
@@ -101,8 +101,8 @@ impl<T: TextStore> World<T> {
         requires few { self.old.steps < 2 ^ 63 - 1 }
         ensures ok { IfOk result
             (λ seen. WorldSteps self.old (event_of event.now) (report_of seen) self.new) }
-        ensures holds { OnOk result (Holds self.new.connection.model) }
-        ensures mirror { OnOk result (Mirrors self.new.connection.model) }
+        ensures holds { OnOk result (GuaranteesHold self.new.connection.model) }
+        ensures mirror { OnOk result (WillMirrorEditor self.new.connection.model) }
         ensures err { IfErr result (λ fault. WorldFails self.old fault self.new) }
     {
         if self.has_ended {
@@ -142,10 +142,10 @@ impl<T: TextStore> World<T> {
 
     /// Plays a list of events from the start, with positions in this unit.
     ///
-    /// In every interleaving of an editor and the server, each edit that the editor applies to a well-typed document
-    /// leaves a well-typed module with the same run: the same output and end for every input and every bound on calls
-    /// and loop turns; and an open document's latest diagnostics are empty exactly when the text they were made for is a
-    /// well-typed module.
+    /// In every interleaving of an editor and the server, each edit that the editor applies to a
+    /// well-typed document leaves a well-typed module with the same run: the same output and end
+    /// for every input and every bound on calls and loop turns; and an open document's latest
+    /// diagnostics are empty exactly when the text they were made for is a well-typed module.
     ///
     /// The editor is the model's. The law `holds_for_every_exchange` states the same for every
     /// editor that keeps ob0's rules.

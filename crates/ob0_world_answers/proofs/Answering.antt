@@ -2,18 +2,18 @@
 use Rattle.std.proofs.Common.{List, [], ◌∷◌}
 use Rattle.std.specs.Prelude.{All}
 use Rattle.std.proofs.lemmas.List.Elements.{All-append, All-nil, All-push}
-use Rattle.ob0_inline_answers.specs.InlineAnswers.{InliningEverywhereHasAnswers, InliningHereHasAnswers}
+use Rattle.ob0_inline_answers.specs.InlineAnswers.{InliningEverywhereAlwaysHasAnswer, InliningHereAlwaysHasAnswer}
 use Rattle.ob0_module_values.proofs.ModuleValues.{OneTree}
-use Rattle.ob0_rename_answers.specs.RenameAnswers.{RenamingHasAnswers}
+use Rattle.ob0_rename_answers.specs.RenameAnswers.{RenamingAlwaysHasAnswer}
 use Rattle.ob0_world_rules.specs.Asks.{Ask, format, inline_all, inline_here, rename}
 use Rattle.ob0_world_rules.specs.EditorActs.{apply, ask_about, change_document, close_document, discard, open_document}
 use Rattle.ob0_world_rules.specs.Happens.{Event, editor_acts, serve, take_message}
-use Rattle.ob0_world_rules.specs.Laws.{CourseExists, HasAnswers, IsAnswerable}
+use Rattle.ob0_world_rules.specs.Laws.{CourseExistsIfAnswerable, AlwaysHasAnswer, IsAnswerable}
 use Rattle.ob0_world_worked.specs.Formatting.{FormattingHasAnswers}
 use Rattle.ob0_world_answers.specs.Answering.{EachAskHasAnswers, EachEventListHasACourse}
 use Rattle.ob0_world_answers.proofs.ModuleValues.{each_has_names, each_is_read}
 
-pub each_ask_answered : OneTree → FormattingHasAnswers → RenamingHasAnswers → InliningHereHasAnswers → InliningEverywhereHasAnswers → EachAskHasAnswers
+pub each_ask_answered : OneTree → FormattingHasAnswers → RenamingAlwaysHasAnswer → InliningHereAlwaysHasAnswer → InliningEverywhereAlwaysHasAnswer → EachAskHasAnswers
 each_ask_answered tree formats renames here everywhere (rename position name) = renames (each_has_names tree) position name
 each_ask_answered tree formats renames here everywhere (inline_here position) = here (each_is_read tree) position
 each_ask_answered tree formats renames here everywhere (inline_all position) = everywhere (each_is_read tree) position
@@ -34,5 +34,5 @@ all_answered answered [] = All-nil IsAnswerable
 all_answered answered (event ∷ events) =
     All-append IsAnswerable (event ∷ []) events (All-push IsAnswerable [] event (All-nil IsAnswerable) (event_answered answered event)) (all_answered answered events)
 
-pub each_list_fits : EachAskHasAnswers → CourseExists → EachEventListHasACourse
+pub each_list_fits : EachAskHasAnswers → CourseExistsIfAnswerable → EachEventListHasACourse
 each_list_fits answered fits unit events = fits unit events (all_answered answered events)

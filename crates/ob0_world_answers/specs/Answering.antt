@@ -5,13 +5,13 @@ use Rattle.std.specs.Prelude.{List}
 use Rattle.ob0_text.specs.declared.position_types.Unit.{Unit}
 use Rattle.ob0_world_rules.specs.Asks.{Ask}
 use Rattle.ob0_world_rules.specs.ClientAndServer.{ClientAndServer, start}
-use Rattle.ob0_world_rules.specs.Happens.{Event, Course}
-use Rattle.ob0_world_rules.specs.Laws.{HasAnswers}
+use Rattle.ob0_world_rules.specs.Happens.{Event, IsCourse}
+use Rattle.ob0_world_rules.specs.Laws.{AlwaysHasAnswer}
 
 -- States that each request for edits has an answer for each text and unit. The formula is a double
--- negation (`HasAnswers`).
+-- negation (`AlwaysHasAnswer`).
 abbrev pub EachAskHasAnswers : Type 0
-EachAskHasAnswers = (ask : Ask) → HasAnswers ask
+EachAskHasAnswers = (ask : Ask) → AlwaysHasAnswer ask
 
 -- States that each list of events leads from the start to some state. So the laws about all courses
 -- of events aren't vacuous. The formula is a double negation: it is impossible that the events lead
@@ -19,4 +19,4 @@ EachAskHasAnswers = (ask : Ask) → HasAnswers ask
 abbrev pub EachEventListHasACourse : Type 0
 EachEventListHasACourse =
     (unit : Unit) (events : List Event)
-    → ¬ ((end : ClientAndServer) → ¬ Course (start unit) events end)
+    → ¬ ((end : ClientAndServer) → ¬ IsCourse (start unit) events end)

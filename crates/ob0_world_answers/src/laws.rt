@@ -2,10 +2,12 @@
 //! state. So a law about every list of events isn't vacuous.
 ghost use Rattle.ob0_world_answers.specs.Answering.{EachAskHasAnswers, EachEventListHasACourse};
 
-use ob0_inline_answers::laws::{inlining_everywhere_has_answers, inlining_here_has_answers};
+use ob0_inline_answers::laws::{
+    inlining_everywhere_always_has_answer, inlining_here_always_has_answer,
+};
 use ob0_parse::tree_is_unique;
-use ob0_rename_answers::laws::renaming_has_answers;
-use ob0_world_rules::laws::course_exists;
+use ob0_rename_answers::laws::renaming_always_has_answer;
+use ob0_world_rules::laws::course_exists_if_answerable;
 use ob0_world_worked::laws::formatting_has_answers;
 
 /// Proves that each request for edits has an answer for each text.
@@ -14,9 +16,9 @@ pub fn each_ask_has_answers()
 {
     tree_is_unique();
     formatting_has_answers();
-    renaming_has_answers();
-    inlining_here_has_answers();
-    inlining_everywhere_has_answers();
+    renaming_always_has_answer();
+    inlining_here_always_has_answer();
+    inlining_everywhere_always_has_answer();
 }
 
 /// Proves that each list of events has a course: the events lead from the start to some state.
@@ -24,5 +26,5 @@ pub fn each_event_list_has_a_course()
     ensures { EachEventListHasACourse }
 {
     each_ask_has_answers();
-    course_exists();
+    course_exists_if_answerable();
 }

@@ -2,7 +2,7 @@
 use Rattle.std.proofs.Common.{◌≡◌, ◌∙◌, ℕ, Option, Some, None, List, [], ◌∷◌, ◌++◌, refl, sym, subst}
 use Rattle.serde_json.specs.Data.{Data}
 use Rattle.ob0_rpc.specs.Messages.{ReadsContent, meaning_of_content}
-use Rattle.ob0_session_server.specs.Answers.{ServerState, AreContentsOfReply, react, AnswersInPhase, AnswersBeforeEnd, Conversation}
+use Rattle.ob0_session_server.specs.Answers.{ServerState, AreContentsOfReply, react, AnswersInPhase, AnswersBeforeEnd, IsConversation}
 use Rattle.ob0_session_server.specs.declared.session.Phase.{Phase}
 use Rattle.ob0_session_server.specs.declared.session.Phase.TheVariants.{Starting, Running, ShutDown, Ended, Failed}
 use Rattle.ob0_world_determined.specs.Determined.{AnswerIsDetermined, ConversationIsDetermined, ReplyIsDetermined}
@@ -41,5 +41,5 @@ pub conversation_is_determined : AnswerIsDetermined → ConversationIsDetermined
 conversation_is_determined one before [] sent more after other h k = (h.0 ∙ sym k.0, h.1 ∙ sym k.1)
 conversation_is_determined one before (content ∷ contents) sent more after other h k =
     let here = one before content h.first k.first h.between k.between h.answers k.answers in
-    let there = conversation_is_determined one k.between contents h.later k.later after other (subst (λ s. Conversation s contents h.later after) here.1 h.follows) k.follows in
+    let there = conversation_is_determined one k.between contents h.later k.later after other (subst (λ s. IsConversation s contents h.later after) here.1 h.follows) k.follows in
     (h.all ∙ (λ i. here.0 i ++ there.0 i) ∙ sym k.all, there.1)

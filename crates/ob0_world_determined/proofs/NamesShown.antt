@@ -12,7 +12,7 @@ use Rattle.ob0_tree.specs.declared.tree.Role.TheVariants as role
 use Rattle.ob0_language_names.specs.Parts.{module_block}
 use Rattle.ob0_scope_table.specs.Resolution.{Resolution, declaring_names, ordinal_in, span_at, declaration_token}
 use Rattle.ob0_scope.specs.NamesAtPlaces.{is_bound_to}
-use Rattle.ob0_scope.specs.declared.naming.Named.{Named}
+use Rattle.ob0_scope.specs.declared.naming.BoundName.{BoundName}
 use Rattle.ob0_language_types.specs.Bindings.{declared_object}
 use Rattle.ob0_language_values.specs.Values.{Shape}
 use Rattle.ob0_types.specs.IdentifierMeanings.{identifier_meaning_at, meaning_of_name_or_field}
@@ -22,7 +22,7 @@ use Rattle.ob0_types.specs.declared.meant.IdentifierMeaning.TheVariants.{Name, F
 use Rattle.ob0_types_fields.specs.FieldTypes.{constructed_types, typed_field_with_name}
 use Rattle.ob0_types_fields.specs.declared.field_name.FieldName.{FieldName}
 use Rattle.ob0_types_fields.specs.Identifiers.{fields_declared_in_block, field_identifiers, field_at_offset, first_token, tokens_of_field}
-use Rattle.ob0_refs.specs.Declarations.{object_hover}
+use Rattle.ob0_refs.specs.Declarations.{hover_text_of_object}
 use Rattle.ob0_refs.specs.Hovers.{field_text, predeclared_text, type_text}
 use Rattle.ob0_refs.specs.Questions.{definition_of_identifier, definition_at, field_reference_tokens, hover_at_offset, hover_of_identifier, references_of_optional_identifier, references_of_identifier, tokens_without, references_at, renamable_span_at, renamable_span_of_identifier}
 use Rattle.ob0_refs.specs.NameHovers.{HoverText}
@@ -30,17 +30,17 @@ use Rattle.ob0_rpc.specs.Requesting.{DocumentPlace}
 use Rattle.ob0_analysis.specs.Analysed.{IsResolvedWellTypedModule}
 use Rattle.ob0_analysis.specs.Diagnosed.{IsWellTypedModule}
 use Rattle.ob0_analysis.specs.Texts.{utf8}
-use Rattle.ob0_session_answers.specs.Questions.{AnswersInModule, AnswersQuestion, NameQuestion, definition_question, hover_question, hover_with_range, span_location, value_or_null, offset_in, span_range, references_question, prepare_rename_question}
+use Rattle.ob0_session_answers.specs.Questions.{AnswersInModule, AnswersQuestion, NameQuestion, definition_question, hover_question, hover_value_with_range, span_location_value, value_or_null, offset_in, span_range_value, references_question, prepare_rename_question}
 use Rattle.ob0_world_rules.proofs.OneFields.{one_list_of_fields}
 use Rattle.ob0_world_rules.proofs.OneModule.{Same, same_module, one_name, identifiers_of}
-use Rattle.ob0_world_determined.specs.Determined.{TableIsDetermined}
+use Rattle.ob0_world_determined.specs.Determined.{ResolutionIsDetermined}
 
 -- returns the hover of a name, by the tokens and the tree over them
-abbrev hover_in_tree : TextWithTokens → Tree ℕ module_text → Named → Option HoverText
+abbrev hover_in_tree : TextWithTokens → Tree ℕ module_text → BoundName → Option HoverText
 hover_in_tree s t n =
     option_map (λ text. record { span = span_at s n.token; text = text })
     (if nat_lt n.ordinal 7 then Some (predeclared_text (token_text_at s n.token))
-    else option_and_then (object_hover (token_text_at s n.token) (map (token_text_at s) (drop (n.ordinal + 1 - 7) (declaring_names (identifiers role.Declaring t))))) (declared_object (tree_with_names s t) n.ordinal))
+    else option_and_then (hover_text_of_object (token_text_at s n.token) (map (token_text_at s) (drop (n.ordinal + 1 - 7) (declaring_names (identifiers role.Declaring t))))) (declared_object (tree_with_names s t) n.ordinal))
 
 -- returns the hover of a field's identifier, whose type is this one
 abbrev hover_of_shape : TextWithTokens → ℕ → Shape → HoverText
@@ -100,7 +100,7 @@ module _ (r q : Resolution) (e : Same r.module_read q.module_read) (fields : fie
 
 -- ---- values
 
-module _ (tables : TableIsDetermined) (unit : Unit) (text : List ℕ) (at : DocumentPlace) where
+module _ (tables : ResolutionIsDetermined) (unit : Unit) (text : List ℕ) (at : DocumentPlace) where
   in_one : (question : NameQuestion) (r q : Resolution) (value other : Data) → IsResolvedWellTypedModule (utf8 text) r → IsResolvedWellTypedModule (utf8 text) q → AnswersInModule unit text at question r value → AnswersInModule unit text at question q other → value ≡ other
   in_one question r q value other read again = go question
     where
@@ -114,12 +114,12 @@ module _ (tables : TableIsDetermined) (unit : Unit) (text : List ℕ) (at : Docu
       table = tables r q read.well_typed.resolved again.well_typed.resolved (e.source, e.tree)
 
       go : (question : NameQuestion) → AnswersInModule unit text at question r value → AnswersInModule unit text at question q other → value ≡ other
-      go hover_question h k = h ∙ ap (λ o. value_or_null (option_map (hover_with_range unit text) o)) (same_hover r q e fields table (offset_in unit text at)) ∙ sym k
-      go definition_question h k = h ∙ ap (λ o. value_or_null (option_map (span_location unit at.uri text) o)) (same_definition r q e fields table (offset_in unit text at)) ∙ sym k
+      go hover_question h k = h ∙ ap (λ o. value_or_null (option_map (hover_value_with_range unit text) o)) (same_hover r q e fields table (offset_in unit text at)) ∙ sym k
+      go definition_question h k = h ∙ ap (λ o. value_or_null (option_map (span_location_value unit at.uri text) o)) (same_definition r q e fields table (offset_in unit text at)) ∙ sym k
       go (references_question include) (spans, are, is) (others, are_too, is_too) =
           let same : spans ≡ others = are ∙ same_references r q e fields table (offset_in unit text at) include ∙ sym are_too in
-          is ∙ ap (λ xs. array (items_of (map (span_location unit at.uri text) xs))) same ∙ sym is_too
-      go prepare_rename_question h k = h ∙ ap (λ o. value_or_null (option_map (span_range unit text) o)) (same_renamable r q e fields table (offset_in unit text at)) ∙ sym k
+          is ∙ ap (λ xs. array (items_of (map (span_location_value unit at.uri text) xs))) same ∙ sym is_too
+      go prepare_rename_question h k = h ∙ ap (λ o. value_or_null (option_map (span_range_value unit text) o)) (same_renamable r q e fields table (offset_in unit text at)) ∙ sym k
 
   -- A text that has a module is the text of a well-typed module.
   is_module : (r : Resolution) → IsResolvedWellTypedModule (utf8 text) r → IsWellTypedModule (utf8 text)

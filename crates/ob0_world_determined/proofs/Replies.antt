@@ -16,25 +16,25 @@ use Rattle.ob0_edits_tokens.specs.Replaced.{range_and_text}
 use Rattle.ob0_layout.specs.Gaps.{EditContent, edit_content}
 use Rattle.ob0_rpc.specs.declared.clients.ClientFeatures.{ClientFeatures}
 use Rattle.ob0_rpc.specs.Shapes.{range_value, result_message, text as text_value}
-use Rattle.ob0_edits.specs.Renamings.{IsRenameRefusedIn}
+use Rattle.ob0_edits.specs.Renamings.{IsRenameRefusedInText}
 use Rattle.ob0_analysis.specs.Diagnosed.{IsWellTypedModule}
 use Rattle.ob0_analysis.specs.Texts.{utf8}
-use Rattle.ob0_edits.specs.Inlinings.{OffersInlining}
+use Rattle.ob0_edits.specs.Inlinings.{OffersOrRefusesInlining}
 use Rattle.ob0_edits.specs.declared.inlinings.Inlining.{Inlining}
 use Rattle.ob0_edits.specs.declared.inlinings.Inlining.TheVariants.{OneUse, Everywhere}
-use Rattle.ob0_session_answers.specs.Actions.{RequestedActions, ListsActions, action_values, actions_offset, title, wants_inlining}
+use Rattle.ob0_session_answers.specs.Actions.{VersionedActionsRequest, ListsActions, action_values, actions_offset, title, wants_inlining}
 use Rattle.ob0_session_answers.specs.Diagnostics.{diagnostic_of}
 use Rattle.ob0_session_answers.specs.Formatted.{AnswersFormatting}
-use Rattle.ob0_session_answers.specs.Renamed.{AnswersRenaming, RequestedRename, edits_for_client}
+use Rattle.ob0_session_answers.specs.Renamed.{AnswersRenaming, VersionedRenameRequest, edits_for_client}
 use Rattle.ob0_session_json.specs.Shapes.{action_value, edit_refusal, edit_value, publication, versioned_document}
-use Rattle.ob0_session_server.specs.Answers.{Sends, diagnoses, question_reply, formatting_reply, nothing, actions_reply, renames, says}
+use Rattle.ob0_session_server.specs.Answers.{SendsMessage, diagnoses, question_reply, formatting_reply, nothing, actions_reply, renames, says}
 use Rattle.ob0_world_rules.proofs.OneInlining.{inlines_or_refused, inlines_parts}
 use Rattle.ob0_world_rules.proofs.OneLayout.{lays_out_or_long, lays_out_said}
 use Rattle.ob0_world_rules.proofs.OneRenaming.{refuses_one, renames_or_refused, renames_parts}
-use Rattle.ob0_world_determined.specs.Determined.{DiagnosesAreDetermined, ReplyIsDetermined, TableIsDetermined}
+use Rattle.ob0_world_determined.specs.Determined.{DiagnosesAreDetermined, ReplyIsDetermined, ResolutionIsDetermined}
 use Rattle.ob0_world_determined.proofs.NamesShown.{name_one}
 
-sends_one : (message another : Data) (sent other : List (List ℕ)) → message ≡ another → Sends message sent → Sends another other → sent ≡ other
+sends_one : (message another : Data) (sent other : List (List ℕ)) → message ≡ another → SendsMessage message sent → SendsMessage another other → sent ≡ other
 sends_one message another sent other same (bytes, is, writes) (more, is_too, writes_too) =
     is ∙ ap (λ b. b ∷ []) (writes.text ∙ ap compact_text same ∙ sym writes_too.text) ∙ sym is_too
 
@@ -59,7 +59,7 @@ workspace_with client uri version vs =
     then object (member (codes "documentChanges") (array (item (object (member (codes "edits") (array (items_of vs)) (member (codes "textDocument") (versioned_document uri version) no_members))) no_items)) no_members)
     else object (member (codes "changes") (object (member uri (array (items_of vs)) no_members)) no_members)
 
-abbrev action_with : RequestedActions → Inlining → List Data → Data
+abbrev action_with : VersionedActionsRequest → Inlining → List Data → Data
 action_with requested how vs = action_value (workspace_with requested.client requested.uri requested.version vs) (title how)
 
 -- ---- layouts
@@ -78,8 +78,8 @@ formats_one unit id indent text message another (inr (inr (unfit, is))) (inr (in
 
 -- ---- new names
 
-module _ (unit : Unit) (requested : RequestedRename) (text : List ℕ) where
-  fits_refused : (refusal : EditRefusal) → IsRenameRefusedIn unit text requested.at.position requested.new refusal → IsWellTypedModule (utf8 text)
+module _ (unit : Unit) (requested : VersionedRenameRequest) (text : List ℕ) where
+  fits_refused : (refusal : EditRefusal) → IsRenameRefusedInText unit text requested.at.position requested.new refusal → IsWellTypedModule (utf8 text)
   fits_refused refusal h =
       record { tree = _; text_of = record { scanned = h.names.module_read.source; scan = h.read.scan; module_of = h.read.well_typed.resolved.parsed.module_of }; well_typed = h.read.well_typed.well_typed }
 
@@ -101,18 +101,18 @@ module _ (unit : Unit) (requested : RequestedRename) (text : List ℕ) where
 
 -- ---- actions
 
-module _ (unit : Unit) (requested : RequestedActions) (text : List ℕ) where
+module _ (unit : Unit) (requested : VersionedActionsRequest) (text : List ℕ) where
   abbrev offset : ℕ
   offset = actions_offset unit text requested.range
 
-  offered_one : (how : Inlining) (a b : Option (Vec Edit Global)) → OffersInlining how unit text offset a → OffersInlining how unit text offset b → action_values requested how a ≡ action_values requested how b
+  offered_one : (how : Inlining) (a b : Option (Vec Edit Global)) → OffersOrRefusesInlining how unit text offset a → OffersOrRefusesInlining how unit text offset b → action_values requested how a ≡ action_values requested how b
   offered_one how (Some xs) (Some ys) h k =
       ap (λ vs. action_with requested how vs ∷ []) (values_by_parts xs.items ys.items (inlines_parts unit text offset xs how ys h k))
   offered_one how (Some xs) None h k = absurd (inlines_or_refused unit text offset xs how h k)
   offered_one how None (Some ys) h k = absurd (inlines_or_refused unit text offset ys how k h)
   offered_one how None None h k = refl
 
-  fits_offered : (how : Inlining) (a : Option (Vec Edit Global)) → OffersInlining how unit text offset a → IsWellTypedModule (utf8 text)
+  fits_offered : (how : Inlining) (a : Option (Vec Edit Global)) → OffersOrRefusesInlining how unit text offset a → IsWellTypedModule (utf8 text)
   fits_offered how (Some xs) h = h.runs.old
   fits_offered how None h =
       record { tree = _; text_of = record { scanned = h.module_read.source; scan = h.read.scan; module_of = h.read.parsed.module_of }; well_typed = h.read.well_typed }
@@ -133,7 +133,7 @@ module _ (unit : Unit) (requested : RequestedActions) (text : List ℕ) where
 
 -- ---- everything
 
-pub reply_is_determined : DiagnosesAreDetermined → TableIsDetermined → ReplyIsDetermined
+pub reply_is_determined : DiagnosesAreDetermined → ResolutionIsDetermined → ReplyIsDetermined
 reply_is_determined reports tables nothing sent other h k = h ∙ sym k
 reply_is_determined reports tables (says message) sent other h k = sends_one message message sent other refl h k
 reply_is_determined reports tables (diagnoses unit uri version text) sent other (ds, (list, reports_list, is), sends) (es, (more, reports_too, too), sends_too) =

@@ -22,7 +22,7 @@ use Rattle.ob0_tree.specs.Module.{ModuleOf, terminals_of_text}
 use Rattle.ob0_tree.specs.ParsedModule.{tree_of, named_tree_of}
 use Rattle.ob0_tree.specs.Places.{tree_with_names}
 use Rattle.ob0_tree.specs.Tree.{Tree, module_text, occurrences}
-use Rattle.ob0_parse.specs.IsRightParseRefusal.{NoModuleBegins, IsRightParseRefusal}
+use Rattle.ob0_parse.specs.IsRightParseRefusal.{NoModuleBeginsWithTokens, IsRightParseRefusal}
 use Rattle.ob0_parse_descent.specs.declared.refusal.ParseRefusal.{ParseRefusal}
 use Rattle.ob0_parse_descent.specs.declared.refusal.ParseRefusal.TheVariants.{Syntax, TooDeep, Memory}
 use Rattle.ob0_scope_table.specs.DuplicatesAndEndNames.{tree_declaration_faults}
@@ -31,12 +31,12 @@ use Rattle.ob0_language_names.specs.Parts.{module_block}
 use Rattle.ob0_scope_table.specs.Resolution.{Resolution, IsResolution, declaring_names, is_duplicate_or_end_name, is_undeclared_fault, undeclared_faults_by_labels}
 use Rattle.ob0_tree.specs.declared.tree.Role.TheVariants as role
 use Rattle.ob0_tree.specs.Tree.{identifiers}
-use Rattle.ob0_types.specs.FaultOrder.{AreFirstFaults, code_number, fault_cmp, all_faults_of, span_cmp}
-use Rattle.ob0_types_check.specs.DeclarationFaults.{module_faults, reported_block}
+use Rattle.ob0_types.specs.FaultOrder.{AreFirstFaultsOfModule, code_number, fault_cmp, all_faults_of, span_cmp}
+use Rattle.ob0_types_check.specs.DeclarationFaults.{undeclared_name_and_type_faults, report_on_block}
 use Rattle.ob0_types_check.specs.KnownDeclarations.{state_at_start, predeclared_meanings}
 use Rattle.ob0_analysis.specs.Diagnosed.{ReportedDiagnosis, ReportsRefusal, RefusalIsUnique, Reports, ReportsFaults, ReportsLexicalFaults, ReportsParserRefusal, ReportsNameAndTypeFaults, reported_diagnosis_of_fault}
 use Rattle.ob0_world_rules.proofs.OneModule.{Same, same_module}
-use Rattle.ob0_world_determined.specs.Determined.{DiagnosesAreDetermined, TableIsDetermined}
+use Rattle.ob0_world_determined.specs.Determined.{DiagnosesAreDetermined, ResolutionIsDetermined}
 use Rattle.ob0_world_determined.proofs.SameTables.{Like, block_like}
 
 abbrev pub OneScan : Type 0
@@ -51,7 +51,7 @@ scannable : (text : List ℕ) (s : TextWithTokens) → IsScanOf text s → IsSca
 scannable text s scan = subst IsScannable scan.of (scan.scan.short, (scan.scan.lexemes, scan.scan.lexed))
 
 -- No tree is a module's if no module begins with these tokens.
-none : (s : TextWithTokens) (i : ℕ) (tree : Tree (List ℕ) module_text) → NoModuleBegins s i → ModuleOf s tree → ⊥
+none : (s : TextWithTokens) (i : ℕ) (tree : Tree (List ℕ) module_text) → NoModuleBeginsWithTokens s i → ModuleOf s tree → ⊥
 none s i tree h is =
     let all : List (Terminal (List ℕ)) = terminals_of_text s ++ (EndOfText ∷ []) in
     h tree (drop (i + 1) all) is.shallow (ap (λ (w : List (Terminal (List ℕ))). w ++ (EndOfText ∷ [])) (sym is.spelled) ∙ sym (take-append-drop (i + 1) all))
@@ -179,7 +179,7 @@ sorted_one faults xs ys p q sorted sorted_too =
 
 -- ---- faults of names and types
 
-module _ (r q : Resolution) (h : IsResolution r) (k : IsResolution q) (e : Same r.module_read q.module_read) (tables : TableIsDetermined) where
+module _ (r q : Resolution) (h : IsResolution r) (k : IsResolution q) (e : Same r.module_read q.module_read) (tables : ResolutionIsDetermined) where
   first_like : Like (state_at_start r) (state_at_start q)
   first_like = record {
     source = e.source;
@@ -192,26 +192,26 @@ module _ (r q : Resolution) (h : IsResolution r) (k : IsResolution q) (e : Same 
   same_of_names =
       h.reported.by_kind ∙ (λ i. tree_declaration_faults (e.source i) (e.tree i) ++ undeclared_faults_by_labels (e.source i) (occurrences (e.tree i)) (bindings (tree_with_names (e.source i) (e.tree i)))) ∙ sym k.reported.by_kind
 
-  same_reported : module_faults r ≡ module_faults q
-  unfolding module_faults
+  same_reported : undeclared_name_and_type_faults r ≡ undeclared_name_and_type_faults q
+  unfolding undeclared_name_and_type_faults
   same_reported =
-      let found : (reported_block (state_at_start r) (module_block (tree_of r.module_read))).faults ≡ (reported_block (state_at_start q) (module_block (tree_of q.module_read))).faults =
-      (block_like (state_at_start r) (state_at_start q) (module_block (tree_of r.module_read)) first_like).faults ∙ ap (λ t. (reported_block (state_at_start q) (module_block t)).faults) e.tree in
+      let found : (report_on_block (state_at_start r) (module_block (tree_of r.module_read))).faults ≡ (report_on_block (state_at_start q) (module_block (tree_of q.module_read))).faults =
+      (block_like (state_at_start r) (state_at_start q) (module_block (tree_of r.module_read)) first_like).faults ∙ ap (λ t. (report_on_block (state_at_start q) (module_block t)).faults) e.tree in
       λ i. filter is_undeclared_fault (same_of_names i) ++ found i
 
-  same_faults : (xs ys : List Fault) → AreFirstFaults r xs → AreFirstFaults q ys → xs ≡ ys
+  same_faults : (xs ys : List Fault) → AreFirstFaultsOfModule r xs → AreFirstFaultsOfModule q ys → xs ≡ ys
   same_faults xs ys a b =
       let found : all_faults_of r ≡ all_faults_of q = λ i. same_reported i ++ filter is_duplicate_or_end_name (same_of_names i) in
       a.first ∙ ap (take 100) (sorted_one _ a.all b.all (subst (λ fs. IsPermutation fs a.all) found a.joined) b.joined a.in_order b.in_order) ∙ sym b.first
 
-types_one : (text : List ℕ) (list other : List ReportedDiagnosis) → TableIsDetermined → ReportsNameAndTypeFaults text list → ReportsNameAndTypeFaults text other → list ≡ other
+types_one : (text : List ℕ) (list other : List ReportedDiagnosis) → ResolutionIsDetermined → ReportsNameAndTypeFaults text list → ReportsNameAndTypeFaults text other → list ≡ other
 types_one text list other tables a b =
     let e : Same a.names.module_read b.names.module_read = same_module text a.names.module_read b.names.module_read a.scan a.resolved.parsed b.scan b.resolved.parsed in
     a.all ∙ ap (map reported_diagnosis_of_fault) (same_faults a.names b.names a.resolved b.resolved e tables a.faults b.faults a.first b.first) ∙ sym b.all
 
 -- ---- every text
 
-module _ (scans : OneScan) (reports : OneScanReport) (refusals : RefusalIsUnique) (tables : TableIsDetermined) (text : List ℕ) where
+module _ (scans : OneScan) (reports : OneScanReport) (refusals : RefusalIsUnique) (tables : ResolutionIsDetermined) (text : List ℕ) where
   one_source : (s t : TextWithTokens) → IsScanOf text s → IsScanOf text t → s ≡ t
   one_source s t p q = scans s t p.scan q.scan (p.of ∙ sym q.of)
 
@@ -240,5 +240,5 @@ module _ (scans : OneScan) (reports : OneScanReport) (refusals : RefusalIsUnique
   report_one list other (inr (unfit, a)) (inl (fits, b)) = absurd (unfit fits)
   report_one list other (inr (unfit, a)) (inr (unfit_too, b)) = faults_one list other a b
 
-pub diagnoses_are_determined : OneScan → OneScanReport → RefusalIsUnique → TableIsDetermined → DiagnosesAreDetermined
+pub diagnoses_are_determined : OneScan → OneScanReport → RefusalIsUnique → ResolutionIsDetermined → DiagnosesAreDetermined
 diagnoses_are_determined scans reports refusals tables text list other a b = report_one scans reports refusals tables text list other a b

@@ -9,14 +9,14 @@ use Rattle.ob0_scope_table.specs.Resolution.{ordinal_in}
 use Rattle.ob0_types_table.specs.declared.types.TypeId.{TypeId}
 use Rattle.ob0_tree.specs.Places.{token_text_at}
 use Rattle.ob0_tree.specs.Tree.{Tree, array_type, begins, block, body, constant, declares, declares_constant, declares_procedure, declares_type, declares_variable, end, fields, further_fields, further_section, forms_block, item, items, maybe, more, named_type, names, no_fields, none, one, procedure, record_type, some_fields, then_fields, then_section, type_definition, value_section, variable, variable_section, written_type}
-use Rattle.ob0_types_check.specs.DeclarationFaults.{KnownHeading, state_after_heading, reported_constant_declaration, reported_constants, reported_block, reported_body, reported_parameters, reported_procedure, reported_procedures, reported_section, reported_sections, reported_types, reported_variables, reported_type_declaration, reported_variable_group, with_parameters}
-use Rattle.ob0_types_check.specs.ExpressionFaults.{reported_expression}
+use Rattle.ob0_types_check.specs.DeclarationFaults.{KnownHeading, declarations_after_heading, report_on_constant_declaration, report_on_constant_declarations, report_on_block, report_on_body, report_on_parameters, report_on_procedure, report_on_procedures, report_on_parameter_section, report_on_parameter_sections, report_on_type_declarations, report_on_variable_declarations, report_on_type_declaration, report_on_variable_group, with_parameters}
+use Rattle.ob0_types_check.specs.ExpressionFaults.{report_on_expression}
 use Rattle.ob0_types_check.specs.Known.{Facts, Meaning, Operand, Reported, a_constant, a_procedure, a_type, a_variable}
 use Rattle.ob0_types_check.specs.Operations.{fault_at_token, without_fault, token_before}
-use Rattle.ob0_types_check.specs.KnownDeclarations.{PartTypes, Size, KnownDeclarations, TypeWithState, define, define_all, facts_at, is_within_limits, append_composite, make_type, of_elements, of_fields, size_of_type_so_far, reported_too_large_type, type_at_index, types_so_far, with_meaning}
+use Rattle.ob0_types_check.specs.KnownDeclarations.{PartTypes, Size, KnownDeclarations, TypeWithState, define, define_all, facts_at, is_within_limits, append_composite, make_type, of_elements, of_fields, size_of_type_so_far, report_on_too_large_type, type_at_index, types_so_far, with_meaning}
 use Rattle.ob0_types_check.specs.StatementFaults.{sequence_faults}
-use Rattle.ob0_types_check.specs.TypeFaults.{length_of, reported_constant, type_named_at}
-use Rattle.ob0_types_check.specs.WrittenTypeFaults.{KnownFields, made_array_type, array_size, sum_of_sizes, with_field_group, no_known_fields, next_type_ordinal, made_record_type, record_size, record_keyword, reported_fields, reported_groups, reported_type, with_known_field, with_known_fields, token_before_group}
+use Rattle.ob0_types_check.specs.TypeFaults.{length_by_operand, report_on_constant_expression, type_named_at}
+use Rattle.ob0_types_check.specs.WrittenTypeFaults.{KnownFields, made_array_type, array_size, sum_of_sizes, with_field_group, no_known_fields, next_type_ordinal, made_record_type, record_size, record_keyword_token, report_on_field_group, report_on_further_field_groups, report_on_written_type, with_known_field, with_known_fields, token_before_group}
 
 -- ---- states that differ only in tables with the same ordinals
 
@@ -88,7 +88,7 @@ made_like p q k l parts size same like = record {
 make_like : (p q : KnownDeclarations) (word k l : ℕ) (parts : PartTypes) (size : Size) → k ≡ l → Like p q → Both TypedLike (make_type p word k parts size) (make_type q word l parts size)
 make_like p q word k l parts size same like = go (is_within_limits size)
   where
-    go : (b : Bool) → Both TypedLike (cond b (without_fault (append_composite p k parts size)) (reported_too_large_type p word)) (cond b (without_fault (append_composite q l parts size)) (reported_too_large_type q word))
+    go : (b : Bool) → Both TypedLike (cond b (without_fault (append_composite p k parts size)) (report_on_too_large_type p word)) (cond b (without_fault (append_composite q l parts size)) (report_on_too_large_type q word))
     go true = right_both TypedLike (append_composite p k parts size) (append_composite q l parts size) (made_like p q k l parts size same like)
     go false = record { known = record { of = refl; following = like }; faults = ap (λ (f : Facts TypeId). fault_at_token f code.TypeTooLarge word) (same_facts p q false like) }
 
@@ -129,39 +129,39 @@ here_like : (around : ℕ) (p q : KnownDeclarations) → Like p q → next_type_
 here_like around p q like = λ i. length (like.made i) + around
 
 mutual
-  unfolding reported_type
+  unfolding report_on_written_type
 
-  type_like : (around : ℕ) (p q : KnownDeclarations) (t : Tree ℕ written_type) → Like p q → Both TypedLike (reported_type around p t) (reported_type around q t)
+  type_like : (around : ℕ) (p q : KnownDeclarations) (t : Tree ℕ written_type) → Like p q → Both TypedLike (report_on_written_type around p t) (report_on_written_type around q t)
   type_like around p q (named_type x) like =
       let same : type_named_at (facts_at p false) x ≡ type_named_at (facts_at q false) x = ap (λ (f : Facts TypeId). type_named_at f x) (same_facts p q false like) in
       after (ap (λ (r : Reported TypeId). r.faults) same) (right_both TypedLike _ _ (record { of = ap (λ (r : Reported TypeId). r.known) same; following = like }))
   type_like around p q (array_type e u) like =
-      let same : reported_expression (facts_at p true) e ≡ reported_expression (facts_at q true) e = ap (λ (f : Facts TypeId). reported_expression f e) (same_facts p q true like) in
-      let operand : (reported_expression (facts_at p true) e).known ≡ (reported_expression (facts_at q true) e).known = ap (λ (r : Reported (Operand TypeId)). r.known) same in
-      let sized : length_of (facts_at p false) (reported_expression (facts_at p true) e).known ≡ length_of (facts_at q false) (reported_expression (facts_at q true) e).known =
-      λ i. length_of (same_facts p q false like i) (operand i) in
-      let element : Both TypedLike (reported_type (suc around) p u) (reported_type (suc around) q u) = type_like (suc around) p q u like in
+      let same : report_on_expression (facts_at p true) e ≡ report_on_expression (facts_at q true) e = ap (λ (f : Facts TypeId). report_on_expression f e) (same_facts p q true like) in
+      let operand : (report_on_expression (facts_at p true) e).known ≡ (report_on_expression (facts_at q true) e).known = ap (λ (r : Reported (Operand TypeId)). r.known) same in
+      let sized : length_by_operand (facts_at p false) (report_on_expression (facts_at p true) e).known ≡ length_by_operand (facts_at q false) (report_on_expression (facts_at q true) e).known =
+      λ i. length_by_operand (same_facts p q false like i) (operand i) in
+      let element : Both TypedLike (report_on_written_type (suc around) p u) (report_on_written_type (suc around) q u) = type_like (suc around) p q u like in
       after (ap (λ (r : Reported (Operand TypeId)). r.faults) same)
       (after (ap (λ (r : Reported (Option ℕ)). r.faults) sized)
       (after element.faults (arrays_like (next_type_ordinal around p) (next_type_ordinal around q) _ _ _ _ _ _ (here_like around p q like) operand (ap (λ (r : Reported (Option ℕ)). r.known) sized) element.known)))
   type_like around p q (record_type g rest) like =
-      let first : Both GatheredLike (reported_fields (suc around) (no_known_fields p) g) (reported_fields (suc around) (no_known_fields q) g) =
+      let first : Both GatheredLike (report_on_field_group (suc around) (no_known_fields p) g) (report_on_field_group (suc around) (no_known_fields q) g) =
       fields_like (suc around) (no_known_fields p) (no_known_fields q) g (record { fields = refl; size = refl; following = like }) in
-      let all : Both GatheredLike (reported_groups (suc around) (reported_fields (suc around) (no_known_fields p) g).known rest) (reported_groups (suc around) (reported_fields (suc around) (no_known_fields q) g).known rest) =
-      groups_like (suc around) (reported_fields (suc around) (no_known_fields p) g).known (reported_fields (suc around) (no_known_fields q) g).known rest first.known in
-      after first.faults (after all.faults (record_like (token_before_group g (record_keyword rest)) (next_type_ordinal around p) (next_type_ordinal around q) _ _ (here_like around p q like) all.known))
+      let all : Both GatheredLike (report_on_further_field_groups (suc around) (report_on_field_group (suc around) (no_known_fields p) g).known rest) (report_on_further_field_groups (suc around) (report_on_field_group (suc around) (no_known_fields q) g).known rest) =
+      groups_like (suc around) (report_on_field_group (suc around) (no_known_fields p) g).known (report_on_field_group (suc around) (no_known_fields q) g).known rest first.known in
+      after first.faults (after all.faults (record_like (token_before_group g (record_keyword_token rest)) (next_type_ordinal around p) (next_type_ordinal around q) _ _ (here_like around p q like) all.known))
 
-  fields_like : (around : ℕ) (g h : KnownFields) (t : Tree ℕ fields) → GatheredLike g h → Both GatheredLike (reported_fields around g t) (reported_fields around h t)
+  fields_like : (around : ℕ) (g h : KnownFields) (t : Tree ℕ fields) → GatheredLike g h → Both GatheredLike (report_on_field_group around g t) (report_on_field_group around h t)
   fields_like around g h no_fields like = right_both GatheredLike g h like
   fields_like around g h (some_fields ns t) like =
-      let typed : Both TypedLike (reported_type around g.following t) (reported_type around h.following t) = type_like around g.following h.following t like.following in
+      let typed : Both TypedLike (report_on_written_type around g.following t) (report_on_written_type around h.following t) = type_like around g.following h.following t like.following in
       after typed.faults (right_both GatheredLike _ _ (gathered_like g h (names_in_list ns) _ _ like typed.known))
 
-  groups_like : (around : ℕ) (g h : KnownFields) (t : Tree ℕ (items further_fields)) → GatheredLike g h → Both GatheredLike (reported_groups around g t) (reported_groups around h t)
+  groups_like : (around : ℕ) (g h : KnownFields) (t : Tree ℕ (items further_fields)) → GatheredLike g h → Both GatheredLike (report_on_further_field_groups around g t) (report_on_further_field_groups around h t)
   groups_like around g h end like = right_both GatheredLike g h like
   groups_like around g h (more (then_fields t) rest) like =
-      let next : Both GatheredLike (reported_fields around g t) (reported_fields around h t) = fields_like around g h t like in
-      after next.faults (groups_like around (reported_fields around g t).known (reported_fields around h t).known rest next.known)
+      let next : Both GatheredLike (report_on_field_group around g t) (report_on_field_group around h t) = fields_like around g h t like in
+      after next.faults (groups_like around (report_on_field_group around g t).known (report_on_field_group around h t).known rest next.known)
 
 -- ---- declarations
 
@@ -175,44 +175,44 @@ variables_defined : (xs : List ℕ) (t u : TypeWithState) → TypedLike t u → 
 variables_defined xs t u typed =
     subst (λ z. Like (define_all t.following (a_variable t.of) xs) (define_all u.following (a_variable z) xs)) typed.of (define_all_like t.following u.following (a_variable t.of) xs typed.following)
 
-constant_like : (p q : KnownDeclarations) (d : Tree ℕ (item constant)) → Like p q → Both Like (reported_constant_declaration p d) (reported_constant_declaration q d)
-unfolding reported_constant_declaration
+constant_like : (p q : KnownDeclarations) (d : Tree ℕ (item constant)) → Like p q → Both Like (report_on_constant_declaration p d) (report_on_constant_declaration q d)
+unfolding report_on_constant_declaration
 constant_like p q (declares_constant x e) like =
-    let same : reported_constant (facts_at p true) e ≡ reported_constant (facts_at q true) e = ap (λ (f : Facts TypeId). reported_constant f e) (same_facts p q true like) in
+    let same : report_on_constant_expression (facts_at p true) e ≡ report_on_constant_expression (facts_at q true) e = ap (λ (f : Facts TypeId). report_on_constant_expression f e) (same_facts p q true like) in
     after (ap (λ (r : Reported (Option Value)). r.faults) same) (right_both Like _ _ (constant_defined p q x _ _ (ap (λ (r : Reported (Option Value)). r.known) same) like))
 
-constants_like : (p q : KnownDeclarations) (ds : Tree ℕ (items constant)) → Like p q → Both Like (reported_constants p ds) (reported_constants q ds)
-unfolding reported_constants
+constants_like : (p q : KnownDeclarations) (ds : Tree ℕ (items constant)) → Like p q → Both Like (report_on_constant_declarations p ds) (report_on_constant_declarations q ds)
+unfolding report_on_constant_declarations
 constants_like p q end like = right_both Like p q like
 constants_like p q (more d rest) like =
-    let next : Both Like (reported_constant_declaration p d) (reported_constant_declaration q d) = constant_like p q d like in
-    after next.faults (constants_like (reported_constant_declaration p d).known (reported_constant_declaration q d).known rest next.known)
+    let next : Both Like (report_on_constant_declaration p d) (report_on_constant_declaration q d) = constant_like p q d like in
+    after next.faults (constants_like (report_on_constant_declaration p d).known (report_on_constant_declaration q d).known rest next.known)
 
-type_declared_like : (p q : KnownDeclarations) (d : Tree ℕ (item type_definition)) → Like p q → Both Like (reported_type_declaration p d) (reported_type_declaration q d)
-unfolding reported_type_declaration
+type_declared_like : (p q : KnownDeclarations) (d : Tree ℕ (item type_definition)) → Like p q → Both Like (report_on_type_declaration p d) (report_on_type_declaration q d)
+unfolding report_on_type_declaration
 type_declared_like p q (declares_type x t) like =
-    let typed : Both TypedLike (reported_type 0 p t) (reported_type 0 q t) = type_like 0 p q t like in
+    let typed : Both TypedLike (report_on_written_type 0 p t) (report_on_written_type 0 q t) = type_like 0 p q t like in
     after typed.faults (right_both Like _ _ (type_defined x _ _ typed.known))
 
-types_like : (p q : KnownDeclarations) (ds : Tree ℕ (items type_definition)) → Like p q → Both Like (reported_types p ds) (reported_types q ds)
-unfolding reported_types
+types_like : (p q : KnownDeclarations) (ds : Tree ℕ (items type_definition)) → Like p q → Both Like (report_on_type_declarations p ds) (report_on_type_declarations q ds)
+unfolding report_on_type_declarations
 types_like p q end like = right_both Like p q like
 types_like p q (more d rest) like =
-    let next : Both Like (reported_type_declaration p d) (reported_type_declaration q d) = type_declared_like p q d like in
-    after next.faults (types_like (reported_type_declaration p d).known (reported_type_declaration q d).known rest next.known)
+    let next : Both Like (report_on_type_declaration p d) (report_on_type_declaration q d) = type_declared_like p q d like in
+    after next.faults (types_like (report_on_type_declaration p d).known (report_on_type_declaration q d).known rest next.known)
 
-variables_declared_like : (p q : KnownDeclarations) (d : Tree ℕ (item variable)) → Like p q → Both Like (reported_variable_group p d) (reported_variable_group q d)
-unfolding reported_variable_group
+variables_declared_like : (p q : KnownDeclarations) (d : Tree ℕ (item variable)) → Like p q → Both Like (report_on_variable_group p d) (report_on_variable_group q d)
+unfolding report_on_variable_group
 variables_declared_like p q (declares_variable ns t) like =
-    let typed : Both TypedLike (reported_type 0 p t) (reported_type 0 q t) = type_like 0 p q t like in
+    let typed : Both TypedLike (report_on_written_type 0 p t) (report_on_written_type 0 q t) = type_like 0 p q t like in
     after typed.faults (right_both Like _ _ (variables_defined (names_in_list ns) _ _ typed.known))
 
-variables_like : (p q : KnownDeclarations) (ds : Tree ℕ (items variable)) → Like p q → Both Like (reported_variables p ds) (reported_variables q ds)
-unfolding reported_variables
+variables_like : (p q : KnownDeclarations) (ds : Tree ℕ (items variable)) → Like p q → Both Like (report_on_variable_declarations p ds) (report_on_variable_declarations q ds)
+unfolding report_on_variable_declarations
 variables_like p q end like = right_both Like p q like
 variables_like p q (more d rest) like =
-    let next : Both Like (reported_variable_group p d) (reported_variable_group q d) = variables_declared_like p q d like in
-    after next.faults (variables_like (reported_variable_group p d).known (reported_variable_group q d).known rest next.known)
+    let next : Both Like (report_on_variable_group p d) (report_on_variable_group q d) = variables_declared_like p q d like in
+    after next.faults (variables_like (report_on_variable_group p d).known (report_on_variable_group q d).known rest next.known)
 
 parameters_with : (g h : KnownHeading) (by_place : Bool) (xs : List ℕ) (t u : TypeWithState) → HeadingLike g h → TypedLike t u → HeadingLike (with_parameters g by_place xs t) (with_parameters h by_place xs u)
 parameters_with g h by_place xs t u like typed = record {
@@ -220,50 +220,50 @@ parameters_with g h by_place xs t u like typed = record {
   following = variables_defined xs t u typed;
 }
 
-parameters_like : (g h : KnownHeading) (by_place : Bool) (ns : Tree ℕ names) (t : Tree ℕ written_type) → HeadingLike g h → Both HeadingLike (reported_parameters g by_place ns t) (reported_parameters h by_place ns t)
-unfolding reported_parameters
+parameters_like : (g h : KnownHeading) (by_place : Bool) (ns : Tree ℕ names) (t : Tree ℕ written_type) → HeadingLike g h → Both HeadingLike (report_on_parameters g by_place ns t) (report_on_parameters h by_place ns t)
+unfolding report_on_parameters
 parameters_like g h by_place ns t like =
-    let typed : Both TypedLike (reported_type 0 g.following t) (reported_type 0 h.following t) = type_like 0 g.following h.following t like.following in
+    let typed : Both TypedLike (report_on_written_type 0 g.following t) (report_on_written_type 0 h.following t) = type_like 0 g.following h.following t like.following in
     after typed.faults (right_both HeadingLike _ _ (parameters_with g h by_place (names_in_list ns) _ _ like typed.known))
 
-section_like : (g h : KnownHeading) (s : Tree ℕ (item further_section)) → HeadingLike g h → Both HeadingLike (reported_section g s) (reported_section h s)
-unfolding reported_section
+section_like : (g h : KnownHeading) (s : Tree ℕ (item further_section)) → HeadingLike g h → Both HeadingLike (report_on_parameter_section g s) (report_on_parameter_section h s)
+unfolding report_on_parameter_section
 section_like g h (then_section (value_section ns t)) like = parameters_like g h false ns t like
 section_like g h (then_section (variable_section ns t)) like = parameters_like g h true ns t like
 
-sections_like : (g h : KnownHeading) (ss : Tree ℕ (items further_section)) → HeadingLike g h → Both HeadingLike (reported_sections g ss) (reported_sections h ss)
-unfolding reported_sections
+sections_like : (g h : KnownHeading) (ss : Tree ℕ (items further_section)) → HeadingLike g h → Both HeadingLike (report_on_parameter_sections g ss) (report_on_parameter_sections h ss)
+unfolding report_on_parameter_sections
 sections_like g h end like = right_both HeadingLike g h like
 sections_like g h (more s rest) like =
-    let next : Both HeadingLike (reported_section g s) (reported_section h s) = section_like g h s like in
-    after next.faults (sections_like (reported_section g s).known (reported_section h s).known rest next.known)
+    let next : Both HeadingLike (report_on_parameter_section g s) (report_on_parameter_section h s) = section_like g h s like in
+    after next.faults (sections_like (report_on_parameter_section g s).known (report_on_parameter_section h s).known rest next.known)
 
-heading_like : (x : ℕ) (g h : KnownHeading) → HeadingLike g h → Like (state_after_heading x g) (state_after_heading x h)
-heading_like x g h like = subst (λ fs. Like (state_after_heading x g) (define h.following (a_procedure fs) x)) like.formals (define_like g.following h.following (a_procedure g.formals) x like.following)
+heading_like : (x : ℕ) (g h : KnownHeading) → HeadingLike g h → Like (declarations_after_heading x g) (declarations_after_heading x h)
+heading_like x g h like = subst (λ fs. Like (declarations_after_heading x g) (define h.following (a_procedure fs) x)) like.formals (define_like g.following h.following (a_procedure g.formals) x like.following)
 
-body_like : (p q : KnownDeclarations) (b : Tree ℕ (maybe body)) → Like p q → Both Like (reported_body p b) (reported_body q b)
-unfolding reported_body
+body_like : (p q : KnownDeclarations) (b : Tree ℕ (maybe body)) → Like p q → Both Like (report_on_body p b) (report_on_body q b)
+unfolding report_on_body
 body_like p q none like = right_both Like p q like
 body_like p q (one (begins statements)) like = record { known = like; faults = ap (λ (f : Facts TypeId). sequence_faults f statements) (same_facts p q false like) }
 
 mutual
-  unfolding reported_block
+  unfolding report_on_block
 
-  pub block_like : (p q : KnownDeclarations) (b : Tree ℕ block) → Like p q → Both Like (reported_block p b) (reported_block q b)
+  pub block_like : (p q : KnownDeclarations) (b : Tree ℕ block) → Like p q → Both Like (report_on_block p b) (report_on_block q b)
   block_like p q (forms_block (declares cs ts vs ps) statements) like =
-      let constants : Both Like (reported_constants p (section_constants cs)) (reported_constants q (section_constants cs)) = constants_like p q (section_constants cs) like in
+      let constants : Both Like (report_on_constant_declarations p (section_constants cs)) (report_on_constant_declarations q (section_constants cs)) = constants_like p q (section_constants cs) like in
       let types = types_like _ _ (section_types ts) constants.known in
       let variables = variables_like _ _ (section_variables vs) types.known in
       let procedures = procedures_like _ _ ps variables.known in
       after constants.faults (after types.faults (after variables.faults (after procedures.faults (body_like _ _ statements procedures.known))))
 
-  procedures_like : (p q : KnownDeclarations) (ds : Tree ℕ (items procedure)) → Like p q → Both Like (reported_procedures p ds) (reported_procedures q ds)
+  procedures_like : (p q : KnownDeclarations) (ds : Tree ℕ (items procedure)) → Like p q → Both Like (report_on_procedures p ds) (report_on_procedures q ds)
   procedures_like p q end like = right_both Like p q like
   procedures_like p q (more d rest) like =
-      let next : Both Like (reported_procedure p d) (reported_procedure q d) = procedure_like p q d like in
-      after next.faults (procedures_like (reported_procedure p d).known (reported_procedure q d).known rest next.known)
+      let next : Both Like (report_on_procedure p d) (report_on_procedure q d) = procedure_like p q d like in
+      after next.faults (procedures_like (report_on_procedure p d).known (report_on_procedure q d).known rest next.known)
 
-  procedure_like : (p q : KnownDeclarations) (d : Tree ℕ (item procedure)) → Like p q → Both Like (reported_procedure p d) (reported_procedure q d)
+  procedure_like : (p q : KnownDeclarations) (d : Tree ℕ (item procedure)) → Like p q → Both Like (report_on_procedure p d) (report_on_procedure q d)
   procedure_like p q (declares_procedure x fs b closing) like =
       let sections = sections_like (record { formals = []; following = p }) (record { formals = []; following = q }) (formal_sections fs) (record { formals = refl; following = like }) in
       after sections.faults (block_like _ _ b (heading_like x _ _ sections.known))

@@ -6,10 +6,10 @@ use Rattle.std.specs.Prelude.{⊤, All}
 use Rattle.std.specs.List.{flat_map}
 use Rattle.std.proofs.lemmas.Grind.{flat_map-append}
 use Rattle.ob0_frame.specs.Frames.{Frames, frame}
-use Rattle.ob0_frame.specs.Head.{max_content}
+use Rattle.ob0_frame.specs.Head.{max_content_length}
 use Rattle.ob0_frame.specs.FramerState.{StreamRest, Open, Broken, Feeds}
 use Rattle.ob0_frame.proofs.InTurn.{fed_in_turn}
-use Rattle.ob0_session_server.specs.Answers.{ServerState, start, Answers, AnswersInPhase, Conversation}
+use Rattle.ob0_session_server.specs.Answers.{ServerState, start, Answers, AnswersInPhase, IsConversation}
 use Rattle.ob0_session.specs.Serving.{HasServed, HasServedAll, EndsByExit}
 use Rattle.ob0_session_server.specs.Steps.{HasNotEnded}
 use Rattle.ob0_session_server.specs.declared.session.Phase.TheVariants.{Ended}
@@ -25,11 +25,11 @@ pub record Cut (before : ServerState) (contents more : Contents) (sent : Content
   pub between : ServerState
   pub first : Contents
   pub later : Contents
-  pub begins : Conversation before contents first between
-  pub goes_on : Conversation between more later after
+  pub begins : IsConversation before contents first between
+  pub goes_on : IsConversation between more later after
   pub is : sent ≡ first ++ later
 
-pub cut : (before : ServerState) (contents more : Contents) (sent : Contents) (after : ServerState) → Conversation before (contents ++ more) sent after → Cut before contents more sent after
+pub cut : (before : ServerState) (contents more : Contents) (sent : Contents) (after : ServerState) → IsConversation before (contents ++ more) sent after → Cut before contents more sent after
 cut before [] more sent after h = record { between = before; first = []; later = sent; begins = (refl, refl); goes_on = h; is = refl }
 cut before (content ∷ contents) more sent after h =
     let next : Cut h.between contents more h.later after = cut h.between contents more h.later after h.follows in
@@ -46,7 +46,7 @@ cut before (content ∷ contents) more sent after h =
 ended_answer : (status : ℕ) (before : ServerState) (content : List ℕ) (sent : Contents) (after : ServerState) → before.phase ≡ Ended status → Answers before content sent after → (sent ≡ []) × (after ≡ before)
 ended_answer status before content sent after over h = subst (λ phase. AnswersInPhase phase before content sent after) over h
 
-silent : (status : ℕ) (before : ServerState) (contents : Contents) (sent : Contents) (after : ServerState) → before.phase ≡ Ended status → Conversation before contents sent after → (sent ≡ []) × (after ≡ before)
+silent : (status : ℕ) (before : ServerState) (contents : Contents) (sent : Contents) (after : ServerState) → before.phase ≡ Ended status → IsConversation before contents sent after → (sent ≡ []) × (after ≡ before)
 silent status before [] sent after over h = h
 silent status before (content ∷ contents) sent after over h =
     let here = ended_answer status before content h.first h.between over h.answers in
@@ -89,7 +89,7 @@ same_status s t e = cc
 
 module _ (one : ConversationIsDetermined) (feeds : OneFeed) (taken : List ℕ) where
   -- A conversation that ended has the same replies and state as one over more contents.
-  pub longer : (status : ℕ) (contents more sent other : Contents) (after end : ServerState) → after.phase ≡ Ended status → Conversation start contents sent after → Conversation start (contents ++ more) other end → (sent ≡ other) × (end ≡ after)
+  pub longer : (status : ℕ) (contents more sent other : Contents) (after end : ServerState) → after.phase ≡ Ended status → IsConversation start contents sent after → IsConversation start (contents ++ more) other end → (sent ≡ other) × (end ≡ after)
   longer status contents more sent other after end over h k =
       let parts : Cut start contents more other end = cut start contents more other end k in
       let same = one start contents sent parts.first after parts.between h parts.begins in
@@ -100,7 +100,7 @@ module _ (one : ConversationIsDetermined) (feeds : OneFeed) (taken : List ℕ) w
   all_one r q put other h k =
       let fed = feeds (Open []) r q taken (h.served.answered ++ []) (k.served.answered ++ []) h.served.feeds k.served.feeds in
       let contents : h.served.answered ≡ k.served.answered = sym (append-nil h.served.answered) ∙ fed.0 ∙ append-nil k.served.answered in
-      let same = one start k.served.answered h.served.sent k.served.sent h.after k.after (subst (λ cs. Conversation start cs h.served.sent h.after) contents h.served.conversation) k.served.conversation in
+      let same = one start k.served.answered h.served.sent k.served.sent h.after k.after (subst (λ cs. IsConversation start cs h.served.sent h.after) contents h.served.conversation) k.served.conversation in
       (h.served.frames ∙ ap (flat_map frame) same.0 ∙ sym k.served.frames, ap with_rest fed.1)
 
   end_one : (status another : ℕ) (put other : List ℕ) → EndsByExit status taken put → EndsByExit another taken other → (put ≡ other) × (at_exit status ≡ at_exit another)
@@ -108,8 +108,8 @@ module _ (one : ConversationIsDetermined) (feeds : OneFeed) (taken : List ℕ) w
       let fed = (feeds (Open []) h.rest k.rest taken (h.served.answered ++ h.waiting) (k.served.answered ++ k.waiting) h.served.feeds k.served.feeds).0 in
       let same : (h.served.sent ≡ k.served.sent) × (k.after ≡ h.after) =
       elim (begins_other h.served.answered h.waiting k.served.answered k.waiting fed) [
-        | inl (mid, is) ↦ longer status h.served.answered mid h.served.sent k.served.sent h.after k.after h_ended h.served.conversation (subst (λ cs. Conversation start cs k.served.sent k.after) is k.served.conversation)
-        | inr (mid, is) ↦ (let back = longer another k.served.answered mid k.served.sent h.served.sent k.after h.after k_ended k.served.conversation (subst (λ cs. Conversation start cs h.served.sent h.after) is h.served.conversation) in (sym back.0, sym back.1))
+        | inl (mid, is) ↦ longer status h.served.answered mid h.served.sent k.served.sent h.after k.after h_ended h.served.conversation (subst (λ cs. IsConversation start cs k.served.sent k.after) is k.served.conversation)
+        | inr (mid, is) ↦ (let back = longer another k.served.answered mid k.served.sent h.served.sent k.after h.after k_ended k.served.conversation (subst (λ cs. IsConversation start cs h.served.sent h.after) is h.served.conversation) in (sym back.0, sym back.1))
       ] in
       let statuses : status ≡ another = same_status status another (sym h_ended ∙ ap (λ (s : ServerState). s.phase) (sym same.1) ∙ k_ended) in
       (h.served.frames ∙ ap (flat_map frame) same.0 ∙ sym k.served.frames, ap at_exit statuses)
@@ -122,7 +122,7 @@ module _ (one : ConversationIsDetermined) (feeds : OneFeed) (taken : List ℕ) w
   never_both status q put other (h, h_ended) k =
       let fed : h.served.answered ++ h.waiting ≡ k.served.answered =
       (feeds (Open []) h.rest q taken (h.served.answered ++ h.waiting) (k.served.answered ++ []) h.served.feeds k.served.feeds).0 ∙ append-nil k.served.answered in
-      let end : k.after ≡ h.after = (longer status h.served.answered h.waiting h.served.sent k.served.sent h.after k.after h_ended h.served.conversation (subst (λ cs. Conversation start cs k.served.sent k.after) (sym fed) k.served.conversation)).1 in
+      let end : k.after ≡ h.after = (longer status h.served.answered h.waiting h.served.sent k.served.sent h.after k.after h_ended h.served.conversation (subst (λ cs. IsConversation start cs k.served.sent k.after) (sym fed) k.served.conversation)).1 in
       ended_goes_on status k.after (ap (λ (s : ServerState). s.phase) end ∙ h_ended) k.not_ended
 
   one_ending : (e f : Ending) (put other : List ℕ) → EndsIn e taken put → EndsIn f taken other → (put ≡ other) × (e ≡ f)
@@ -231,23 +231,23 @@ result_is_determined one feeds taken more put all result end of of_too h k (inr 
 
 -- ---- the frames of a conversation
 
-module _ (one : ConversationIsDetermined) (feeds : OneFeed) (taken sent : Contents) (after : ServerState) (talk : Conversation start taken sent after) (fed : Feeds (Open []) (flat_map frame taken) taken (Open [])) where
+module _ (one : ConversationIsDetermined) (feeds : OneFeed) (taken sent : Contents) (after : ServerState) (talk : IsConversation start taken sent after) (fed : Feeds (Open []) (flat_map frame taken) taken (Open [])) where
   frames_sent : (put : List ℕ) (e : Ending) → EndsIn e (flat_map frame taken) put → put ≡ flat_map frame sent
   frames_sent put (at_exit status) (h, ended) =
       let s = h.served in
       let parts : taken ≡ s.answered ++ h.waiting = (feeds (Open []) (Open []) h.rest (flat_map frame taken) taken (s.answered ++ h.waiting) fed s.feeds).0 in
-      s.frames ∙ ap (flat_map frame) (longer one feeds (flat_map frame taken) status s.answered h.waiting s.sent sent h.after after ended s.conversation (subst (λ cs. Conversation start cs sent after) parts talk)).0
+      s.frames ∙ ap (flat_map frame) (longer one feeds (flat_map frame taken) status s.answered h.waiting s.sent sent h.after after ended s.conversation (subst (λ cs. IsConversation start cs sent after) parts talk)).0
   frames_sent put (with_rest rest) h =
       let s = h.served in
       let same : taken ≡ s.answered = (feeds (Open []) (Open []) rest (flat_map frame taken) taken (s.answered ++ []) fed s.feeds).0 ∙ append-nil s.answered in
-      s.frames ∙ ap (flat_map frame) (one start s.answered s.sent sent h.after after s.conversation (subst (λ cs. Conversation start cs sent after) same talk)).0
+      s.frames ∙ ap (flat_map frame) (one start s.answered s.sent sent h.after after s.conversation (subst (λ cs. IsConversation start cs sent after) same talk)).0
 
 -- a conversation with which a longer input begins
-module _ (one : ConversationIsDetermined) (feeds : OneFeed) (taken sent : Contents) (after : ServerState) (talk : Conversation start taken sent after) (fed : Feeds (Open []) (flat_map frame taken) taken (Open [])) (more : List ℕ) where
+module _ (one : ConversationIsDetermined) (feeds : OneFeed) (taken sent : Contents) (after : ServerState) (talk : IsConversation start taken sent after) (fed : Feeds (Open []) (flat_map frame taken) taken (Open [])) (more : List ℕ) where
   -- The answers to more contents begin with the answers to these.
-  goes_on : (mid answered said : Contents) (end : ServerState) → answered ≡ taken ++ mid → Conversation start answered said end → (later : List ℕ) × (flat_map frame said ≡ flat_map frame sent ++ later)
+  goes_on : (mid answered said : Contents) (end : ServerState) → answered ≡ taken ++ mid → IsConversation start answered said end → (later : List ℕ) × (flat_map frame said ≡ flat_map frame sent ++ later)
   goes_on mid answered said end is h =
-      let parts : Cut start taken mid said end = cut start taken mid said end (subst (λ cs. Conversation start cs said end) is h) in
+      let parts : Cut start taken mid said end = cut start taken mid said end (subst (λ cs. IsConversation start cs said end) is h) in
       let same = one start taken parts.first sent parts.between after parts.begins talk in
       (flat_map frame parts.later, ap (flat_map frame) (parts.is ∙ ap (λ cs. cs ++ parts.later) same.0) ∙ flat_map-append frame sent parts.later)
 
@@ -257,7 +257,7 @@ module _ (one : ConversationIsDetermined) (feeds : OneFeed) (taken sent : Conten
       let parts = fed_front (Open []) (Open []) h.rest (flat_map frame taken) more taken (s.answered ++ h.waiting) fed s.feeds in
       elim (begins_other s.answered h.waiting taken parts.0 parts.1) [
         | inl (mid, is) ↦
-            let same = longer one feeds (flat_map frame taken) status s.answered mid s.sent sent h.after after ended s.conversation (subst (λ cs. Conversation start cs sent after) is talk) in
+            let same = longer one feeds (flat_map frame taken) status s.answered mid s.sent sent h.after after ended s.conversation (subst (λ cs. IsConversation start cs sent after) is talk) in
             ([], s.frames ∙ ap (flat_map frame) same.0 ∙ sym (append-nil (flat_map frame sent)))
         | inr (mid, is) ↦ (let found = goes_on mid s.answered s.sent h.after is s.conversation in (found.0, s.frames ∙ found.1))
       ]
@@ -267,23 +267,23 @@ module _ (one : ConversationIsDetermined) (feeds : OneFeed) (taken sent : Conten
       let found = goes_on parts.0 s.answered s.sent h.after (sym (append-nil s.answered) ∙ parts.1) s.conversation in
       (found.0, s.frames ∙ found.1)
 
-pub conversation_is_served_first : ConversationIsDetermined → OneFeed → Feeds (Open []) [] [] (Open []) → ((contents : Contents) → All (λ content. length content ≤ max_content) contents → Frames (flat_map frame contents) contents []) → ConversationIsServedAsPrefix
+pub conversation_is_served_first : ConversationIsDetermined → OneFeed → Feeds (Open []) [] [] (Open []) → ((contents : Contents) → All (λ content. length content ≤ max_content_length) contents → Frames (flat_map frame contents) contents []) → ConversationIsServedAsPrefix
 conversation_is_served_first one feeds nothing read taken sent after small talk more put result written served =
     let e = ending_of result (flat_map frame taken ++ more) put written served in
     frames_first one feeds taken sent after talk (read taken small, nothing.1) more put e.0 e.1
 
-pub conversation_is_served : ConversationIsDetermined → OneFeed → Feeds (Open []) [] [] (Open []) → ((contents : Contents) → All (λ content. length content ≤ max_content) contents → Frames (flat_map frame contents) contents []) → ConversationIsServed
+pub conversation_is_served : ConversationIsDetermined → OneFeed → Feeds (Open []) [] [] (Open []) → ((contents : Contents) → All (λ content. length content ≤ max_content_length) contents → Frames (flat_map frame contents) contents []) → ConversationIsServed
 conversation_is_served one feeds nothing read taken sent after small talk put result written served =
     let e = ending_of result (flat_map frame taken) put written served in
     frames_sent one feeds taken sent after talk (read taken small, nothing.1) put e.0 e.1
 
 -- ---- the frames of a conversation that ended
 
-module _ (one : ConversationIsDetermined) (feeds : OneFeed) (taken sent : Contents) (after : ServerState) (status : ℕ) (talk : Conversation start taken sent after) (over : after.phase ≡ Ended status) (fed : Feeds (Open []) (flat_map frame taken) taken (Open [])) (more : List ℕ) where
+module _ (one : ConversationIsDetermined) (feeds : OneFeed) (taken sent : Contents) (after : ServerState) (status : ℕ) (talk : IsConversation start taken sent after) (over : after.phase ≡ Ended status) (fed : Feeds (Open []) (flat_map frame taken) taken (Open [])) (more : List ℕ) where
   -- nothing is answered after it
-  nothing_more_said : (mid answered said : Contents) (end : ServerState) → answered ≡ taken ++ mid → Conversation start answered said end → (sent ≡ said) × (end ≡ after)
+  nothing_more_said : (mid answered said : Contents) (end : ServerState) → answered ≡ taken ++ mid → IsConversation start answered said end → (sent ≡ said) × (end ≡ after)
   nothing_more_said mid answered said end is h =
-      longer one feeds (flat_map frame taken) status taken mid sent said after end over talk (subst (λ cs. Conversation start cs said end) is h)
+      longer one feeds (flat_map frame taken) status taken mid sent said after end over talk (subst (λ cs. IsConversation start cs said end) is h)
 
   no_rest : (put : List ℕ) (rest : StreamRest) → HasServedAll (flat_map frame taken ++ more) rest put → ⊥
   no_rest put rest h =
@@ -298,7 +298,7 @@ module _ (one : ConversationIsDetermined) (feeds : OneFeed) (taken sent : Conten
       let parts = fed_front (Open []) (Open []) h.rest (flat_map frame taken) more taken (s.answered ++ h.waiting) fed s.feeds in
       let same : (s.sent ≡ sent) × (h.after ≡ after) =
       elim (begins_other s.answered h.waiting taken parts.0 parts.1) [
-        | inl (mid, is) ↦ (let back = longer one feeds (flat_map frame taken) found s.answered mid s.sent sent h.after after ended s.conversation (subst (λ cs. Conversation start cs sent after) is talk) in (back.0, sym back.1))
+        | inl (mid, is) ↦ (let back = longer one feeds (flat_map frame taken) found s.answered mid s.sent sent h.after after ended s.conversation (subst (λ cs. IsConversation start cs sent after) is talk) in (back.0, sym back.1))
         | inr (mid, is) ↦ (let on = nothing_more_said mid s.answered s.sent h.after is s.conversation in (sym on.0, on.1))
       ] in
       (s.frames ∙ ap (flat_map frame) same.0, same_status found status (sym ended ∙ ap (λ (s : ServerState). s.phase) same.1 ∙ over))
@@ -313,6 +313,6 @@ module _ (one : ConversationIsDetermined) (feeds : OneFeed) (taken sent : Conten
   returned put (Err Write) written served = absurd (written.1 refl)
   returned put (Err Memory) written served = absurd (written.0 refl)
 
-pub ended_conversation_is_served : ConversationIsDetermined → OneFeed → Feeds (Open []) [] [] (Open []) → ((contents : Contents) → All (λ content. length content ≤ max_content) contents → Frames (flat_map frame contents) contents []) → EndedConversationIsServed
+pub ended_conversation_is_served : ConversationIsDetermined → OneFeed → Feeds (Open []) [] [] (Open []) → ((contents : Contents) → All (λ content. length content ≤ max_content_length) contents → Frames (flat_map frame contents) contents []) → EndedConversationIsServed
 ended_conversation_is_served one feeds nothing read taken sent after status small talk over more put result written served =
     returned one feeds taken sent after status talk over (read taken small, nothing.1) more put result written served

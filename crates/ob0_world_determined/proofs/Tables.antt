@@ -1,6 +1,6 @@
 -- Proves that two tables of ordinals of one module agree at each token.
 -- A table may be longer than a module's list of tokens, so two tables of one module need not be equal as lists. They
--- have the same ordinal at each token: at an identifier by `IsBindingTable`, and none elsewhere by `OnlyNamesHaveOrdinals`.
+-- have the same ordinal at each token: at an identifier by `IsBindingTable`, and none elsewhere by `OnlyIdentifiersHaveOrdinals`.
 use Rattle.std.proofs.Common.{◌≡◌, ◌∙◌, ◌==◌, ◌||◌, ℕ, Bool, true, false, Option, List, [], ◌∷◌, map, refl, sym, ap, subst, eqb-true}
 use Rattle.std.specs.List.{list_any}
 use Rattle.ob0_scan.specs.TextWithTokens.{TextWithTokens}
@@ -11,7 +11,7 @@ use Rattle.ob0_language_names.specs.Names.{Name, naming_by_spelling}
 use Rattle.ob0_scope_table.specs.Resolution.{Resolution, IsResolution, ordinal_and_spelling_at, is_identifier_token, ordinal_in, ordinal_and_spelling}
 use Rattle.ob0_language_names.specs.Scopes.{relabel_module}
 use Rattle.ob0_world_rules.proofs.OneFields.{leaves_mapped}
-use Rattle.ob0_world_determined.specs.Determined.{TableIsDetermined}
+use Rattle.ob0_world_determined.specs.Determined.{ResolutionIsDetermined}
 
 head_of : {A : Type 0} {x y : A} {xs ys : List A} → x ∷ xs ≡ y ∷ ys → x ≡ y
 head_of e = cc
@@ -46,5 +46,5 @@ module _ (r q : Resolution) (h : IsResolution r) (k : IsResolution q) (source : 
       go true is = among r.module_read.source r.ordinals q.ordinals (identifier_names (tree_of r.module_read)) token is same_bound
       go false is = h.ordinals_only_at_names token is ∙ sym (k.ordinals_only_at_names token (ap (λ t. is_among (identifier_names t) token) (sym tree) ∙ is))
 
-pub table_is_determined : TableIsDetermined
-table_is_determined r q h k (source, tree) token = same_ordinal r q h k source tree token
+pub resolution_is_determined : ResolutionIsDetermined
+resolution_is_determined r q h k (source, tree) token = same_ordinal r q h k source tree token

@@ -4,11 +4,11 @@
 use Rattle.std.specs.Prelude.{◌≡◌, ◌≢◌, ◌≤◌, ◌++◌, ◌⊎◌, ℕ, List, [], length, All, Bool, Result, Ok, Err, ⊤}
 use Rattle.std.specs.List.{flat_map}
 use Rattle.ob0_frame.specs.Frames.{Frames, frame}
-use Rattle.ob0_frame.specs.Head.{max_content}
+use Rattle.ob0_frame.specs.Head.{max_content_length}
 use Rattle.ob0_scope_table.specs.Resolution.{Resolution, IsResolution, ordinal_in}
 use Rattle.ob0_tree.specs.ParsedModule.{ParsedModule, tree_of}
 use Rattle.ob0_analysis.specs.Diagnosed.{ReportedDiagnosis, Reports}
-use Rattle.ob0_session_server.specs.Answers.{ServerState, start, Reply, AreContentsOfReply, Answers, Conversation}
+use Rattle.ob0_session_server.specs.Answers.{ServerState, start, Reply, AreContentsOfReply, Answers, IsConversation}
 use Rattle.ob0_session_server.specs.declared.session.Phase.TheVariants.{Ended}
 use Rattle.ob0_session.specs.Serving.{EndsByExit, Serves}
 use Rattle.ob0_session.specs.declared.serving.ServeFault.{ServeFault}
@@ -17,18 +17,18 @@ use Rattle.ob0_session.specs.declared.serving.ServeFault.TheVariants.{BadHead, T
 -- ---- diagnostics
 
 -- states that two parsed modules have the same tokens and the same tree
-abbrev pub AreSameModule : ParsedModule → ParsedModule → Type 0
-AreSameModule m n = (m.source ≡ n.source) × (tree_of m ≡ tree_of n)
+abbrev pub HaveSameTokensAndTree : ParsedModule → ParsedModule → Type 0
+HaveSameTokensAndTree m n = (m.source ≡ n.source) × (tree_of m ≡ tree_of n)
 
--- States that a module's names are resolved in only one way: two resolutions of the same module
+-- States that a module's names are resolved in at most one way: two resolutions of the same module
 -- agree at each token. Both bind the token to the same declaration, or both leave it unbound.
-abbrev pub TableIsDetermined : Type 0
-TableIsDetermined =
+abbrev pub ResolutionIsDetermined : Type 0
+ResolutionIsDetermined =
     (r q : Resolution) → IsResolution r → IsResolution q
-    → AreSameModule r.module_read q.module_read
+    → HaveSameTokensAndTree r.module_read q.module_read
     → (token : ℕ) → ordinal_in r.ordinals token ≡ ordinal_in q.ordinals token
 
--- states that a text has only one list of diagnostics
+-- states that a text has at most one list of diagnostics
 abbrev pub DiagnosesAreDetermined : Type 0
 DiagnosesAreDetermined =
     (text : List ℕ) (found other : List ReportedDiagnosis)
@@ -36,7 +36,7 @@ DiagnosesAreDetermined =
 
 -- ---- replies
 
--- states that a reply (`Reply`) determines the contents that the session sends for it
+-- states that a reply (`Reply`) determines the contents that the session sends as this reply
 abbrev pub ReplyIsDetermined : Type 0
 ReplyIsDetermined =
     (reply : Reply) (sent other : List (List ℕ))
@@ -55,7 +55,7 @@ AnswerIsDetermined =
 abbrev pub ConversationIsDetermined : Type 0
 ConversationIsDetermined =
     (before : ServerState) (contents sent other : List (List ℕ)) (after end : ServerState)
-    → Conversation before contents sent after → Conversation before contents other end
+    → IsConversation before contents sent after → IsConversation before contents other end
     → (sent ≡ other) × (after ≡ end)
 
 -- ---- bytes
@@ -71,8 +71,8 @@ MayServe result taken put =
 abbrev pub IsFullyWritten : Result ℕ ServeFault → Type 0
 IsFullyWritten result = (result ≢ Err Memory) × (result ≢ Err Write)
 
--- states that the read bytes decide this result of `serve`: an `exit`, the end of the input, or a
--- bad head ended the call
+-- states that the bytes read determine this result of `serve`: an `exit`, the end of the input, or
+-- a bad head ended the call
 abbrev pub IsDeterminedByBytes : Result ℕ ServeFault → Type 0
 IsDeterminedByBytes (Ok status) = ⊤
 IsDeterminedByBytes (Err BadHead) = ⊤
@@ -95,9 +95,9 @@ IsFinalResult (Err Memory) taken put = ⊥
 
 -- States how the outputs of two calls of `serve` are related if the first call's input is a prefix
 -- of the second call's input. If the second call returns neither `Memory` nor `Write`, the first
--- call's output is a prefix of the second call's output. The outputs are equal if the first call
--- also returns neither of these faults, and one more condition is met. Either the inputs are equal,
--- or an `exit` or a bad head ended the first call.
+-- call's output is a prefix of the second call's output. The outputs are equal under two
+-- conditions. First, the first call also returns neither of these faults. Second, either the inputs
+-- are equal, or an `exit` or a bad head ended the first call.
 abbrev pub OutputIsDetermined : Type 0
 OutputIsDetermined =
     (taken more put all : List ℕ) (result end : Result ℕ ServeFault) → IsFullyWritten end
@@ -116,7 +116,8 @@ ResultIsDetermined =
     → IsFinalResult result taken put ⊎ (more ≡ []) → result ≡ end
 
 -- States that each list of bytes can be split into complete messages with some contents, and a rest
--- that doesn't begin with a complete message (`Frames`). The formula is a double negation.
+-- that doesn't begin with a complete message (`Frames`). The formula is a double negation: it is
+-- impossible that there is no such split.
 abbrev pub FramingExists : Type 0
 FramingExists =
     (bytes : List ℕ)
@@ -126,13 +127,13 @@ FramingExists =
 
 -- States that `serve` answers as the session does. If the input of `serve` is the frames of the
 -- contents that a session took, the output is the frames of the contents that the session sent. The
--- law excludes calls that return `Memory` or `Write`, and contents of more than `max_content`
+-- law excludes calls that return `Memory` or `Write`, and contents of more than `max_content_length`
 -- bytes.
 abbrev pub ConversationIsServed : Type 0
 ConversationIsServed =
     (taken sent : List (List ℕ)) (after : ServerState)
-    → All (λ content. length content ≤ max_content) taken
-    → Conversation start taken sent after
+    → All (λ content. length content ≤ max_content_length) taken
+    → IsConversation start taken sent after
     → (put : List ℕ) (result : Result ℕ ServeFault) → IsFullyWritten result
     → MayServe result (flat_map frame taken) put
     → put ≡ flat_map frame sent
@@ -140,12 +141,12 @@ ConversationIsServed =
 -- States that `serve` answers as the session does, even if the input continues. If the input of
 -- `serve` begins with the frames of the contents that a session took, the output begins with the
 -- frames of the contents that the session sent. The law excludes calls that return `Memory` or
--- `Write`, and contents of more than `max_content` bytes.
+-- `Write`, and contents of more than `max_content_length` bytes.
 abbrev pub ConversationIsServedAsPrefix : Type 0
 ConversationIsServedAsPrefix =
     (taken sent : List (List ℕ)) (after : ServerState)
-    → All (λ content. length content ≤ max_content) taken
-    → Conversation start taken sent after
+    → All (λ content. length content ≤ max_content_length) taken
+    → IsConversation start taken sent after
     → (more put : List ℕ) (result : Result ℕ ServeFault) → IsFullyWritten result
     → MayServe result (flat_map frame taken ++ more) put
     → (later : List ℕ) × (put ≡ flat_map frame sent ++ later)
@@ -153,13 +154,13 @@ ConversationIsServedAsPrefix =
 -- States that `serve` ends as the session does. Suppose that the input of `serve` is the frames of
 -- the contents of a conversation that ended, followed by any bytes. Then `serve` writes the frames
 -- of the contents that the session sent, and no more, and returns the conversation's status. The
--- law excludes calls that return `Memory` or `Write`, and contents of more than `max_content`
+-- law excludes calls that return `Memory` or `Write`, and contents of more than `max_content_length`
 -- bytes.
 abbrev pub EndedConversationIsServed : Type 0
 EndedConversationIsServed =
     (taken sent : List (List ℕ)) (after : ServerState) (status : ℕ)
-    → All (λ content. length content ≤ max_content) taken
-    → Conversation start taken sent after
+    → All (λ content. length content ≤ max_content_length) taken
+    → IsConversation start taken sent after
     → after.phase ≡ Ended status
     → (more put : List ℕ) (result : Result ℕ ServeFault) → IsFullyWritten result
     → MayServe result (flat_map frame taken ++ more) put

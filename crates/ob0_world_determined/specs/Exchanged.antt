@@ -5,37 +5,37 @@ use Rattle.std.specs.Prelude.{◌≡◌, ◌≤◌, ◌++◌, ℕ, List, [], ◌
 use Rattle.std.specs.List.{flat_map}
 use Rattle.ob0_text.specs.declared.position_types.Unit.{Unit}
 use Rattle.ob0_frame.specs.Frames.{frame}
-use Rattle.ob0_frame.specs.Head.{max_content}
+use Rattle.ob0_frame.specs.Head.{max_content_length}
 use Rattle.ob0_session.specs.Serving.{HasServedPrefix}
 use Rattle.ob0_session.specs.declared.serving.ServeFault.{ServeFault}
 use Rattle.ob0_world_rules.specs.EveryEditor.{Turn}
 use Rattle.serde_json.specs.Data.{Data}
-use Rattle.ob0_session_server.specs.Answers.{ServerState, Conversation}
-use Rattle.ob0_world.specs.Exchanges.{Exchange, BeginsExchange, ExchangeCourse, IsShutdown, IsExit, HoldsOfExchange}
+use Rattle.ob0_session_server.specs.Answers.{ServerState, IsConversation}
+use Rattle.ob0_world.specs.Exchanges.{Exchange, IsInitialExchange, IsExchangeCourse, IsShutdownRequest, IsExitNotification, HoldsForExchange}
 use Rattle.ob0_world_determined.specs.Determined.{MayServe, IsFullyWritten}
 
 -- States the guarantees for an exchange of a session and an editor that keeps ob0's rules, and for
 -- the bytes that `serve` writes in this exchange.
-pub record ServedExchange (begin now : Exchange) : Type 0 where
-  pub holds : HoldsOfExchange begin now
+pub record IsServedExchange (begin now : Exchange) : Type 0 where
+  pub holds : HoldsForExchange begin now
   -- If the input of `serve` is the frames of the contents that the session took, `serve` writes the
   -- frames of the contents that the session sent. This holds unless `serve` returns `Memory` or
-  -- `Write`, or a content is longer than `max_content`.
-  pub written : All (λ content. length content ≤ max_content) now.wire.taken
+  -- `Write`, or a content is longer than `max_content_length`.
+  pub written : All (λ content. length content ≤ max_content_length) now.wire.taken
       → (put : List ℕ) (result : Result ℕ ServeFault) → IsFullyWritten result
       → MayServe result (flat_map frame now.wire.taken) put
       → put ≡ flat_map frame (now.wire.got ++ now.wire.to_editor)
   -- If more bytes follow these frames in the input, `serve` writes the same frames first.
-  pub written_first : All (λ content. length content ≤ max_content) now.wire.taken
+  pub written_first : All (λ content. length content ≤ max_content_length) now.wire.taken
       → (more put : List ℕ) (result : Result ℕ ServeFault) → IsFullyWritten result
       → MayServe result (flat_map frame now.wire.taken ++ more) put
       → (later : List ℕ) × (put ≡ flat_map frame (now.wire.got ++ now.wire.to_editor) ++ later)
   -- If the session next takes `shutdown` and `exit`, `serve` also writes the frame of the answer to
   -- `shutdown`, and returns 0. Any bytes may follow these frames in the input.
-  pub ended : (id : Data) (shutdown exit : List ℕ) → IsShutdown id shutdown → IsExit exit
+  pub ended : (id : Data) (shutdown exit : List ℕ) → IsShutdownRequest id shutdown → IsExitNotification exit
       → (sent : List (List ℕ)) (end : ServerState)
-      → Conversation now.wire.session (shutdown ∷ exit ∷ []) sent end
-      → All (λ content. length content ≤ max_content) (now.wire.taken ++ shutdown ∷ exit ∷ [])
+      → IsConversation now.wire.session (shutdown ∷ exit ∷ []) sent end
+      → All (λ content. length content ≤ max_content_length) (now.wire.taken ++ shutdown ∷ exit ∷ [])
       → (more put : List ℕ) (result : Result ℕ ServeFault) → IsFullyWritten result
       → MayServe result (flat_map frame (now.wire.taken ++ shutdown ∷ exit ∷ []) ++ more) put
       → (put ≡ flat_map frame ((now.wire.got ++ now.wire.to_editor) ++ sent)) × (result ≡ Ok 0)
@@ -46,11 +46,11 @@ pub record ServedExchange (begin now : Exchange) : Type 0 where
       → part.answered ≡ now.wire.taken
       → put ≡ flat_map frame (now.wire.got ++ now.wire.to_editor)
 
--- states that each exchange of a session with an editor that keeps ob0's rules has these guarantees
--- (`ServedExchange`)
+-- states that each exchange of a session and an editor that keeps ob0's rules has these guarantees
+-- (`IsServedExchange`)
 abbrev pub EveryExchangeIsServed : Type 0
 EveryExchangeIsServed =
     (unit : Unit) (begin now : Exchange) (turns : List Turn)
-    → BeginsExchange unit begin
-    → ExchangeCourse begin turns now
-    → ServedExchange begin now
+    → IsInitialExchange unit begin
+    → IsExchangeCourse begin turns now
+    → IsServedExchange begin now

@@ -1,6 +1,6 @@
 //! Proves that the server's input determines the server's output, and that `serve` writes the
 //! frames of a conversation: each message's head and content.
-ghost use Rattle.ob0_world_determined.specs.Determined.{FramingExists, ConversationIsServed, ConversationIsServedAsPrefix, EndedConversationIsServed, AnswerIsDetermined, ConversationIsDetermined, DiagnosesAreDetermined, OutputIsDetermined, ReplyIsDetermined, ResultIsDetermined, TableIsDetermined};
+ghost use Rattle.ob0_world_determined.specs.Determined.{FramingExists, ConversationIsServed, ConversationIsServedAsPrefix, EndedConversationIsServed, AnswerIsDetermined, ConversationIsDetermined, DiagnosesAreDetermined, OutputIsDetermined, ReplyIsDetermined, ResultIsDetermined, ResolutionIsDetermined};
 ghost use Rattle.ob0_world_determined.specs.Exchanged.{EveryExchangeIsServed};
 
 use ob0_analysis::laws::refusal_is_unique;
@@ -10,27 +10,27 @@ use ob0_frame::laws::{
 use ob0_scan::laws::{reported_faults_are_unique, scan_is_unique};
 use ob0_world::laws::holds_for_every_exchange;
 
-/// Proves that a module's names are resolved in only one way: two resolutions of the same module
+/// Proves that a module's names are resolved in at most one way: two resolutions of the same module
 /// agree at each token. Both bind the token to the same declaration, or both leave it unbound.
-pub fn table_is_determined()
-    ensures { TableIsDetermined }
+pub fn resolution_is_determined()
+    ensures { ResolutionIsDetermined }
 {}
 
-/// Proves that a text has only one list of diagnostics.
+/// Proves that a text has at most one list of diagnostics.
 pub fn diagnoses_are_determined()
     ensures { DiagnosesAreDetermined }
 {
-    table_is_determined();
+    resolution_is_determined();
     scan_is_unique();
     reported_faults_are_unique();
     refusal_is_unique();
 }
 
-/// Proves that a reply (`Reply`) determines the contents that the session sends for it.
+/// Proves that a reply (`Reply`) determines the contents that the session sends as this reply.
 pub fn reply_is_determined()
     ensures { ReplyIsDetermined }
 {
-    table_is_determined();
+    resolution_is_determined();
     diagnoses_are_determined();
 }
 
@@ -52,10 +52,10 @@ pub fn conversation_is_determined()
 
 /// Proves how the outputs of two calls of `serve` are related if the first call's input is a prefix
 /// of the second call's input. If the second call returns neither `Memory` nor `Write`, the first
-/// call's output is a prefix of the second call's output. The outputs are equal if the first call
-/// also returns neither of these faults, and one more condition is met. Either the inputs are
-/// equal, or an `exit` or a bad head ended the first call. So it makes no difference how an input
-/// is cut into pieces.
+/// call's output is a prefix of the second call's output. The outputs are equal under two
+/// conditions. First, the first call also returns neither of these faults. Second, either the
+/// inputs are equal, or an `exit` or a bad head ended the first call. So it makes no difference how
+/// an input is cut into pieces.
 pub fn output_is_determined()
     ensures { OutputIsDetermined }
 {
@@ -81,8 +81,8 @@ pub fn framing_exists()
 
 /// Proves that `serve` answers as the session does. If the input of `serve` is the frames of the
 /// contents that a session took, the output is the frames of the contents that the session sent.
-/// The law excludes calls that return `Memory` or `Write`, and contents of more than `max_content`
-/// bytes.
+/// The law excludes calls that return `Memory` or `Write`, and contents of more than
+/// `max_content_length` bytes.
 pub fn a_conversation_is_served()
     ensures { ConversationIsServed }
 {
@@ -95,7 +95,7 @@ pub fn a_conversation_is_served()
 /// Proves that `serve` answers as the session does, even if the input continues. If the input of
 /// `serve` begins with the frames of the contents that a session took, the output begins with the
 /// frames of the contents that the session sent. The law excludes calls that return `Memory` or
-/// `Write`, and contents of more than `max_content` bytes.
+/// `Write`, and contents of more than `max_content_length` bytes.
 pub fn a_conversation_is_served_as_prefix()
     ensures { ConversationIsServedAsPrefix }
 {
@@ -108,8 +108,8 @@ pub fn a_conversation_is_served_as_prefix()
 /// Proves that `serve` ends as the session does. Suppose that the input of `serve` is the frames of
 /// the contents of a conversation that ended, followed by any bytes. Then `serve` writes the frames
 /// of the contents that the session sent, and no more, and returns the conversation's status. The
-/// law excludes calls that return `Memory` or `Write`, and contents of more than `max_content`
-/// bytes.
+/// law excludes calls that return `Memory` or `Write`, and contents of more than
+/// `max_content_length` bytes.
 pub fn an_ended_conversation_is_served()
     ensures { EndedConversationIsServed }
 {
@@ -120,11 +120,11 @@ pub fn an_ended_conversation_is_served()
 }
 
 /// Proves the guarantees of `serve` for every editor that keeps ob0's rules. Each exchange of the
-/// editor with a session has the guarantees of `HoldsOfExchange`. Suppose that the input of `serve`
-/// is the frames of the contents that the session took, each of at most `max_content` bytes. Then
-/// `serve` writes the frames of the contents that the session sent, unless `serve` returns `Memory`
-/// or `Write`. If `serve` returns `Memory` after it has answered exactly these contents, it has
-/// written the same frames.
+/// editor with a session has the guarantees of `HoldsForExchange`. Suppose that the input of
+/// `serve` is the frames of the contents that the session took, each of at most
+/// `max_content_length` bytes. Then `serve` writes the frames of the contents that the session
+/// sent, unless `serve` returns `Memory` or `Write`. If `serve` returns `Memory` after it has
+/// answered exactly these contents, it has written the same frames.
 pub fn every_exchange_is_served()
     ensures { EveryExchangeIsServed }
 {

@@ -8,7 +8,7 @@ use Rattle.serde_json.specs.Read.{read}
 use Rattle.ob0_text.specs.OpenDocuments.{DocumentEvent, Opened, Changed, Lost, Closed}
 use Rattle.ob0_rpc.specs.Messages.{ReadsContent, meaning_of}
 use Rattle.ob0_world_rules.specs.ClientAndServer.{SentAsk, MessageToServer, notifies, requests}
-use Rattle.ob0_world_editor.specs.MessagesToServer.{request_number, message_to_server_in, message_to_server_of, message_of_notification, notification_for, IsMessageToServer}
+use Rattle.ob0_world_editor.specs.MessagesToServer.{request_number_from_id, message_to_server_in, message_to_server_of, message_of_notification, notification_for, IsMessageToServer}
 use Rattle.ob0_world_editor.specs.MessagesToEditor.{message_to_editor_in, message_to_editor_of, message_to_editor_by}
 
 -- A content in UTF-8 with a known JSON value is read as that value.
@@ -20,15 +20,15 @@ pub read_as : (number_of : Data → Option ℕ) (requested : List SentAsk) (cont
 unfolding message_to_editor_by
 read_as number_of requested content d reads = said (message_to_editor_of number_of requested) content d reads
 
-pub understood_as : (requested : List SentAsk) (content : List ℕ) (d : Data) → ReadsContent content (Some d) → message_to_editor_in requested content ≡ message_to_editor_of request_number requested d
-understood_as requested content d reads = read_as request_number requested content d reads
+pub understood_as : (requested : List SentAsk) (content : List ℕ) (d : Data) → ReadsContent content (Some d) → message_to_editor_in requested content ≡ message_to_editor_of request_number_from_id requested d
+understood_as requested content d reads = read_as request_number_from_id requested content d reads
 
 pub not_understood : (requested : List SentAsk) (content : List ℕ) → ReadsContent content None → message_to_editor_in requested content ≡ None
 unfolding message_to_editor_by
 not_understood requested content reads = go (is_utf8 content) refl
   where
-    go : (b : Bool) → is_utf8 content ≡ b → cond b (option_and_then (message_to_editor_of request_number requested) (read content)) None ≡ None
-    go true is = ap (option_and_then (message_to_editor_of request_number requested)) (reads (IsUtf8-from_is_utf8 content is))
+    go : (b : Bool) → is_utf8 content ≡ b → cond b (option_and_then (message_to_editor_of request_number_from_id requested) (read content)) None ≡ None
+    go true is = ap (option_and_then (message_to_editor_of request_number_from_id requested)) (reads (IsUtf8-from_is_utf8 content is))
     go false is = refl
 
 -- The notification for an event is read as that event.

@@ -11,12 +11,12 @@ use Rattle.ob0_text.specs.declared.position_types.Range.{Range}
 use Rattle.ob0_text.specs.OpenDocuments.{Opened, Changed, Closed, TextChange, text_change_of}
 use Rattle.ob0_rpc.specs.Requesting.{request_by_method}
 use Rattle.ob0_rpc.specs.Messages.{ReadsContent}
-use Rattle.ob0_rpc.specs.Notifications.{content_change, all_changes, change_or_unreadable, open_or_unreadable}
+use Rattle.ob0_rpc.specs.Notifications.{content_change, changes_of_items, change_or_unreadable, open_or_unreadable}
 use Rattle.ob0_rpc.specs.Shapes.{notification_message}
 use Rattle.ob0_world_rules.specs.Edited.{whole_text_change}
 use Rattle.ob0_world_rules.specs.Asks.{Ask, rename, inline_here, inline_all, format}
-use Rattle.ob0_world_editor.specs.Shapes.{request_message, change_object, change_value, change_params, open_params, close_params, params_for, method_of}
-use Rattle.ob0_world_editor.specs.MessagesToServer.{IsNotificationFor, IsRequest, client_request_for}
+use Rattle.ob0_world_editor.specs.Shapes.{request_message, change_object, change_value, change_params, open_params, close_params, params_for, method_of_ask}
+use Rattle.ob0_world_editor.specs.MessagesToServer.{IsNotificationFor, IsRequestWithNumber, client_request_for}
 
 -- ---- depths
 
@@ -31,7 +31,7 @@ shallow_changes (c ∷ cs) = omega (arith, shallow_change c.range (string_bytes 
 pub shallow_change_params : (uri : List ℕ) (version : ℕ) (cs : List Change) → depth (change_params uri version (map change_value cs)) ≤ 126
 shallow_change_params uri version cs = omega (arith, shallow_changes cs)
 
-pub shallow_request : (k : ℕ) (uri : List ℕ) (ask : Ask) → depth (request_message k (method_of ask) (params_for uri ask)) ≤ 127
+pub shallow_request : (k : ℕ) (uri : List ℕ) (ask : Ask) → depth (request_message k (method_of_ask ask) (params_for uri ask)) ≤ 127
 shallow_request k uri (rename position name) = omega arith
 shallow_request k uri (inline_here position) = omega arith
 shallow_request k uri (inline_all position) = omega arith
@@ -44,7 +44,7 @@ read_back : (range : Option Range) (new : List ℕ) → content_change (change_o
 read_back (Some range) new = refl
 read_back None new = refl
 
-changes_read_back : (cs : List Change) → all_changes (items_of (map change_value cs)) ≡ Some (map text_change_of cs)
+changes_read_back : (cs : List Change) → changes_of_items (items_of (map change_value cs)) ≡ Some (map text_change_of cs)
 changes_read_back [] = refl
 changes_read_back (c ∷ cs) = rw (read_back c.range (string_bytes c.text), changes_read_back cs) refl
 
@@ -70,7 +70,7 @@ opening_reported content uri version text h reads =
       fits = version_read version h;
     }
 
-changed_so : (content uri : List ℕ) (version : ℕ) (values : List Data) (all : List TextChange) → version < 2 ^ 63 → all_changes (items_of values) ≡ Some all
+changed_so : (content uri : List ℕ) (version : ℕ) (values : List Data) (all : List TextChange) → version < 2 ^ 63 → changes_of_items (items_of values) ≡ Some all
     → ReadsContent content (Some (notification_message (codes "textDocument/didChange") (change_params uri version values))) → IsNotificationFor (Changed uri (pos version) all) content
 changed_so content uri version values all h are reads =
     record {
@@ -105,11 +105,11 @@ closing_reported content uri reads =
 
 -- ---- asks
 
-pub ask_requested : (content : List ℕ) (k : ℕ) (uri : List ℕ) (ask : Ask) → ReadsContent content (Some (request_message k (method_of ask) (params_for uri ask))) → IsRequest k uri ask content
+pub ask_requested : (content : List ℕ) (k : ℕ) (uri : List ℕ) (ask : Ask) → ReadsContent content (Some (request_message k (method_of_ask ask) (params_for uri ask))) → IsRequestWithNumber k uri ask content
 ask_requested content k uri ask reads =
-    record { json = request_message k (method_of ask) (params_for uri ask); reads = reads; params = params_for uri ask; means = refl; calls = called ask }
+    record { json = request_message k (method_of_ask ask) (params_for uri ask); reads = reads; params = params_for uri ask; means = refl; calls = called ask }
   where
-    called : (ask : Ask) → request_by_method (method_of ask) (params_for uri ask) ≡ Ok (client_request_for uri ask)
+    called : (ask : Ask) → request_by_method (method_of_ask ask) (params_for uri ask) ≡ Ok (client_request_for uri ask)
     called (rename position name) = refl
     called (inline_here position) = refl
     called (inline_all position) = refl

@@ -12,14 +12,14 @@ use Rattle.ob0_world_rules.specs.Edited.{replacements}
 use Rattle.ob0_world_rules.specs.Asks.{Ask, rename, inline_here, inline_all, format}
 use Rattle.ob0_world_rules.specs.ClientAndServer.{SentAsk, Answer, Applied, MessageToEditor, publishes, answers}
 
--- returns the model's request for edits for a value of the code's type `Ask`
+-- converts a request for edits of the code's type `Ask` to the model's
 abbrev pub ask_of : ask.Ask → Ask
 ask_of (ask.TheVariants.Rename position name) = rename position (string_bytes name)
 ask_of (ask.TheVariants.InlineHere position) = inline_here position
 ask_of (ask.TheVariants.InlineAll position) = inline_all position
 ask_of (ask.TheVariants.Format indent) = format indent
 
--- returns the model's sent request for a value of the code's type `SentAsk`
+-- converts a sent request of the code's type `SentAsk` to the model's
 abbrev pub sent_ask_of : requested.SentAsk → SentAsk
 sent_ask_of a =
     record {
@@ -30,17 +30,17 @@ sent_ask_of a =
       version = pos a.version;
     }
 
--- returns the model's answer for a value of the code's type `ReceivedAnswer`
+-- converts an answer of the code's type `ReceivedAnswer` to the model's
 abbrev pub answer_of : answer.ReceivedAnswer → Answer
 answer_of a = record { number = a.number; edits = replacements a.edits.items }
 
--- returns the model's message to the editor for a value of the code's type `Message`
+-- converts a message of the code's type `Message` to the model's message to the editor
 abbrev pub message_of : message.Message → MessageToEditor
 message_of (message.TheVariants.Published uri version empty) =
     publishes (string_bytes uri) version empty
 message_of (message.TheVariants.Answered number edits) = answers number (replacements edits.items)
 
--- returns the model's applied edit for a value of the code's type `Applied`
+-- converts an applied edit of the code's type `Applied` to the model's
 abbrev pub applied_of : applied.Applied → Applied
 applied_of a =
     record {

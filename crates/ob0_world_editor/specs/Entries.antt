@@ -8,24 +8,24 @@ use Rattle.std.specs.Coded.{Coded, code_by, coded×, coded_ℕ, coded_ℤ, coded
 use Rattle.ob0_world_editor.specs.declared.documents.OpenDocument as stored
 use Rattle.ob0_world_rules.specs.ClientAndServer.{OpenDocument, EditorDocuments}
 
--- returns the model's open document for a value of the code's type `OpenDocument`
+-- converts an open document of the code's type `OpenDocument` to the model's
 abbrev pub open_document_of : stored.OpenDocument → OpenDocument
 open_document_of d =
     record { version = pos d.version; text = chars (string_bytes d.text); opening = d.opening }
 
--- returns the model's map of open documents for the entries of the code's map, each a uri and a
--- document; the model's keys are the bytes of the uris
+-- converts the entries of the code's map of open documents, each a uri and a document, to the
+-- model's map; the model's keys are the bytes of the uris
 abbrev pub editor_documents_of : {A : Type 0} → List (String A × stored.OpenDocument) → EditorDocuments
 editor_documents_of entries =
     map_of.from_entries (map (λ e. (string_bytes e.0, open_document_of e.1)) entries)
 
--- encodes an open document as the tuple of its version, text and opening number
-abbrev pub open_document_code : Coded OpenDocument
-open_document_code =
+-- the encoding of an open document as a tuple of its version, text and opening number
+abbrev pub coded_open_document : Coded OpenDocument
+coded_open_document =
     code_by (ℤ × (List ℕ × ℕ)) (coded× coded_ℤ (coded× (coded_list coded_ℕ) coded_ℕ))
     (λ d. (d.version, (d.text, d.opening)))
     (λ p. record { version = p.0; text = p.1.0; opening = p.1.1 }) (λ d. refl)
 
--- encodes the model's map of open documents as a map of encoded documents
-abbrev pub open_documents_code : Coded EditorDocuments
-open_documents_code = map_of.code (coded_list coded_ℕ) open_document_code
+-- the encoding of the model's map of open documents as a map of encoded documents
+abbrev pub coded_editor_documents : Coded EditorDocuments
+coded_editor_documents = map_of.code (coded_list coded_ℕ) coded_open_document

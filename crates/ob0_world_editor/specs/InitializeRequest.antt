@@ -24,19 +24,20 @@ workspace_edit_capability = object (member (codes "documentChanges") (boolean tr
 abbrev pub workspace_capabilities : Data
 workspace_capabilities = object (member (codes "workspaceEdit") workspace_edit_capability no_members)
 
--- the general capabilities, which offer UTF-8: {"positionEncodings":["utf-8"]}
+-- the general capabilities, which offer to count positions in UTF-8:
+-- {"positionEncodings":["utf-8"]}
 abbrev pub general_capabilities : Data
 general_capabilities =
     object
     (member (codes "positionEncodings") (array (item (string (codes "utf-8")) no_items)) no_members)
 
 -- Returns the members of the client's capabilities: `general`, `textDocument` and `workspace`. If
--- positions count in UTF-16 units, there is no `general`.
-abbrev pub capabilities_for : Unit → Members
-capabilities_for Utf16 =
+-- positions are counted in UTF-16 units, there is no `general`.
+abbrev pub client_capability_members : Unit → Members
+client_capability_members Utf16 =
     member (codes "textDocument") text_document_capabilities
     (member (codes "workspace") workspace_capabilities no_members)
-capabilities_for Utf8 =
+client_capability_members Utf8 =
     member (codes "general") general_capabilities (member (codes "textDocument") text_document_capabilities
     (member (codes "workspace") workspace_capabilities no_members))
 
@@ -48,12 +49,13 @@ initialize_message unit =
     (member (codes "jsonrpc") (string (codes "2.0"))
     (member (codes "method") (string (codes "initialize"))
     (member (codes "params")
-    (object (member (codes "capabilities") (object (capabilities_for unit)) no_members))
+    (object (member (codes "capabilities") (object (client_capability_members unit)) no_members))
     no_members))))
 
--- returns the client's features, as the server reads them in the request `initialize` for this unit
-abbrev pub client_for : Unit → ClientFeatures
-client_for unit =
+-- returns the features of a client that counts positions in this unit, as the server reads them in
+-- its request `initialize`
+abbrev pub client_features_for : Unit → ClientFeatures
+client_features_for unit =
     record {
       offers_utf8 = is_utf8 unit;
       prepares_renames = false;

@@ -11,85 +11,85 @@ use Rattle.ob0_rpc.specs.Members.{text_member, range_member}
 use Rattle.ob0_world_rules.specs.Edited.{Replacement}
 use Rattle.ob0_world_rules.specs.Asks.{Ask, rename, inline_here, inline_all, format}
 use Rattle.ob0_world_rules.specs.ClientAndServer.{SentAsk, request_numbered, MessageToEditor, publishes, answers}
-use Rattle.ob0_world_editor.specs.MessagesToServer.{request_number}
+use Rattle.ob0_world_editor.specs.MessagesToServer.{request_number_from_id}
 
 -- ---- publications
 
--- returns whether the optional text `found` is equal to `text`; false for None
-abbrev pub is_given_text : List ℕ → Option (List ℕ) → Bool
-is_given_text text (Some found) = bytes_eq found text
-is_given_text text None = false
+-- returns whether the optional text `found` exists and equals `text`
+abbrev pub equals_optional_text : List ℕ → Option (List ℕ) → Bool
+equals_optional_text text (Some found) = bytes_eq found text
+equals_optional_text text None = false
 
 -- returns whether a JSON list is empty
 abbrev pub has_no_items : Items → Bool
 has_no_items no_items = true
 has_no_items (item d ds) = false
 
--- Returns the publication with this uri, version and list of diagnostics. None if the uri or the
--- list is missing.
-abbrev pub publication_from_parts : Option (List ℕ) → Option ℤ → Option Items → Option MessageToEditor
-publication_from_parts (Some uri) version (Some diagnostics) =
+-- Returns the publication with this uri, version and list of diagnostics. Returns None if the uri
+-- or the list is missing.
+abbrev pub publication_if_complete : Option (List ℕ) → Option ℤ → Option Items → Option MessageToEditor
+publication_if_complete (Some uri) version (Some diagnostics) =
     Some (publishes uri version (has_no_items diagnostics))
-publication_from_parts (Some uri) version None = None
-publication_from_parts None version diagnostics = None
+publication_if_complete (Some uri) version None = None
+publication_if_complete None version diagnostics = None
 
--- Returns the publication that the params of a notification mean. None if the uri or the
+-- Returns the publication that the params of a notification mean. Returns None if the uri or the
 -- diagnostics can't be read.
 abbrev pub publication_of_params : Data → Option MessageToEditor
 publication_of_params params =
-    publication_from_parts (text_member (codes "uri") params)
+    publication_if_complete (text_member (codes "uri") params)
     (option_and_then as_i64 (option_and_then as_number (get (codes "version") params)))
     (option_and_then as_array (get (codes "diagnostics") params))
 
 -- ---- edits
 
--- Returns the edit with this range and text. None if one of them is missing.
-abbrev pub edit_from_parts : Option Range → Option (List ℕ) → Option Replacement
-edit_from_parts (Some range) (Some text) = Some (record { range = range; text = chars text })
-edit_from_parts (Some range) None = None
-edit_from_parts None text = None
+-- Returns the edit with this range and text, or None if one of them is missing.
+abbrev pub edit_if_complete : Option Range → Option (List ℕ) → Option Replacement
+edit_if_complete (Some range) (Some text) = Some (record { range = range; text = chars text })
+edit_if_complete (Some range) None = None
+edit_if_complete None text = None
 
--- Returns the edit that a JSON value means. None if the value can't be read as an edit.
+-- Returns the edit that a JSON value means. Returns None if the value can't be read as an edit.
 abbrev pub edit_in : Data → Option Replacement
-edit_in d = edit_from_parts (range_member (codes "range") d) (text_member (codes "newText") d)
+edit_in d = edit_if_complete (range_member (codes "range") d) (text_member (codes "newText") d)
 
--- Returns the edits that a list of JSON values means, in order. None if one of the values can't be
--- read as an edit.
+-- Returns the edits that a list of JSON values means, in order. Returns None if one of the values
+-- can't be read as an edit.
 abbrev pub edits_in : Items → Option (List Replacement)
 edits_in no_items = Some []
 edits_in (item d ds) = option_and_then (λ e. option_map (λ es. e ∷ es) (edits_in ds)) (edit_in d)
 
--- Returns the list of edits of the document with this uri in a WorkspaceEdit. The third argument is
--- the value of `documentChanges`, or None if there is no such member. If there is such a member,
--- the list is in its first element. Otherwise the list is in `changes`, under the uri. None if
--- there is no such list.
+-- Returns the list of edits in a WorkspaceEdit. The third argument is the value of
+-- `documentChanges`. If it isn't None, the list is in its first element, whose uri is ignored.
+-- Otherwise the list is in `changes`, under this uri. Returns None if there is no such list.
 abbrev pub document_edit_items : List ℕ → Data → Option Data → Option Items
 document_edit_items uri edit (Some documents) =
     option_and_then as_array (option_and_then (get (codes "edits")) (at 0 documents))
 document_edit_items uri edit None =
     option_and_then as_array (option_and_then (get uri) (get (codes "changes") edit))
 
--- Returns the list of edits of the document with this uri in a WorkspaceEdit. None if there is no
--- such list.
+-- Returns the list of edits in a WorkspaceEdit (`document_edit_items`), or None if there is no such
+-- list. The uri is used only if the WorkspaceEdit has no `documentChanges`.
 abbrev pub workspace_edit_items : List ℕ → Data → Option Items
 workspace_edit_items uri edit = document_edit_items uri edit (get (codes "documentChanges") edit)
 
--- Returns the first code action with this title in a JSON list. None if no action has this title.
+-- Returns the first code action with this title in a JSON list, or None if no action has this
+-- title.
 abbrev pub first_action_with_title : List ℕ → Items → Option Data
 first_action_with_title title no_items = None
 first_action_with_title title (item d ds) =
-    if is_given_text title (text_member (codes "title") d) then Some d else first_action_with_title title ds
+    if equals_optional_text title (text_member (codes "title") d) then Some d else first_action_with_title title ds
 
--- Returns the list of edits of the document with this uri in the first code action with this title.
--- `value` is the JSON list of actions. None if there is no such list.
+-- Returns the list of edits (`workspace_edit_items`) in the first code action with this title.
+-- `value` is the JSON list of actions. Returns None if there is no such list.
 abbrev pub action_edit_items : List ℕ → List ℕ → Data → Option Items
 action_edit_items title uri value =
     option_and_then (workspace_edit_items uri)
     (option_and_then (get (codes "edit")) (option_and_then (first_action_with_title title) (as_array value)))
 
--- Returns the list of edits in `value`, the result of an ask (request for edits). None if there is
--- no such list. The result of a rename is a WorkspaceEdit. The result of an inlining is a list of
--- actions, of which the ask selects one by its title. The result of a formatting is the list of
+-- Returns the list of edits in `value`, the result of an ask (request for edits), or None if there
+-- is no such list. The result of a rename is a WorkspaceEdit. The result of an inlining is a list
+-- of actions, of which the ask selects one by its title. The result of a formatting is the list of
 -- edits.
 abbrev pub edit_items_for : List ℕ → Ask → Data → Option Items
 edit_items_for uri (rename position name) value = workspace_edit_items uri value
@@ -98,17 +98,17 @@ edit_items_for uri (inline_all position) value = action_edit_items (codes "Inlin
 edit_items_for uri (format indent) value = as_array value
 
 -- Returns the edits in the answer to an ask (request for edits) about the document with this uri.
--- The list is empty if the answer has no list of edits, such as a refusal or the result null. The
--- list is also empty if one of the edits can't be read.
+-- There are none if the answer has no list of edits, for example if it is a refusal or has the
+-- result null. There are also none if one of the edits can't be read.
 abbrev pub edits_for : List ℕ → Ask → Data → List Replacement
 edits_for uri ask answer =
     unwrap_or
     (option_and_then edits_in (option_and_then (edit_items_for uri ask) (get (codes "result") answer))) []
 
--- Returns the answer to the request with this number, with its edits. None if there is no such
--- request.
-abbrev pub answer_to : List SentAsk → Data → ℕ → Option MessageToEditor
-answer_to requested answer k =
+-- Returns the answer to the request with this number, with its edits. Returns None if there is no
+-- such request.
+abbrev pub answer_to_ask : List SentAsk → Data → ℕ → Option MessageToEditor
+answer_to_ask requested answer k =
     option_map (λ a. answers k (edits_for a.uri a.ask answer)) (request_numbered requested k)
 
 -- Reads a JSON value as the answer to one of the sent requests for edits (`requested`). `number_of`
@@ -116,35 +116,35 @@ answer_to requested answer k =
 -- or belongs to no such request.
 abbrev pub answer_of_response : (Data → Option ℕ) → List SentAsk → Data → Option MessageToEditor
 answer_of_response number_of requested answer =
-    option_and_then (answer_to requested answer)
+    option_and_then (answer_to_ask requested answer)
     (option_and_then number_of (get (codes "id") answer))
 
 -- ---- messages
 
--- Returns the publication that a notification means. None if the method isn't
+-- Returns the publication that a notification means. Returns None if the method isn't
 -- `textDocument/publishDiagnostics`, or if the params can't be read.
 abbrev pub publication_of_notification : Data → Option MessageToEditor
 publication_of_notification d =
-    if is_given_text (codes "textDocument/publishDiagnostics") (text_member (codes "method") d)
+    if equals_optional_text (codes "textDocument/publishDiagnostics") (text_member (codes "method") d)
     then option_and_then publication_of_params (get (codes "params") d) else None
 
 -- Returns the message to the editor that a JSON value means: a publication if the value has a
 -- `method`, otherwise an answer. `number_of` converts an answer's id to the number of the answered
--- request. None if there is no such message.
+-- request. Returns None if the value is neither.
 abbrev pub message_to_editor_of : (Data → Option ℕ) → List SentAsk → Data → Option MessageToEditor
 message_to_editor_of number_of requested d =
     if is_some (get (codes "method") d)
     then publication_of_notification d else answer_of_response number_of requested d
 
--- Returns the message to the editor in a content. `requested` are the requests for edits that the
--- editor has sent. `number_of` converts an answer's id to the number of the answered request. None
--- if the content has no such message.
+-- Returns the message to the editor in a content, or None if there is none. `requested` lists the
+-- requests for edits that the editor has sent. `number_of` converts an answer's id to the number of
+-- the answered request.
 unfoldable pub message_to_editor_by : (Data → Option ℕ) → List SentAsk → List ℕ → Option MessageToEditor
 message_to_editor_by number_of requested content =
     if is_utf8 content
     then option_and_then (message_to_editor_of number_of requested) (read content) else None
 
--- Returns the message to the editor in a content, for an editor whose requests for edits have their
--- numbers as ids. None if the content has no such message.
+-- Returns the message to the editor in a content, or None if there is none. The id of each of the
+-- editor's requests for edits is the request's number.
 abbrev pub message_to_editor_in : List SentAsk → List ℕ → Option MessageToEditor
-message_to_editor_in requested content = message_to_editor_by request_number requested content
+message_to_editor_in requested content = message_to_editor_by request_number_from_id requested content

@@ -1,6 +1,6 @@
--- Defines the message of the model that a content to the server means. The message is found by the
--- definitions with which the server reads contents.
--- Rule: docs/PROTOCOL.md, Contents, JSON shapes 4.
+-- Defines which message of the model a content to the server means. A notification is read by the
+-- definitions with which the server reads it. A request is identified by its id, which is the
+-- number of a sent request for edits.
 use Rattle.std.specs.Prelude.{◌≡◌, ⊤, ℕ, List, Option, Some, None, Ok, option_and_then, option_map, if◌then◌else◌}
 use Rattle.std.specs.Str.{is_utf8}
 use Rattle.serde_json.specs.Data.{Data, null, boolean, number, string, array, object, unsigned, negative, float}
@@ -13,24 +13,24 @@ use Rattle.ob0_rpc.specs.Messages.{ReadsContent, MessageMeaning, not_json, not_a
 use Rattle.ob0_rpc.specs.Notifications.{Notification, exits, opens, changes, closes, unreadable, other, notification_by_method}
 use Rattle.ob0_world_rules.specs.Asks.{Ask, rename, inline_here, inline_all, format, clamped_indent}
 use Rattle.ob0_world_rules.specs.ClientAndServer.{SentAsk, request_numbered, MessageToServer, notifies, requests}
-use Rattle.ob0_world_editor.specs.Shapes.{method_of, empty_range_at}
+use Rattle.ob0_world_editor.specs.Shapes.{method_of_ask, empty_range_at}
 
 -- ---- the message to the server in a content; the id of a request is the number of its ask
 
--- Returns the number that this JSON value, the id of a request, is. None if the value isn't a whole
--- number, or is negative.
-abbrev pub request_number : Data → Option ℕ
-request_number (number (unsigned k)) = Some k
-request_number (number (negative z)) = None
-request_number (number (float x)) = None
-request_number null = None
-request_number (boolean b) = None
-request_number (string s) = None
-request_number (array ds) = None
-request_number (object ms) = None
+-- Returns the number of a request whose id is this JSON value. Returns None if the value isn't a
+-- whole number, or is negative.
+abbrev pub request_number_from_id : Data → Option ℕ
+request_number_from_id (number (unsigned k)) = Some k
+request_number_from_id (number (negative z)) = None
+request_number_from_id (number (float x)) = None
+request_number_from_id null = None
+request_number_from_id (boolean b) = None
+request_number_from_id (string s) = None
+request_number_from_id (array ds) = None
+request_number_from_id (object ms) = None
 
--- Returns the message to the server that a notification means. None for `exit`, for an unreadable
--- notification without a uri, and for a notification that the server ignores.
+-- Returns the message to the server that a notification means. Returns None for three kinds:
+-- `exit`, an unreadable notification without a uri, and a notification that the server ignores.
 abbrev pub message_of_notification : Notification → Option MessageToServer
 message_of_notification exits = None
 message_of_notification (opens uri version text) = Some (notifies (Opened uri version text))
@@ -40,23 +40,23 @@ message_of_notification (unreadable (Some uri)) = Some (notifies (Lost uri))
 message_of_notification (unreadable None) = None
 message_of_notification other = None
 
--- Returns the sent request with this number as a message to the server. None if there is no such
--- request.
-abbrev pub sent_request : List SentAsk → ℕ → Option MessageToServer
-sent_request requested k = option_map (λ a. requests k a.uri a.ask) (request_numbered requested k)
+-- Returns the sent request with this number as a message to the server. Returns None if there is no
+-- such request.
+abbrev pub message_of_sent_ask : List SentAsk → ℕ → Option MessageToServer
+message_of_sent_ask requested k = option_map (λ a. requests k a.uri a.ask) (request_numbered requested k)
 
--- Returns the message to the server that a JSON-RPC message means. None if it isn't a message of
--- the model.
+-- Returns the message to the server that a JSON-RPC message means. Returns None if it isn't a
+-- message of the model.
 abbrev pub message_to_server_of : List SentAsk → MessageMeaning → Option MessageToServer
 message_to_server_of requested (request id method params) =
-    option_and_then (sent_request requested) (request_number id)
+    option_and_then (message_of_sent_ask requested) (request_number_from_id id)
 message_to_server_of requested (notice method params) = message_of_notification (notification_by_method method params)
 message_to_server_of requested not_json = None
 message_to_server_of requested not_a_message = None
 message_to_server_of requested response = None
 
--- Returns the message to the server in a content. `requested` are the requests for edits that the
--- editor has sent. None if the content isn't a message of the model.
+-- Returns the message to the server in a content, or None if the content isn't a message of the
+-- model. `requested` lists the requests for edits that the editor has sent.
 unfoldable pub message_to_server_in : List SentAsk → List ℕ → Option MessageToServer
 message_to_server_in requested content =
     if is_utf8 content
@@ -65,15 +65,15 @@ message_to_server_in requested content =
 
 -- ---- messages as the server reads them, and the contents that hold them
 
--- returns the notification, as the server reads it, for this event of a document
+-- returns the notification of this event of a document, in the form in which the server reads it
 abbrev pub notification_for : DocumentEvent → Notification
 notification_for (Opened uri version text) = opens uri version text
 notification_for (Changed uri version all) = changes uri version all
 notification_for (Lost uri) = unreadable (Some uri)
 notification_for (Closed uri) = closes uri
 
--- returns the request, as the server reads it, that asks for these edits of the document with this
--- uri
+-- returns the request for these edits of the document with this uri, in the form in which the
+-- server reads it
 abbrev pub client_request_for : List ℕ → Ask → wire.ClientRequest
 client_request_for uri (rename position name) = wire.rename (record { uri = uri; position = position }) name
 client_request_for uri (inline_here position) = wire.code_action uri (empty_range_at position) None
@@ -97,24 +97,24 @@ pub record IsNotificationFor (note : DocumentEvent) (content : List ℕ) : Type 
   pub reported : notification_by_method method params ≡ notification_for note
   pub fits : HasVersionInRange note
 
--- states that the content is the request, with this id, that asks for these edits of the document
--- with this uri
+-- states that the content is the request for these edits of the document with this uri, and has
+-- this id
 pub record IsRequestWithId (id : Data) (uri : List ℕ) (ask : Ask) (content : List ℕ)
     : Type 0 where
   pub json : Data
   pub reads : ReadsContent content (Some json)
   pub params : Data
-  pub means : meaning_of json ≡ request id (method_of ask) params
-  pub calls : request_by_method (method_of ask) params ≡ Ok (client_request_for uri ask)
+  pub means : meaning_of json ≡ request id (method_of_ask ask) params
+  pub calls : request_by_method (method_of_ask ask) params ≡ Ok (client_request_for uri ask)
 
--- states that the content is the request that asks for these edits of the document with this uri,
--- with the number `k` as its id
-abbrev pub IsRequest : ℕ → List ℕ → Ask → List ℕ → Type 0
-IsRequest k uri ask content = IsRequestWithId (number (unsigned k)) uri ask content
+-- states that the content is the request for these edits of the document with this uri, with the
+-- number `k` as its id
+abbrev pub IsRequestWithNumber : ℕ → List ℕ → Ask → List ℕ → Type 0
+IsRequestWithNumber k uri ask content = IsRequestWithId (number (unsigned k)) uri ask content
 
 -- states that the sent request with number `k` asks for these edits (`ask`) of the document with
 -- this uri
-pub record IsAsk (requested : List SentAsk) (k : ℕ) (uri : List ℕ) (ask : Ask) : Type 0 where
+pub record SentRequestAsksFor (requested : List SentAsk) (k : ℕ) (uri : List ℕ) (ask : Ask) : Type 0 where
   pub sent : SentAsk
   pub is : request_numbered requested k ≡ Some sent
   pub about : sent.uri ≡ uri
@@ -124,4 +124,4 @@ pub record IsAsk (requested : List SentAsk) (k : ℕ) (uri : List ℕ) (ask : As
 abbrev pub IsMessageToServer : List SentAsk → MessageToServer → List ℕ → Type 0
 IsMessageToServer requested (notifies note) content = IsNotificationFor note content
 IsMessageToServer requested (requests k uri ask) content =
-    IsRequest k uri ask content × IsAsk requested k uri ask
+    IsRequestWithNumber k uri ask content × SentRequestAsksFor requested k uri ask

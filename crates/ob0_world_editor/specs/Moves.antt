@@ -6,8 +6,8 @@ use Rattle.std.specs.FinMap as map_of
 use Rattle.std.specs.declared.alloc.Global.{Global}
 use Rattle.ob0_text.specs.OpenDocuments.{Changed}
 use Rattle.ob0_world_rules.specs.Edited.{Replacement, whole_text_change}
-use Rattle.ob0_world_rules.specs.ClientAndServer.{OpenDocument, SentAsk, Applied, Editor, open_at, MessageToServer, notifies}
-use Rattle.ob0_world_rules.specs.EditorActs.{version_number, ActResult, rewriting_result, edits_of_answer, answers_except}
+use Rattle.ob0_world_rules.specs.ClientAndServer.{OpenDocument, SentAsk, Applied, Editor, open_document_at, MessageToServer, notifies}
+use Rattle.ob0_world_rules.specs.EditorActs.{version_as_natural, ActResult, rewriting_result, edits_of_answer, answers_except}
 use Rattle.ob0_world_editor.specs.Code.{answer_of, applied_of}
 use Rattle.ob0_world_rules.specs.Edited.{replacements}
 use Rattle.ob0_world_editor.specs.MessagesToServer.{IsMessageToServer}
@@ -20,15 +20,15 @@ use Rattle.ob0_world_editor.specs.declared.editor.RewrittenDocument as rewritten
 pub record CountsCanGrow (e : Editor) : Type 0 where
   pub openings : e.openings < 2 ^ 63 - 1
   pub asks : length e.requested < 2 ^ 63 - 1
-  pub versions : (uri : List ℕ) (d : OpenDocument) → open_at e uri ≡ Some d → version_number d.version < 2 ^ 63 - 1
+  pub versions : (uri : List ℕ) (d : OpenDocument) → open_document_at e uri ≡ Some d → version_as_natural d.version < 2 ^ 63 - 1
 
 -- returns whether there is an edit
 abbrev pub has_edits : List Replacement → Bool
 has_edits [] = false
 has_edits (e ∷ es) = true
 
--- States that the content is the only message in a list of sent messages. If the list is empty,
--- states that there is no content (None).
+-- States that the list of sent messages has one message, which is the content. For None (no
+-- content), states that the list is empty.
 abbrev pub IsSentContent : List SentAsk → List MessageToServer → Option (Vec ℕ Global) → Type 0
 IsSentContent requested [] None = ⊤
 IsSentContent requested [] (Some content) = ⊥
@@ -43,22 +43,22 @@ PerformsAct done content new = (new ≡ done.editor) × IsSentContent new.reques
 
 -- states that `new` is the editor after the act with the result `done`, and that the act sent and
 -- applied nothing
-abbrev pub IsSilent : ActResult → Editor → Type 0
-IsSilent done new = (new ≡ done.editor) × (done.sent ≡ []) × (done.applied ≡ [])
+abbrev pub IsSilentResult : ActResult → Editor → Type 0
+IsSilentResult done new = (new ≡ done.editor) × (done.sent ≡ []) × (done.applied ≡ [])
 
--- States that an act that applies an answer, with the result `done`, has this outcome in the code.
+-- States that applying an answer, an act with the result `done`, has this outcome in the code.
 -- `held` says whether the editor had the answer, and `new` is the editor after the act.
 abbrev pub IsApplyOutcome : ActResult → Bool → applying.ApplyOutcome → Editor → Type 0
-IsApplyOutcome done held applying.TheVariants.NotHeld new = IsSilent done new × (held ≡ false)
-IsApplyOutcome done held applying.TheVariants.Dropped new = IsSilent done new × (held ≡ true)
+IsApplyOutcome done held applying.TheVariants.NotHeld new = IsSilentResult done new × (held ≡ false)
+IsApplyOutcome done held applying.TheVariants.Dropped new = IsSilentResult done new × (held ≡ true)
 IsApplyOutcome done held (applying.TheVariants.Made applied content) new =
     PerformsAct done (Some content) new × (done.applied ≡ applied_of applied ∷ []) × (held ≡ true)
 
 -- ---- applying an answer, step by step
 
--- States that this is the index, from 0, of the first answer to request `k` in the list, and that
--- removing the answer at this index leaves the other answers (`answers_except`). For None, states
--- that there is no such answer.
+-- States that the index, counted from 0, is that of the first answer to request `k` in the list.
+-- Removing this answer leaves the other answers (`answers_except`). If there is no index (None),
+-- states that there is no such answer.
 abbrev pub IsIndexOfAnswer : List answer.ReceivedAnswer → ℕ → Option ℕ → Type 0
 IsIndexOfAnswer answers k (Some i) =
     (i < length answers)
@@ -67,10 +67,10 @@ IsIndexOfAnswer answers k (Some i) =
     × (answers_except k (map answer_of answers) ≡ map answer_of (remove answers i))
 IsIndexOfAnswer answers k None = edits_of_answer k (map answer_of answers) ≡ None
 
--- returns the editor with the document that `r` describes in place of the open document with the
--- same uri: with the new text and version
-abbrev pub with_text : Editor → rewritten.RewrittenDocument → Editor
-with_text e r =
+-- returns the editor with the document of `r` open, with its new text, its version and its opening
+-- number
+abbrev pub editor_with_new_text : Editor → rewritten.RewrittenDocument → Editor
+editor_with_new_text e r =
     let a : Applied = applied_of r.applied in
     record e {
       documents
@@ -78,7 +78,7 @@ with_text e r =
           (record { version = pos r.version; text = a.after; opening = r.opening });
     }
 
--- returns the notification that replaces the whole text by the document's new text
+-- returns the notification that gives the server the document's whole new text
 abbrev pub text_notification : rewritten.RewrittenDocument → MessageToServer
 text_notification r =
     let a : Applied
@@ -87,21 +87,21 @@ text_notification r =
 -- states that the act with the result `done` gives the document the new text in `r`, applies the
 -- edit in `r`, and sends the notification of the new text
 pub record Rewrites (old : Editor) (done : ActResult) (r : rewritten.RewrittenDocument) : Type 0 where
-  pub text : done.editor ≡ with_text old r
+  pub text : done.editor ≡ editor_with_new_text old r
   pub applied : done.applied ≡ applied_of r.applied ∷ []
   pub says : done.sent ≡ text_notification r ∷ []
   pub few : r.version < 2 ^ 63
 
--- states that the act gives the document this new text (`Rewrites`), or that both the act and the
--- new text are None
+-- states that the act gives the document the new text in `r` (`Rewrites`), or that there is neither
+-- an act nor a new text (both are None)
 abbrev pub IsRewritten : Editor → Option ActResult → Option rewritten.RewrittenDocument → Type 0
 IsRewritten e None None = ⊤
 IsRewritten e None (Some r) = ⊥
 IsRewritten e (Some done) None = ⊥
 IsRewritten e (Some done) (Some r) = Rewrites e done r
 
--- returns the result of the act that gives a document this edited text; None if there is no edited
--- text
+-- returns the result of the act that gives a document this edited text, or None if there is no
+-- edited text
 abbrev pub editing_result : Editor → List ℕ → OpenDocument → Option (List ℕ) → Option ActResult
 editing_result e uri d text_after_edits =
     let applied : List ℕ → Applied = λ text. record { uri = uri; before = d.text; after = text } in
@@ -111,14 +111,14 @@ editing_result e uri d text_after_edits =
 -- notification of that text
 abbrev pub StoresRewritten : Editor → rewritten.RewrittenDocument → Vec ℕ Global → Editor → Type 0
 StoresRewritten old r content new =
-    (new ≡ with_text old r) × IsMessageToServer new.requested (text_notification r) content.items
+    (new ≡ editor_with_new_text old r) × IsMessageToServer new.requested (text_notification r) content.items
 
--- states that the outcome is this applied edit with the notification of the new text, and that
--- `new` is the editor with that text
+-- states that the outcome is the applied edit in `r` with the notification of the new text, and
+-- that `new` is the editor with that text
 abbrev pub IsAppliedAs : Editor → rewritten.RewrittenDocument → applying.ApplyOutcome → Editor → Type 0
 IsAppliedAs old r applying.TheVariants.NotHeld new = ⊥
 IsAppliedAs old r applying.TheVariants.Dropped new = ⊥
 IsAppliedAs old r (applying.TheVariants.Made applied content) new =
-    (new ≡ with_text old r)
+    (new ≡ editor_with_new_text old r)
     × (applied_of applied ≡ applied_of r.applied)
     × IsMessageToServer new.requested (text_notification r) content.items

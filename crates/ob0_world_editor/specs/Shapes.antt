@@ -1,6 +1,6 @@
 -- Defines the messages that an editor writes, as JSON values (LSP 3.17). The comments show the
--- JSON, with letters for the arguments. Members are in the order of the bytes of their names.
--- Rule: LSP 3.17, notifications and requests of a client; docs/PROTOCOL.md, JSON shapes 4.
+-- JSON, with letters for the arguments. The members of an object are in the byte order of their
+-- names.
 use Rattle.std.specs.Prelude.{ℕ, List, true, false, Bool, Option, Some, None, codes, string_bytes}
 use Rattle.serde_json.specs.Data.{Data, boolean, number, array, object, unsigned, no_items, member, no_members}
 use Rattle.serde_json.specs.View.{items_of}
@@ -20,7 +20,7 @@ request_message k method params =
 
 -- ---- notifications
 
--- Returns a document that is opened, as a JSON value:
+-- Returns the JSON value of a document that is opened:
 -- {"languageId":"oberon-0","text":t,"uri":u,"version":v}
 abbrev pub opened_document_value : List ℕ → ℕ → List ℕ → Data
 opened_document_value uri version contents =
@@ -41,13 +41,13 @@ change_object (Some range) new =
     (member (codes "text") (text new) no_members))
 change_object None new = object (member (codes "text") (text new) no_members)
 
--- returns a value of the code's type `Change` as a JSON value
+-- returns the JSON value of a change of the code's type `Change`
 abbrev pub change_value : Change → Data
 change_value c = change_object c.range (string_bytes c.text)
 
 -- returns a document's identifier with a version: {"uri":u,"version":v}
-abbrev pub versioned_document_value : List ℕ → ℕ → Data
-versioned_document_value uri version =
+abbrev pub versioned_document_id_value : List ℕ → ℕ → Data
+versioned_document_id_value uri version =
     object (member (codes "uri") (text uri)
     (member (codes "version") (number (unsigned version)) no_members))
 
@@ -56,15 +56,15 @@ versioned_document_value uri version =
 abbrev pub change_params : List ℕ → ℕ → List Data → Data
 change_params uri version changes =
     object (member (codes "contentChanges") (array (items_of changes))
-    (member (codes "textDocument") (versioned_document_value uri version) no_members))
+    (member (codes "textDocument") (versioned_document_id_value uri version) no_members))
 
 -- returns a document's identifier: {"uri":u}
-abbrev pub document_value : List ℕ → Data
-document_value uri = object (member (codes "uri") (text uri) no_members)
+abbrev pub document_id_value : List ℕ → Data
+document_id_value uri = object (member (codes "uri") (text uri) no_members)
 
 -- returns the params of `textDocument/didClose`: {"textDocument":{"uri":u}}
 abbrev pub close_params : List ℕ → Data
-close_params uri = object (member (codes "textDocument") (document_value uri) no_members)
+close_params uri = object (member (codes "textDocument") (document_id_value uri) no_members)
 
 -- ---- asks
 
@@ -72,50 +72,50 @@ close_params uri = object (member (codes "textDocument") (document_value uri) no
 abbrev pub rename_params : List ℕ → Position → List ℕ → Data
 rename_params uri position name =
     object (member (codes "newName") (text name) (member (codes "position")
-    (position_value position) (member (codes "textDocument") (document_value uri) no_members)))
+    (position_value position) (member (codes "textDocument") (document_id_value uri) no_members)))
 
 -- returns the empty range at a position
 abbrev pub empty_range_at : Position → Range
 empty_range_at position = record { start = position; end = position }
 
--- the context of a request for code actions: {"diagnostics":[]}
-abbrev pub empty_diagnostics : Data
-empty_diagnostics = object (member (codes "diagnostics") (array no_items) no_members)
+-- the context of a request for code actions, without diagnostics: {"diagnostics":[]}
+abbrev pub context_without_diagnostics : Data
+context_without_diagnostics = object (member (codes "diagnostics") (array no_items) no_members)
 
 -- Returns the params of a request for the code actions at a position:
 -- {"context":{"diagnostics":[]},"range":R,"textDocument":{"uri":u}}
 abbrev pub actions_params : List ℕ → Position → Data
 actions_params uri position =
-    object (member (codes "context") empty_diagnostics
+    object (member (codes "context") context_without_diagnostics
     (member (codes "range") (range_value position position)
-    (member (codes "textDocument") (document_value uri) no_members)))
+    (member (codes "textDocument") (document_id_value uri) no_members)))
 
--- returns formatting options: {"insertSpaces":b,"tabSize":n}
-abbrev pub indent_options : Bool → ℕ → Data
-indent_options spaces size =
+-- returns the JSON value of formatting options: {"insertSpaces":b,"tabSize":n}
+abbrev pub formatting_options_value : Bool → ℕ → Data
+formatting_options_value spaces size =
     object (member (codes "insertSpaces") (boolean spaces)
     (member (codes "tabSize") (number (unsigned size)) no_members))
 
--- returns the formatting options for an indent, as a JSON value
-abbrev pub options_value : Indent → Data
-options_value Tab = indent_options false 1
-options_value (Spaces n) = indent_options true n
+-- returns the JSON value of the formatting options for an indent
+abbrev pub formatting_options_for_indent : Indent → Data
+formatting_options_for_indent Tab = formatting_options_value false 1
+formatting_options_for_indent (Spaces n) = formatting_options_value true n
 
 -- returns the params of a formatting request: {"options":{..},"textDocument":{"uri":u}}
 abbrev pub formatting_params : List ℕ → Indent → Data
 formatting_params uri indent =
-    object (member (codes "options") (options_value indent)
-    (member (codes "textDocument") (document_value uri) no_members))
+    object (member (codes "options") (formatting_options_for_indent indent)
+    (member (codes "textDocument") (document_id_value uri) no_members))
 
--- Returns the method of the request that asks for these edits. Both ways of inlining request the
--- code actions at `position`.
-abbrev pub method_of : Ask → List ℕ
-method_of (rename position name) = codes "textDocument/rename"
-method_of (inline_here position) = codes "textDocument/codeAction"
-method_of (inline_all position) = codes "textDocument/codeAction"
-method_of (format indent) = codes "textDocument/formatting"
+-- Returns the method of the request for these edits. Both kinds of inlining request the code
+-- actions at `position`.
+abbrev pub method_of_ask : Ask → List ℕ
+method_of_ask (rename position name) = codes "textDocument/rename"
+method_of_ask (inline_here position) = codes "textDocument/codeAction"
+method_of_ask (inline_all position) = codes "textDocument/codeAction"
+method_of_ask (format indent) = codes "textDocument/formatting"
 
--- returns the params of the request that asks for these edits of the document with this uri
+-- returns the params of the request for these edits of the document with this uri
 abbrev pub params_for : List ℕ → Ask → Data
 params_for uri (rename position name) = rename_params uri position name
 params_for uri (inline_here position) = actions_params uri position

@@ -18,15 +18,15 @@ pub struct Applied {
 pub enum ApplyOutcome {
     /// The editor has no answer to the request with this number.
     NotHeld,
-    /// The answer was discarded without making its edits. Its document has been changed, closed or
-    /// reopened since the request, or two edits share a character.
+    /// The answer was discarded and its edits weren't made. The document has been changed, closed
+    /// or reopened since the request, or two edits share a character.
     Dropped,
     /// The edits were made. `applied` is the applied edit, and `content` is the content of the
     /// notification that tells the server the new text.
     Made { applied: Applied, content: Vec<u8> },
 }
 
-/// Returns the record of an applied edit, with copies of the uri and of the text before the edit.
+/// Returns an applied edit, with copies of the uri and of the text before the edit.
 pub fn applied_edit(
     alloc: Global,
     uri: &str,

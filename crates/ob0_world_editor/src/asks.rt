@@ -15,7 +15,7 @@ pub enum Ask {
 }
 
 /// Returns a copy of this request for edits.
-pub fn copy_of(alloc: Global, ask: &Ask) -> Result<Ask, AllocError>
+pub fn copy_of_ask(alloc: Global, ask: &Ask) -> Result<Ask, AllocError>
     ensures { IfOk result (λ copy. ask_of copy ≡ ask_of ask.now) }
 {
     match ask {

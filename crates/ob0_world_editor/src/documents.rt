@@ -14,8 +14,8 @@ use std::marker::Model;
 pub struct OpenDocument {
     pub version: u64,
     pub text: String,
-    /// The opening number. The editor counts its openings of all documents, so a document that is
-    /// opened again gets another number.
+    /// The opening number. The openings of all documents are numbered together, so a document that
+    /// is opened again gets another number.
     pub opening: u64,
 }
 
@@ -47,11 +47,11 @@ pub struct OpenDocuments {
 
 impl Model for OpenDocuments {
     ghost use Rattle.ob0_world_rules.specs.ClientAndServer.{EditorDocuments};
-    ghost use Rattle.ob0_world_editor.specs.Entries.{editor_documents_of, open_documents_code};
+    ghost use Rattle.ob0_world_editor.specs.Entries.{editor_documents_of, coded_editor_documents};
 
     ghost Value = { EditorDocuments };
 
-    ghost coded = { open_documents_code };
+    ghost coded = { coded_editor_documents };
 
     ghost view = { λ documents. editor_documents_of documents.by_uri.entries };
 }
@@ -66,7 +66,7 @@ impl OpenDocuments {
         }
     }
 
-    /// Returns the open document with this uri. None if no document with this uri is open.
+    /// Returns the open document with this uri, or None if no document with this uri is open.
     pub fn get(&self, uri: &str) -> Option<&OpenDocument>
         ensures { option_map (λ d. open_document_of d.now) result ≡ map_of.get self.now uri.now }
     {

@@ -1,10 +1,10 @@
-//! Models an editor that talks to a server: its documents, its requests and the answers that it
-//! has.
+//! Models an editor that talks to a server: its documents, its requests for edits, and its unused
+//! answers.
 //!
-//! If a call returns an error, the editor is unchanged. To this end, a call first makes all
-//! contents and copies. The last step that can fail is the insertion into the map of documents or
-//! into a list, and other fields are changed after that step. The exception is `apply`, which first
-//! removes the answer. So after an error in `apply` the editor has lost the answer.
+//! If a call returns an error, the editor is unchanged. To ensure this, a call first makes all
+//! contents and copies. The last step that can fail inserts into the map of documents or into a
+//! list. Other fields are changed after that step. The exception is `apply`, which first removes
+//! the answer. So after an error in `apply` the editor has lost the answer.
 //!
 //! A document's text is stored as a `String`. A text store is made only while changes or edits are
 //! applied. So the editor needs no invariant about the units of text stores.
@@ -13,7 +13,7 @@ ghost use Rattle.std.specs.Str.{chars};
 ghost use Rattle.ob0_text.specs.OpenDocuments.{text_change_of};
 ghost use Rattle.ob0_world_rules.specs.ClientAndServer.{answers, new_editor};
 ghost use Rattle.ob0_world_rules.specs.EditorActs as acts;
-ghost use Rattle.ob0_world_rules.specs.EditorActs.{change_document, close_document, ask_about, apply, applying_result, act_result, edits_of_answer, after_reading, without_answer};
+ghost use Rattle.ob0_world_rules.specs.EditorActs.{change_document, close_document, ask_about, apply, applying_result, act_result, edits_of_answer, editor_after_reading, without_answer};
 ghost use Rattle.ob0_world_editor.specs.Code.{ask_of, message_of, sent_ask_of};
 ghost use Rattle.ob0_world_editor.specs.Entries.{open_document_of};
 ghost use Rattle.ob0_world_rules.specs.Edited.{text_after_edits, replacements};
@@ -21,9 +21,9 @@ ghost use Rattle.ob0_world_editor.specs.Moves.{CountsCanGrow, PerformsAct, IsApp
 ghost use Rattle.ob0_world_editor.specs.MessagesToEditor.{message_to_editor_in};
 
 use crate::applied::{Applied, ApplyOutcome, applied_edit};
-use crate::asks::{Ask, copy_of};
+use crate::asks::{Ask, copy_of_ask};
 use crate::documents::{OpenDocument, OpenDocuments};
-use crate::reading::{Message, numbered_ask, read_message};
+use crate::reading::{Message, ask_with_number, read_message};
 use crate::texts::{apply_changes, apply_edits};
 use crate::writing::{did_change, did_change_whole_text, did_close, did_open, request};
 use ob0_text::{Change, Edit, Unit, Whole};
@@ -41,7 +41,7 @@ pub struct SentAsk {
     pub version: u64,
 }
 
-/// An answer that the editor has, with the number of its request.
+/// An answer that the editor has received and not used yet, with the number of its request.
 #[derive(Drop)]
 pub struct ReceivedAnswer {
     pub number: u64,
@@ -75,11 +75,11 @@ impl Model for Editor {
     ghost use Rattle.std.specs.Coded.{codes};
     ghost use Rattle.ob0_world_rules.specs.ClientAndServer.{Editor};
     ghost use Rattle.ob0_world_editor.specs.Code.{sent_ask_of, answer_of};
-    ghost use Rattle.ob0_world_editor.specs.Entries.{open_documents_code};
+    ghost use Rattle.ob0_world_editor.specs.Entries.{coded_editor_documents};
 
     ghost Value = { Editor };
 
-    ghost coded = { Prim.hlevel (codes, open_documents_code) };
+    ghost coded = { Prim.hlevel (codes, coded_editor_documents) };
 
     ghost view = { λ e. record {
       unit = e.unit;
@@ -105,8 +105,8 @@ impl Editor {
         }
     }
 
-    /// Opens a document, and returns the content of the notification for the server. None if the
-    /// document is open already. On an error the editor is unchanged.
+    /// Opens a document, and returns the content of the notification for the server. Returns None
+    /// if the document is open already. If an allocation fails, the editor is unchanged.
     pub fn open(&mut self, uri: &str, text: &str) -> Result<Option<Vec<u8>>, AllocError>
         requires { CountsCanGrow self.old }
         ensures ok { IfOk result (λ content. PerformsAct
@@ -124,8 +124,8 @@ impl Editor {
         Ok(Some(content))
     }
 
-    /// Changes a document, and returns the content of the notification for the server. None if the
-    /// document isn't open. On an error the editor is unchanged.
+    /// Changes a document, and returns the content of the notification for the server. Returns None
+    /// if the document isn't open. If an allocation fails, the editor is unchanged.
     pub fn change(&mut self, uri: &str, changes: &[Change]) -> Result<Option<Vec<u8>>, AllocError>
         requires { CountsCanGrow self.old }
         ensures ok { IfOk result (λ content. PerformsAct
@@ -149,8 +149,8 @@ impl Editor {
         Ok(Some(content))
     }
 
-    /// Closes a document, and returns the content of the notification for the server. None if the
-    /// document isn't open. On an error the editor is unchanged.
+    /// Closes a document, and returns the content of the notification for the server. Returns None
+    /// if the document isn't open. If an allocation fails, the editor is unchanged.
     pub fn close(&mut self, uri: &str) -> Result<Option<Vec<u8>>, AllocError>
         ensures ok { IfOk result
             (λ content. PerformsAct (act_result self.old (close_document uri.now)) content self.new) }
@@ -164,8 +164,8 @@ impl Editor {
         Ok(Some(content))
     }
 
-    /// Makes a request for edits of a document, and returns the content of the request for the
-    /// server. None if the document isn't open. On an error the editor is unchanged.
+    /// Requests edits of a document, and returns the content of the request for the server. Returns
+    /// None if the document isn't open. If an allocation fails, the editor is unchanged.
     pub fn ask(&mut self, uri: &str, ask: &Ask) -> Result<Option<Vec<u8>>, AllocError>
         requires { CountsCanGrow self.old }
         ensures ok { IfOk result (λ content. PerformsAct
@@ -182,8 +182,8 @@ impl Editor {
         Ok(Some(content))
     }
 
-    /// Returns the message in a content that the server has sent. None if the content is neither a
-    /// publication nor an answer to one of the editor's requests for edits.
+    /// Returns the message in a content that the server has sent. Returns None if the content is
+    /// neither a publication nor an answer to one of the editor's requests for edits.
     pub fn read(&self, content: &[u8]) -> Result<Option<Message>, AllocError>
         ensures { IfOk result
             (λ found. option_map message_of found ≡ message_to_editor_in self.now.requested content.now) }
@@ -192,10 +192,10 @@ impl Editor {
     }
 
     /// Stores the answer to the request with this number if the answer has edits. Returns whether
-    /// the answer has edits. On an error the editor is unchanged.
+    /// the answer has edits. If an allocation fails, the editor is unchanged.
     pub fn keep(&mut self, number: u64, edits: Vec<Edit>) -> Result<bool, AllocError>
         ensures kept { OnOk result
-            (self.new ≡ after_reading self.old (answers number (replacements edits.items))) }
+            (self.new ≡ editor_after_reading self.old (answers number (replacements edits.items))) }
         ensures some { IfOk result (λ kept. kept ≡ has_edits (replacements edits.items)) }
         ensures err { OnErr result (self.new ≡ self.old) }
     {
@@ -207,9 +207,9 @@ impl Editor {
     }
 
     /// Makes the edits of the answer to request `k`, and returns the applied edit with the content
-    /// of the notification. No edit is made if the editor has no such answer, if the document has
-    /// been changed, closed or reopened since the request, or if two edits share a character. In
-    /// every case the answer is removed, even if an allocation fails.
+    /// of the notification. No edit is made in three cases: the editor has no such answer, the
+    /// document has been changed, closed or reopened since the request, or two edits share a
+    /// character. The answer is always removed, even if an allocation fails.
     pub fn apply(&mut self, k: u64) -> Result<ApplyOutcome, AllocError>
         requires { CountsCanGrow self.old }
         ensures ok { IfOk result (λ applying. IsApplyOutcome (act_result self.old (apply k))
@@ -219,7 +219,7 @@ impl Editor {
         let Some(edits) = self.take_answer(k) else {
             return Ok(ApplyOutcome::NotHeld);
         };
-        let rewritten = self.rewrite(k, edits.as_slice());
+        let rewritten = self.asked_document_with_edits(k, edits.as_slice());
         drop(edits);
         match rewritten? {
             Some(rewritten) => self.store_rewritten(rewritten),
@@ -245,15 +245,19 @@ impl Editor {
         Some(answer.edits)
     }
 
-    /// Returns the document of request `k` with these edits made. None if there is no such request,
-    /// if its document isn't open, if the document's opening number or version has changed since
-    /// the request, or if two edits share a character.
-    fn rewrite(&self, k: u64, edits: &[Edit]) -> Result<Option<RewrittenDocument>, AllocError>
+    /// Returns the document of request `k` with these edits made. Returns None in four cases: there
+    /// is no such request, its document isn't open, the document's opening number or version has
+    /// changed since the request, or two edits share a character.
+    fn asked_document_with_edits(
+        &self,
+        k: u64,
+        edits: &[Edit],
+    ) -> Result<Option<RewrittenDocument>, AllocError>
         requires { CountsCanGrow self.now }
         ensures { IfOk result (λ rewritten.
             IsRewritten self.now (applying_result self.now k (replacements edits.now)) rewritten) }
     {
-        let Some(requested) = numbered_ask(self.requested.as_slice(), k) else {
+        let Some(requested) = ask_with_number(self.requested.as_slice(), k) else {
             return Ok(None);
         };
         let Some(document) = self.documents.get(requested.uri.as_str()) else {
@@ -262,11 +266,11 @@ impl Editor {
         if document.opening != requested.opening || document.version != requested.version {
             return Ok(None);
         }
-        self.rewrite_document(requested.uri.as_str(), document, edits)
+        self.document_with_edits(requested.uri.as_str(), document, edits)
     }
 
-    /// Returns this document with these edits made. None if two edits share a character.
-    fn rewrite_document(
+    /// Returns this document with these edits made, or None if two edits share a character.
+    fn document_with_edits(
         &self,
         uri: &str,
         document: &OpenDocument,
@@ -292,22 +296,25 @@ impl Editor {
     }
 
     /// Stores a document's new text, and returns the applied edit with the content of the
-    /// notification. On an error the editor is unchanged.
+    /// notification. If an allocation fails, the editor is unchanged.
     fn store_rewritten(&mut self, rewritten: RewrittenDocument) -> Result<ApplyOutcome, AllocError>
         requires { rewritten.version < 2 ^ 63 }
         ensures ok { IfOk result (λ applying. IsAppliedAs self.old rewritten applying self.new) }
         ensures err { OnErr result (self.new ≡ self.old) }
     {
-        let content = self.store_and_notify(&rewritten)?;
+        let content = self.store_and_build_notification(&rewritten)?;
         Ok(ApplyOutcome::Made {
             applied: rewritten.applied,
             content,
         })
     }
 
-    /// Stores a copy of a document's new text, and returns the content of the notification. On an
-    /// error the editor is unchanged.
-    fn store_and_notify(&mut self, rewritten: &RewrittenDocument) -> Result<Vec<u8>, AllocError>
+    /// Stores a copy of a document's new text, and returns the content of the notification for the
+    /// server. If an allocation fails, the editor is unchanged.
+    fn store_and_build_notification(
+        &mut self,
+        rewritten: &RewrittenDocument,
+    ) -> Result<Vec<u8>, AllocError>
         requires { rewritten.now.version < 2 ^ 63 }
         ensures ok { IfOk result
             (λ content. StoresRewritten self.old rewritten.now content self.new) }
@@ -323,7 +330,7 @@ impl Editor {
     }
 }
 
-/// Returns the record of a sent request for edits: copies of the request and the uri, and the
+/// Returns a sent request for edits, with copies of the request and the uri, and with the
 /// document's present text, opening number and version.
 fn sent_ask(
     alloc: Global,
@@ -341,7 +348,7 @@ fn sent_ask(
 {
     let uri = String::from_str(alloc, uri)?;
     let text = String::from_str(alloc, document.text.as_str())?;
-    let ask = copy_of(alloc, ask)?;
+    let ask = copy_of_ask(alloc, ask)?;
     Ok(SentAsk {
         ask,
         uri,
@@ -351,8 +358,8 @@ fn sent_ask(
     })
 }
 
-/// Returns the index, from 0, of the first answer to request `k` in this list. None if there is no
-/// such answer.
+/// Returns the index of the first answer to request `k` in this list, counted from 0, or None if
+/// there is no such answer.
 fn index_of_answer(answers: &[ReceivedAnswer], k: u64) -> Option<usize>
     ensures { IsIndexOfAnswer answers.now k result }
 {

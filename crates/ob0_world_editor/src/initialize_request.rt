@@ -2,7 +2,7 @@
 ghost use Rattle.std.specs.Prelude.{◌≡◌, [], ◌∷◌, ◌++◌, Some, IfOk, OnOk};
 ghost use Rattle.serde_json.specs.Data.{no_members, object};
 ghost use Rattle.ob0_rpc.specs.Messages.{ReadsContent};
-ghost use Rattle.ob0_world_editor.specs.InitializeRequest.{capabilities_for, initialize_message};
+ghost use Rattle.ob0_world_editor.specs.InitializeRequest.{client_capability_members, initialize_message};
 
 use crate::objects::{write_three_members, write_two_members};
 use crate::params::Request;
@@ -32,7 +32,7 @@ struct ClientCapabilities {
 }
 
 impl WriteJson for ClientCapabilities {
-    ghost value = { λ c. object (capabilities_for c.unit) };
+    ghost value = { λ c. object (client_capability_members c.unit) };
 
     fn write(&self, out: &mut Vec<u8>) -> Result<(), AllocError> {
         // The client accepts literal code actions, of any kind.

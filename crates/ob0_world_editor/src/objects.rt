@@ -1,10 +1,10 @@
 //! Writes JSON objects of two and three members. The names of members are written without escapes,
-//! so they mustn't contain a character that needs an escape.
+//! so they mustn't contain a character that needs one.
 //!
-//! Each message of the editor is a type that implements `WriteJson`. An object with one member is a
-//! `OneMemberObject`. An object with two or three members is written by one call of a function of
-//! this file. The proof of such a `write` applies the lemma `object_of` (ob0_rpc) to the contract
-//! of that function.
+//! Each JSON value in an editor's messages is a type that implements `WriteJson`. An object with
+//! one member is a `OneMemberObject`. An object with two or three members is written by one call of
+//! a function of this file. The proof of such a `write` applies the lemma `object_of` (ob0_rpc) to
+//! the contract of that function.
 //!
 //! Each `?` in a `write` makes the proof much slower. So only the `write` functions for objects
 //! with four members and for the list of changes use `?`.

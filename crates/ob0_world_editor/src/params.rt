@@ -5,7 +5,7 @@ ghost use Rattle.serde_json.specs.Data.{array, member, no_members, object};
 ghost use Rattle.serde_json.specs.View.{items_of};
 ghost use Rattle.ob0_rpc.specs.Appending.{AppendsEach};
 ghost use Rattle.ob0_rpc.specs.Shapes.{jsonrpc_version, text as text_data};
-ghost use Rattle.ob0_world_editor.specs.Shapes.{actions_params, change_object, change_value, document_value, opened_document_value, indent_options, options_value, rename_params, versioned_document_value};
+ghost use Rattle.ob0_world_editor.specs.Shapes.{actions_params, change_object, change_value, document_id_value, opened_document_value, formatting_options_value, formatting_options_for_indent, rename_params, versioned_document_id_value};
 
 use crate::objects::{write_three_members, write_two_members};
 use ob0_rpc::{
@@ -45,7 +45,7 @@ pub struct DocumentId<'a> {
 }
 
 impl<'a> WriteJson for DocumentId<'a> {
-    ghost value = { λ d. document_value d.uri.now };
+    ghost value = { λ d. document_id_value d.uri.now };
 
     fn write(&self, out: &mut Vec<u8>) -> Result<(), AllocError> {
         let (key, value) = ("uri", self.uri);
@@ -61,7 +61,7 @@ pub struct VersionedDocumentId<'a> {
 }
 
 impl<'a> WriteJson for VersionedDocumentId<'a> {
-    ghost value = { λ d. versioned_document_value d.uri.now d.version };
+    ghost value = { λ d. versioned_document_id_value d.uri.now d.version };
 
     fn write(&self, out: &mut Vec<u8>) -> Result<(), AllocError> {
         write_two_members(out, "uri", &self.uri, "version", &self.version)
@@ -109,7 +109,7 @@ impl<'a> WriteJson for ContentChange<'a> {
     }
 }
 
-/// The changes of a document, in order, as a JSON array.
+/// The changes of a document, which are written in order as a JSON array.
 #[derive(Drop)]
 pub struct ContentChanges<'a> {
     pub changes: &'a [Change],
@@ -149,7 +149,7 @@ pub struct DidChangeParams<'a, C> {
 
 impl<'a, C: WriteJson> WriteJson for DidChangeParams<'a, C> {
     ghost value = { λ p. object (member (codes "contentChanges") (C.value p.changes)
-        (member (codes "textDocument") (versioned_document_value p.document.uri.now p.document.version)
+        (member (codes "textDocument") (versioned_document_id_value p.document.uri.now p.document.version)
         no_members)) };
 
     fn write(&self, out: &mut Vec<u8>) -> Result<(), AllocError> {
@@ -219,8 +219,8 @@ impl<'a> WriteJson for CodeActionParams<'a> {
     }
 }
 
-/// The formatting options of a request: whether a level of indentation is spaces (not a tab), and
-/// the number of spaces.
+/// The formatting options of a request: whether a level of indentation consists of spaces
+/// (otherwise it is a tab), and the number of spaces.
 #[derive(Drop)]
 pub struct FormattingOptions {
     pub insert_spaces: bool,
@@ -228,7 +228,7 @@ pub struct FormattingOptions {
 }
 
 impl WriteJson for FormattingOptions {
-    ghost value = { λ o. indent_options o.insert_spaces o.tab_size };
+    ghost value = { λ o. formatting_options_value o.insert_spaces o.tab_size };
 
     fn write(&self, out: &mut Vec<u8>) -> Result<(), AllocError> {
         write_two_members(
@@ -244,7 +244,7 @@ impl WriteJson for FormattingOptions {
 impl FormattingOptions {
     /// Returns the formatting options for an indent.
     pub fn for_indent(indent: Indent) -> FormattingOptions
-        ensures { indent_options result.insert_spaces result.tab_size ≡ options_value indent }
+        ensures { formatting_options_value result.insert_spaces result.tab_size ≡ formatting_options_for_indent indent }
     {
         match indent {
             Indent::Tab => FormattingOptions {
@@ -268,8 +268,8 @@ pub struct FormattingParams<'a> {
 
 impl<'a> WriteJson for FormattingParams<'a> {
     ghost value = { λ p. object
-        (member (codes "options") (indent_options p.options.insert_spaces p.options.tab_size)
-        (member (codes "textDocument") (document_value p.document.uri.now) no_members)) };
+        (member (codes "options") (formatting_options_value p.options.insert_spaces p.options.tab_size)
+        (member (codes "textDocument") (document_id_value p.document.uri.now) no_members)) };
 
     fn write(&self, out: &mut Vec<u8>) -> Result<(), AllocError> {
         write_two_members(

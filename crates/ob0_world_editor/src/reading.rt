@@ -5,8 +5,8 @@ ghost use Rattle.serde_json.specs.View.{view, items_view};
 ghost use Rattle.ob0_rpc.specs.Members.{text_member};
 ghost use Rattle.ob0_world_editor.specs.Code.{message_of, ask_of, sent_ask_of};
 ghost use Rattle.ob0_world_rules.specs.Edited.{replacement_of, replacements};
-ghost use Rattle.ob0_world_editor.specs.MessagesToServer.{request_number};
-ghost use Rattle.ob0_world_editor.specs.MessagesToEditor.{message_to_editor_in, message_to_editor_of, publication_of_params, answer_of_response, has_no_items, edit_in, edits_in, workspace_edit_items, is_given_text, first_action_with_title, action_edit_items, edit_items_for as items_of_answer, edits_for};
+ghost use Rattle.ob0_world_editor.specs.MessagesToServer.{request_number_from_id};
+ghost use Rattle.ob0_world_editor.specs.MessagesToEditor.{message_to_editor_in, message_to_editor_of, publication_of_params, answer_of_response, has_no_items, edit_in, edits_in, workspace_edit_items, equals_optional_text, first_action_with_title, action_edit_items, edit_items_for as items_of_answer, edits_for};
 ghost use Rattle.ob0_world_rules.specs.ClientAndServer.{request_numbered};
 
 use crate::asks::Ask;
@@ -32,8 +32,9 @@ pub enum Message {
     },
 }
 
-/// Returns the message in a content. `requested` are the requests for edits that the editor has
-/// sent. None if the content is neither a publication nor the answer to one of these requests.
+/// Returns the message in a content. `requested` lists the requests for edits that the editor has
+/// sent. Returns None if the content is neither a publication nor the answer to one of these
+/// requests.
 pub fn read_message(
     alloc: Global,
     requested: &[SentAsk],
@@ -59,12 +60,12 @@ fn read_message_value(
     message: &Value,
 ) -> Result<Option<Message>, AllocError>
     ensures { IfOk result (λ found. option_map message_of found
-        ≡ message_to_editor_of request_number (map sent_ask_of requested.now) (view message.now)) }
+        ≡ message_to_editor_of request_number_from_id (map sent_ask_of requested.now) (view message.now)) }
 {
     if message.get("method").is_none() {
         return read_answer(alloc, requested, message);
     }
-    if !has_text(message, "method", "textDocument/publishDiagnostics") {
+    if !has_string_member(message, "method", "textDocument/publishDiagnostics") {
         return Ok(None);
     }
     match message.get("params") {
@@ -126,12 +127,12 @@ fn read_answer(
     answer: &Value,
 ) -> Result<Option<Message>, AllocError>
     ensures { IfOk result (λ found. option_map message_of found
-        ≡ answer_of_response request_number (map sent_ask_of requested.now) (view answer.now)) }
+        ≡ answer_of_response request_number_from_id (map sent_ask_of requested.now) (view answer.now)) }
 {
     let Some(number) = answer_number(answer) else {
         return Ok(None);
     };
-    let Some(requested) = numbered_ask(requested, number) else {
+    let Some(requested) = ask_with_number(requested, number) else {
         return Ok(None);
     };
     let edits = read_edits(alloc, requested.uri.as_str(), &requested.ask, answer)?;
@@ -139,14 +140,14 @@ fn read_answer(
 }
 
 fn answer_number(answer: &Value) -> Option<u64>
-    ensures { result ≡ option_and_then request_number (get (codes "id") (view answer.now)) }
+    ensures { result ≡ option_and_then request_number_from_id (get (codes "id") (view answer.now)) }
 {
     answer.get("id")?.as_u64()
 }
 
-/// Returns the sent request for edits with this number, counted from 1. None if there is no such
+/// Returns the sent request for edits with this number, counted from 1, or None if there is no such
 /// request.
-pub fn numbered_ask(requested: &[SentAsk], number: u64) -> Option<&SentAsk>
+pub fn ask_with_number(requested: &[SentAsk], number: u64) -> Option<&SentAsk>
     ensures { option_map (λ a. sent_ask_of a.now) result
         ≡ request_numbered (map sent_ask_of requested.now) number }
 {
@@ -198,9 +199,9 @@ fn answer_edit_values<'v>(uri: &str, ask: &Ask, answer: &'v Value) -> Option<&'v
     }
 }
 
-/// Returns the list of edits of this document in a WorkspaceEdit. If the WorkspaceEdit has
-/// `documentChanges`, the list is in the first element of `documentChanges`. Otherwise it is in
-/// `changes`, under the uri. None if there is no such list.
+/// Returns the list of edits in a WorkspaceEdit. If there is a member `documentChanges`, the list
+/// is in its first element, whose uri is ignored. Otherwise the list is in `changes`, under this
+/// uri. Returns None if there is no such list.
 fn workspace_edit_values<'v>(edit: &'v Value, uri: &str) -> Option<&'v Vec<Value>>
     ensures { option_map (λ v. items_view v.now.items) result
         ≡ workspace_edit_items uri.now (view edit.now) }
@@ -211,8 +212,8 @@ fn workspace_edit_values<'v>(edit: &'v Value, uri: &str) -> Option<&'v Vec<Value
     }
 }
 
-/// Returns the list of edits of this document in the first code action with this title. None if
-/// there is no such list.
+/// Returns the list of edits in the first code action with this title (`workspace_edit_values`).
+/// Returns None if there is no such list.
 fn action_edit_values<'v>(actions: &'v Value, title: &str, uri: &str) -> Option<&'v Vec<Value>>
     ensures { option_map (λ v. items_view v.now.items) result
         ≡ action_edit_items title.now uri.now (view actions.now) }
@@ -226,16 +227,16 @@ fn action_with_title<'v>(actions: &'v [Value], title: &str) -> Option<&'v Value>
         ≡ first_action_with_title title.now (items_view actions.now) }
 {
     for action in actions {
-        if has_text(action, "title", title) {
+        if has_string_member(action, "title", title) {
             return Some(action);
         }
     }
     None
 }
 
-/// Returns whether a JSON value has a member with this name and this text.
-fn has_text(value: &Value, name: &str, text: &str) -> bool
-    ensures { result ≡ is_given_text text.now (text_member name.now (view value.now)) }
+/// Returns whether a JSON value has a member with this name whose value is this text.
+fn has_string_member(value: &Value, name: &str, text: &str) -> bool
+    ensures { result ≡ equals_optional_text text.now (text_member name.now (view value.now)) }
 {
     match text_in(value, name) {
         Some(found) => found == text,
@@ -245,8 +246,8 @@ fn has_text(value: &Value, name: &str, text: &str) -> bool
 
 // ---- edits
 
-/// Returns the edits that a list of JSON values means, in order. None if one of the values can't be
-/// read as an edit.
+/// Returns the edits that a list of JSON values means, in order. Returns None if one of the values
+/// can't be read as an edit.
 fn read_edit_list(alloc: Global, values: &[Value]) -> Result<Option<Vec<Edit>>, AllocError>
     ensures { IfOk result (λ found. option_map (λ edits. replacements edits.items) found
         ≡ edits_in (items_view values.now)) }

@@ -1,4 +1,5 @@
-//! Applies changes (one after another) and edits (all at once) to a text.
+//! Applies changes and edits to a text. Changes are made one after another, and edits are all made
+//! in the same text.
 ghost use Rattle.std.specs.Prelude.{◌≡◌, Some, map, IfOk, OnOk, string_bytes};
 ghost use Rattle.std.specs.Option.{option_map};
 ghost use Rattle.std.specs.Str.{chars};
@@ -9,7 +10,7 @@ ghost use Rattle.ob0_world_rules.specs.Edited.{replacements};
 use ob0_text::{Change, Edit, PatchFault, TextStore, Unit, patch};
 use std::alloc::{AllocError, Global};
 
-/// Returns the text after these changes, each made in the text that the previous change has left.
+/// Returns the text after these changes, each made in the text that results from the previous one.
 /// Positions are counted in `unit`.
 pub fn apply_changes<T: TextStore>(
     alloc: Global,
@@ -47,7 +48,8 @@ fn apply_change<T: TextStore>(
     Ok(())
 }
 
-/// Returns the text with all edits made at once. None if two edits share a character.
+/// Returns the text after all these edits, whose ranges all refer to the given text. Returns None
+/// if two edits share a character.
 pub fn apply_edits<T: TextStore>(
     alloc: Global,
     unit: Unit,
@@ -58,9 +60,9 @@ pub fn apply_edits<T: TextStore>(
         ≡ option_map (λ s. chars (string_bytes s)) new) }
 {
     let store = T::from_str_in(alloc, text, unit)?;
-    let patched = patch(alloc, &store, edits);
+    let patched_text = patch(alloc, &store, edits);
     drop(store);
-    match patched {
+    match patched_text {
         Ok(new) => Ok(Some(new)),
         Err(fault) => match fault {
             PatchFault::Overlap => Ok(None),

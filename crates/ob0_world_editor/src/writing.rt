@@ -6,7 +6,7 @@ ghost use Rattle.ob0_text.specs.OpenDocuments.{Opened, Changed, Closed, text_cha
 ghost use Rattle.ob0_rpc.specs.Writing.{Writes};
 ghost use Rattle.ob0_world_rules.specs.Edited.{whole_text_change};
 ghost use Rattle.ob0_world_editor.specs.Code.{ask_of};
-ghost use Rattle.ob0_world_editor.specs.MessagesToServer.{IsNotificationFor, IsRequest};
+ghost use Rattle.ob0_world_editor.specs.MessagesToServer.{IsNotificationFor, IsRequestWithNumber};
 ghost use Rattle.ob0_world_editor.specs.Shapes.{request_message};
 
 use crate::asks::Ask;
@@ -15,7 +15,7 @@ use crate::params::{
     FormattingOptions, FormattingParams, OpenedDocument, RenameParams, Request,
     VersionedDocumentId,
 };
-use ob0_rpc::{OneMemberObject, WriteJson, content_of, notification_of};
+use ob0_rpc::{OneMemberObject, WriteJson, content_of, notification_text};
 use ob0_text::Change;
 use std::alloc::{AllocError, Global};
 
@@ -27,7 +27,7 @@ pub fn did_open(alloc: Global, uri: &str, version: u64, text: &str) -> Result<Ve
 {
     let value = OpenedDocument { uri, version, text };
     let key = "textDocument";
-    notification_of(
+    notification_text(
         alloc,
         "textDocument/didOpen",
         &OneMemberObject { key, value },
@@ -47,7 +47,7 @@ pub fn did_change(
 {
     let changes = ContentChanges { changes };
     let document = VersionedDocumentId { uri, version };
-    notification_of(
+    notification_text(
         alloc,
         "textDocument/didChange",
         &DidChangeParams { changes, document },
@@ -69,7 +69,7 @@ pub fn did_change_whole_text(
     let whole = [ContentChange { range: None, text }];
     let changes = whole.as_slice();
     let document = VersionedDocumentId { uri, version };
-    notification_of(
+    notification_text(
         alloc,
         "textDocument/didChange",
         &DidChangeParams { changes, document },
@@ -82,17 +82,17 @@ pub fn did_close(alloc: Global, uri: &str) -> Result<Vec<u8>, AllocError>
 {
     let value = DocumentId { uri };
     let key = "textDocument";
-    notification_of(
+    notification_text(
         alloc,
         "textDocument/didClose",
         &OneMemberObject { key, value },
     )
 }
 
-/// Returns the content of the request that asks for these edits of a document, with this number as
-/// its id. Both ways of inlining request the code actions at the position in `ask`.
+/// Returns the content of the request for these edits of a document, with this number as its id.
+/// Both kinds of inlining request the code actions at the position in `ask`.
 pub fn request(alloc: Global, number: u64, uri: &str, ask: &Ask) -> Result<Vec<u8>, AllocError>
-    ensures { IfOk result (λ content. IsRequest number uri.now (ask_of ask.now) content.items) }
+    ensures { IfOk result (λ content. IsRequestWithNumber number uri.now (ask_of ask.now) content.items) }
 {
     let document = DocumentId { uri };
     match ask {

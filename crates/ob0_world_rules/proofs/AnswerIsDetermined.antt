@@ -6,12 +6,12 @@ use Rattle.ob0_text.specs.declared.position_types.Position.{Position}
 use Rattle.ob0_text.specs.declared.position_types.Unit.{Unit}
 use Rattle.ob0_edits.specs.declared.inlinings.Inlining.{Inlining}
 use Rattle.ob0_edits.specs.declared.inlinings.Inlining.TheVariants.{OneUse, Everywhere}
-use Rattle.ob0_edits.specs.Inlinings.{IsInliningRefusedIn}
+use Rattle.ob0_edits.specs.Inlinings.{IsInliningRefusedInText}
 use Rattle.ob0_world_rules.specs.Edited.{replacements}
 use Rattle.ob0_world_rules.specs.Asks.{Ask, rename, inline_here, inline_all, format, clamped_indent}
 use Rattle.ob0_world_rules.specs.Answers.{position_offset, InlinesAt, GivesEdits, Refuses}
 use Rattle.ob0_world_rules.specs.Laws.{AnswersAreUnique}
-use Rattle.ob0_world_rules.proofs.KeptRuns.{edits_keep_the_run}
+use Rattle.ob0_world_rules.proofs.KeptRuns.{answer_edits_preserve_run}
 use Rattle.ob0_world_rules.proofs.OneLayout.{lays_out_one, lays_out_or_long}
 use Rattle.ob0_world_rules.proofs.OneRenaming.{renames_one, renames_or_refused}
 use Rattle.ob0_world_rules.proofs.OneInlining.{inlines_one, inlines_or_refused}
@@ -20,7 +20,7 @@ inlines_at_one : (how : Inlining) (unit : Unit) (text : List ℕ) (position : Po
 inlines_at_one how unit text position xs ys (found, h, is) (also, k, too) =
     ap replacements is ∙ (inlines_one unit text (position_offset unit text position) found how also h k ∙ sym (ap replacements too))
 
-inlines_at_or_refused : (how : Inlining) (unit : Unit) (text : List ℕ) (position : Position) (xs : List Edit) → InlinesAt how unit text position xs → IsInliningRefusedIn how unit text (position_offset unit text position) → ⊥
+inlines_at_or_refused : (how : Inlining) (unit : Unit) (text : List ℕ) (position : Position) (xs : List Edit) → InlinesAt how unit text position xs → IsInliningRefusedInText how unit text (position_offset unit text position) → ⊥
 inlines_at_or_refused how unit text position xs (found, h, is) k = inlines_or_refused unit text (position_offset unit text position) found how h k
 
 hands_out_one : (unit : Unit) (text : List ℕ) (ask : Ask) (xs ys : List Edit) → GivesEdits unit text ask xs → GivesEdits unit text ask ys → replacements xs ≡ replacements ys
@@ -38,7 +38,7 @@ hands_out_or_refuses unit text (format indent) xs h k = lays_out_or_long unit (c
 pub answers_are_unique : AnswersAreUnique
 answers_are_unique unit text ask given other (inl (xs, h, is)) (inl (ys, k, too)) = is ∙ (hands_out_one unit text ask xs ys h k ∙ sym too)
 answers_are_unique unit text ask given other (inl (xs, h, is)) (inr (inl refused, none)) = absurd (hands_out_or_refuses unit text ask xs h refused)
-answers_are_unique unit text ask given other (inl (xs, h, is)) (inr (inr unfit, none)) = absurd (unfit (edits_keep_the_run unit text ask xs h).before_is_well_typed)
+answers_are_unique unit text ask given other (inl (xs, h, is)) (inr (inr unfit, none)) = absurd (unfit (answer_edits_preserve_run unit text ask xs h).before_is_well_typed)
 answers_are_unique unit text ask given other (inr (inl refused, none)) (inl (ys, k, too)) = absurd (hands_out_or_refuses unit text ask ys k refused)
-answers_are_unique unit text ask given other (inr (inr unfit, none)) (inl (ys, k, too)) = absurd (unfit (edits_keep_the_run unit text ask ys k).before_is_well_typed)
+answers_are_unique unit text ask given other (inr (inr unfit, none)) (inl (ys, k, too)) = absurd (unfit (answer_edits_preserve_run unit text ask ys k).before_is_well_typed)
 answers_are_unique unit text ask given other (inr (why, none)) (inr (also, nothing)) = none ∙ sym nothing

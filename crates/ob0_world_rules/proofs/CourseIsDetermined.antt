@@ -7,10 +7,10 @@ use Rattle.ob0_text.specs.OpenDocuments.{OpenDocuments, Document, InStep, OutOfS
 use Rattle.ob0_world_rules.specs.Language.{WellTypedText}
 use Rattle.ob0_world_rules.specs.Edited.{Replacement}
 use Rattle.ob0_world_rules.specs.Asks.{Ask}
-use Rattle.ob0_world_rules.specs.Answers.{IsAnswer}
-use Rattle.ob0_world_rules.specs.ClientAndServer.{MessageToServer, notifies, requests, MessageToEditor, publishes, answers, PublicationWithText, ClientAndServer, after_message}
-use Rattle.ob0_world_rules.specs.Serving.{Publishes, RepliesToNotification, Replies}
-use Rattle.ob0_world_rules.specs.Happens.{Event, editor_acts, serve, take_message, ServerTakes, Happens, Course}
+use Rattle.ob0_world_rules.specs.Answers.{IsAnswerForDocument}
+use Rattle.ob0_world_rules.specs.ClientAndServer.{MessageToServer, notifies, requests, MessageToEditor, publishes, answers, PublicationWithText, ClientAndServer, documents_after_message}
+use Rattle.ob0_world_rules.specs.Serving.{SendsDiagnostics, RepliesToNotification, Replies}
+use Rattle.ob0_world_rules.specs.Happens.{Event, editor_acts, serve, take_message, ServerTakes, Happens, IsCourse}
 use Rattle.ob0_world_rules.proofs.AnswerIsDetermined.{answers_are_unique}
 
 same_truth : (a b : Bool) (P : Type 0) → IsTrue a ↔ P → IsTrue b ↔ P → a ≡ b
@@ -22,7 +22,7 @@ same_truth false false P p q = refl
 abbrev made_with : List ℕ → ℤ → List ℕ → Bool → PublicationWithText
 made_with uri version text empty = record { uri = uri; version = version; text = text; no_diagnostics = empty }
 
-publishes_one : (uri : List ℕ) (o : Option Document) (said also : List MessageToEditor) (made more : List PublicationWithText) → Publishes uri o said made → Publishes uri o also more → (said ≡ also) × (made ≡ more)
+publishes_one : (uri : List ℕ) (o : Option Document) (said also : List MessageToEditor) (made more : List PublicationWithText) → SendsDiagnostics uri o said made → SendsDiagnostics uri o also more → (said ≡ also) × (made ≡ more)
 publishes_one uri (Some (InStep version text)) said also made more (e, right, is_said, is_made) (f, right_too, is_also, is_more) =
     let same : e ≡ f = same_truth e f (WellTypedText text) right right_too in
     (is_said ∙ ap (λ b. publishes uri (Some version) b ∷ []) same ∙ sym is_also, is_made ∙ ap (λ b. made_with uri version text b ∷ []) same ∙ sym is_more)
@@ -35,7 +35,7 @@ reports_one held (Changed uri version how) said also made more h k = publishes_o
 reports_one held (Lost uri) said also made more h k = (h.0 ∙ sym k.0, h.1 ∙ sym k.1)
 reports_one held (Closed uri) said also made more h k = (h.0 ∙ sym k.0, h.1 ∙ sym k.1)
 
-answers_one : (unit : Unit) (o : Option Document) (ask : Ask) (given other : List Replacement) → IsAnswer unit o ask given → IsAnswer unit o ask other → given ≡ other
+answers_one : (unit : Unit) (o : Option Document) (ask : Ask) (given other : List Replacement) → IsAnswerForDocument unit o ask given → IsAnswerForDocument unit o ask other → given ≡ other
 answers_one unit (Some (InStep version text)) ask given other h k = answers_are_unique unit text ask given other h k
 answers_one unit (Some OutOfStep) ask given other h k = h ∙ sym k
 answers_one unit None ask given other h k = h ∙ sym k
@@ -50,20 +50,20 @@ serves_one : (w : ClientAndServer) (queue : List MessageToServer) (new other : C
 serves_one w [] new other h k = h ∙ sym k
 serves_one w (m ∷ rest) new other (said, made, replies, is) (also, more, replies_too, is_too) =
     let both : (said ≡ also) × (made ≡ more) = sends_one w.held m said also made more replies replies_too in
-    is ∙ (λ i. record w { to_server = rest; held = after_message w.held m; to_editor = w.to_editor ++ both.0 i; made = w.made ++ both.1 i }) ∙ sym is_too
+    is ∙ (λ i. record w { to_server = rest; held = documents_after_message w.held m; to_editor = w.to_editor ++ both.0 i; made = w.made ++ both.1 i }) ∙ sym is_too
 
-pub step_is_determined : (w : ClientAndServer) (event : Event) (new other : ClientAndServer) → Happens w event new → Happens w event other → new ≡ other
-step_is_determined w (editor_acts act) new other h k = h ∙ sym k
-step_is_determined w serve new other h k = serves_one w w.to_server new other h k
-step_is_determined w take_message new other h k = h ∙ sym k
+pub state_after_event_is_determined : (w : ClientAndServer) (event : Event) (new other : ClientAndServer) → Happens w event new → Happens w event other → new ≡ other
+state_after_event_is_determined w (editor_acts act) new other h k = h ∙ sym k
+state_after_event_is_determined w serve new other h k = serves_one w w.to_server new other h k
+state_after_event_is_determined w take_message new other h k = h ∙ sym k
 
-pub course_is_determined : (w : ClientAndServer) (events : List Event) (end other : ClientAndServer) → Course w events end → Course w events other → end ≡ other
+pub course_is_determined : (w : ClientAndServer) (events : List Event) (end other : ClientAndServer) → IsCourse w events end → IsCourse w events other → end ≡ other
 course_is_determined w [] end other h k = h ∙ sym k
 course_is_determined w (event ∷ events) end other (between, happens, course) (middle, happens_too, course_too) =
-    let same : between ≡ middle = step_is_determined w event between middle happens happens_too in
-    course_is_determined middle events end other (subst (λ x. Course x events end) same course) course_too
+    let same : between ≡ middle = state_after_event_is_determined w event between middle happens happens_too in
+    course_is_determined middle events end other (subst (λ x. IsCourse x events end) same course) course_too
 
 -- A course with one more event at its end is a course.
-pub course_push : (w : ClientAndServer) (events : List Event) (between : ClientAndServer) (e : Event) (new : ClientAndServer) → Course w events between → Happens between e new → Course w (events ++ e ∷ []) new
+pub course_push : (w : ClientAndServer) (events : List Event) (between : ClientAndServer) (e : Event) (new : ClientAndServer) → IsCourse w events between → Happens between e new → IsCourse w (events ++ e ∷ []) new
 course_push w [] between e new run happens = (new, subst (λ x. Happens x e new) run happens, refl)
 course_push w (x ∷ events) between e new (mid, first, rest) happens = (mid, first, course_push mid events between e new rest happens)

@@ -10,15 +10,15 @@ use Rattle.ob0_text.specs.declared.position_types.Unit.{Unit}
 use Rattle.ob0_text.specs.OpenDocuments.{OpenDocuments, Opened, Changed, Closed, document_at}
 use Rattle.ob0_world_rules.specs.Language.{WellTypedText, SameRun}
 use Rattle.ob0_world_rules.specs.Edited.{text_after_edits}
-use Rattle.ob0_world_rules.specs.ClientAndServer.{OpenDocument, SentAsk, Editor, open_at, MessageToServer, notifies, requests, MessageToEditor, Applied, ClientAndServer, after_message}
-use Rattle.ob0_world_rules.specs.EditorActs.{ActResult, unchanged_result, closing_result, asking_result, without_answer}
-use Rattle.ob0_world_rules.specs.Happens.{after_act, ServerTakes}
+use Rattle.ob0_world_rules.specs.ClientAndServer.{OpenDocument, SentAsk, Editor, open_document_at, MessageToServer, notifies, requests, MessageToEditor, Applied, ClientAndServer, documents_after_message}
+use Rattle.ob0_world_rules.specs.EditorActs.{ActResult, silent_result, closing_result, asking_result, without_answer}
+use Rattle.ob0_world_rules.specs.Happens.{state_after_act, ServerTakes}
 use Rattle.ob0_world_rules.specs.Mirror.{documents_after_queue, in_step_document}
-use Rattle.ob0_world_rules.specs.Headline.{KeepsTheRun}
+use Rattle.ob0_world_rules.specs.Headline.{PreservesRun}
 use Rattle.ob0_world_rules.specs.Laws.{EditsPreserveRun}
-use Rattle.ob0_world_rules.specs.PublicationsInOrder.{AnnouncedDocument, AreMadeForDocuments, versions_announced_by, versioned_uri}
-use Rattle.ob0_world_rules.specs.Editors.{Revision, Move, to_open, to_revise, to_close, to_ask, to_apply, to_discard, revised_document, with_document, Revises, notifications_of, AppliesAnswer, opening_result_as, IsAllowedMove}
-use Rattle.ob0_world_rules.specs.EveryEditor.{EditorAndServer, initial_editor_and_server, modeled_messages, notifications_among, model_state_of, Turn, editor_moves, editor_sends_unmodeled, server_takes, editor_takes, after_move, ServerTakesNext, after_editor_takes_next, MayHappen, MayLeadTo, HoldsWithEditor, HoldsForEveryEditor}
+use Rattle.ob0_world_rules.specs.PublicationsInOrder.{AnnouncedDocument, AreMadeForDocuments, uris_and_versions_announced_by, uri_and_version_of}
+use Rattle.ob0_world_rules.specs.Editors.{Revision, Move, to_open, to_revise, to_close, to_ask, to_apply, to_discard, revised_document, with_document, Revises, notifications_of, AppliesAnswer, opening_result_for_document, IsAllowedMove}
+use Rattle.ob0_world_rules.specs.EveryEditor.{EditorAndServer, initial_editor_and_server, modeled_messages, notifications_among, model_state_of, Turn, editor_moves, editor_sends_unmodeled, server_takes, editor_takes, state_after_move, ServerTakesNext, state_after_editor_takes_next, MayHappen, MayLeadTo, HoldsForEditorAndServer, HoldsForEveryEditor}
 use Rattle.ob0_world_rules.proofs.UriLaws.{get_put, uri_itself}
 use Rattle.ob0_world_rules.proofs.Asked.{Known}
 use Rattle.ob0_world_rules.proofs.Keeping.{AnswerFits, Kept, acts_kept, revise_kept, held_known}
@@ -54,7 +54,7 @@ module _ (unit : Unit) where
     pending : Pending w.held (modeled_messages w.to_server) waiting
 
   -- A move in the model is the same move without the other messages.
-  moved_so : (w : EditorAndServer) (done : ActResult) (announced : List AnnouncedDocument) → after_act (model_state_of w) done ≡ model_state_of (after_move w done announced)
+  moved_so : (w : EditorAndServer) (done : ActResult) (announced : List AnnouncedDocument) → state_after_act (model_state_of w) done ≡ model_state_of (state_after_move w done announced)
   moved_so w done announced i =
       record (model_state_of w) {
         editor = done.editor;
@@ -63,7 +63,7 @@ module _ (unit : Unit) where
       }
 
   -- A move that sends no message keeps the invariant.
-  none_sent : (w : EditorAndServer) (e : Editor) (applied : List Applied) → Good w → Kept unit (after_act (model_state_of w) (record { editor = e; sent = []; applied = applied })) → Good (after_move w (record { editor = e; sent = []; applied = applied }) [])
+  none_sent : (w : EditorAndServer) (e : Editor) (applied : List Applied) → Good w → Kept unit (state_after_act (model_state_of w) (record { editor = e; sent = []; applied = applied })) → Good (state_after_move w (record { editor = e; sent = []; applied = applied }) [])
   none_sent w e applied good kept =
       let done : ActResult = record { editor = e; sent = []; applied = applied } in
       record {
@@ -77,15 +77,15 @@ module _ (unit : Unit) where
       }
 
   -- A move that sends one message keeps the invariant.
-  one_sent : (w : EditorAndServer) (e : Editor) (m : MessageToServer) (announced : List AnnouncedDocument) (applied : List Applied) → Good w → Kept unit (after_act (model_state_of w) (record { editor = e; sent = m ∷ []; applied = applied }))
-      → ((held : OpenDocuments) → ((uri : List ℕ) → document_at (after_message held m) uri ≡ option_map in_step_document (open_at e uri)) → Awaits held m announced)
-      → map versioned_uri announced ≡ versions_announced_by m
-      → Good (after_move w (record { editor = e; sent = m ∷ []; applied = applied }) announced)
+  one_sent : (w : EditorAndServer) (e : Editor) (m : MessageToServer) (announced : List AnnouncedDocument) (applied : List Applied) → Good w → Kept unit (state_after_act (model_state_of w) (record { editor = e; sent = m ∷ []; applied = applied }))
+      → ((held : OpenDocuments) → ((uri : List ℕ) → document_at (documents_after_message held m) uri ≡ option_map in_step_document (open_document_at e uri)) → Awaits held m announced)
+      → map uri_and_version_of announced ≡ uris_and_versions_announced_by m
+      → Good (state_after_move w (record { editor = e; sent = m ∷ []; applied = applied }) announced)
   one_sent w e m announced applied good kept awaits names =
       let done : ActResult = record { editor = e; sent = m ∷ []; applied = applied } in
       let before : OpenDocuments = documents_after_queue (model_state_of w) in
-      let mirror : (uri : List ℕ) → document_at (after_message before m) uri ≡ option_map in_step_document (open_at e uri) =
-      λ uri. sym (ap (λ held. document_at held uri) (fold_push after_message w.held (modeled_messages w.to_server) m)) ∙ kept.mirror uri in
+      let mirror : (uri : List ℕ) → document_at (documents_after_message before m) uri ≡ option_map in_step_document (open_document_at e uri) =
+      λ uri. sym (ap (λ held. document_at held uri) (fold_push documents_after_message w.held (modeled_messages w.to_server) m)) ∙ kept.mirror uri in
       record {
         kept = subst (Kept unit) (moved_so w done announced) kept;
         latest = good.latest;
@@ -100,11 +100,11 @@ module _ (unit : Unit) where
   -- ---- the editor's moves
 
   -- A document is found under the uri under which it was inserted.
-  put_there : (held : OpenDocuments) (e : Editor) (uri : List ℕ) (d : OpenDocument) (m : MessageToServer) → ((q : List ℕ) → document_at (after_message held m) q ≡ option_map in_step_document (open_at (with_document e uri d) q)) → document_at (after_message held m) uri ≡ Some (in_step_document d)
+  put_there : (held : OpenDocuments) (e : Editor) (uri : List ℕ) (d : OpenDocument) (m : MessageToServer) → ((q : List ℕ) → document_at (documents_after_message held m) q ≡ option_map in_step_document (open_document_at (with_document e uri d) q)) → document_at (documents_after_message held m) uri ≡ Some (in_step_document d)
   put_there held e uri d m mirror = mirror uri ∙ ap (option_map in_step_document) (get_put e.documents uri d uri ∙ ap (λ b. cond b (Some d) (map_of.get e.documents uri)) (uri_itself uri))
 
   open_good : (w : EditorAndServer) (uri text : List ℕ) (version : ℤ) → Good w
-      → Good (after_move w (opening_result_as (record { version = version; text = text; opening = w.editor.openings + 1 }) w.editor uri) (record { uri = uri; document = record { version = version; text = text; opening = w.editor.openings + 1 } } ∷ []))
+      → Good (state_after_move w (opening_result_for_document (record { version = version; text = text; opening = w.editor.openings + 1 }) w.editor uri) (record { uri = uri; document = record { version = version; text = text; opening = w.editor.openings + 1 } } ∷ []))
   open_good w uri text version good =
       let d : OpenDocument = record { version = version; text = text; opening = w.editor.openings + 1 } in
       let m : MessageToServer = notifies (Opened uri version text) in
@@ -113,24 +113,24 @@ module _ (unit : Unit) where
       (λ held mirror. (Some d, put_there held w.editor uri d m mirror, refl))
       refl
 
-  revisions_good : (revisions : List Revision) (w : EditorAndServer) (uri : List ℕ) (new : Editor) (announced : List AnnouncedDocument) (applied : List Applied) → Good w → Revises w.editor uri revisions new announced → All KeepsTheRun applied
-      → Good (after_move w (record { editor = new; sent = notifications_of uri revisions; applied = applied }) announced)
+  revisions_good : (revisions : List Revision) (w : EditorAndServer) (uri : List ℕ) (new : Editor) (announced : List AnnouncedDocument) (applied : List Applied) → Good w → Revises w.editor uri revisions new announced → All PreservesRun applied
+      → Good (state_after_move w (record { editor = new; sent = notifications_of uri revisions; applied = applied }) announced)
   revisions_good [] w uri new announced applied good (is, none) keeps =
-      subst (λ ts. Good (after_move w (record { editor = new; sent = []; applied = applied }) ts)) (sym none)
+      subst (λ ts. Good (state_after_move w (record { editor = new; sent = []; applied = applied }) ts)) (sym none)
       (none_sent w new applied good
-      (subst (λ e. Kept unit (after_act (model_state_of w) (record { editor = e; sent = []; applied = applied }))) (sym is)
+      (subst (λ e. Kept unit (state_after_act (model_state_of w) (record { editor = e; sent = []; applied = applied }))) (sym is)
       (acts_kept unit (model_state_of w) (record { editor = w.editor; sent = []; applied = applied }) good.kept (λ k a same. same) refl refl good.kept.mirror tt keeps)))
   revisions_good (r ∷ more) w uri new announced applied good (d, later, at, makes, rest, is) keeps =
       let m : MessageToServer = notifies (Changed uri r.version r.sent_changes) in
       let first : ActResult = record { editor = with_document w.editor uri (revised_document d r); sent = m ∷ []; applied = [] } in
       let one : List AnnouncedDocument = record { uri = uri; document = revised_document d r } ∷ [] in
-      let between : EditorAndServer = after_move w first one in
+      let between : EditorAndServer = state_after_move w first one in
       let so : Good between =
       one_sent w first.editor m one [] good
-      (revise_kept unit (model_state_of w) uri d (revised_document d r) r.sent_changes [] good.kept at makes (All-nil KeepsTheRun))
+      (revise_kept unit (model_state_of w) uri d (revised_document d r) r.sent_changes [] good.kept at makes (All-nil PreservesRun))
       (λ held mirror. (Some (revised_document d r), put_there held w.editor uri (revised_document d r) m mirror, refl))
       refl in
-      let last : Good (after_move between (record { editor = new; sent = notifications_of uri more; applied = applied }) later) = revisions_good more between uri new later applied so rest keeps in
+      let last : Good (state_after_move between (record { editor = new; sent = notifications_of uri more; applied = applied }) later) = revisions_good more between uri new later applied so rest keeps in
       subst Good
       (λ i. record w {
         editor = new;
@@ -140,7 +140,7 @@ module _ (unit : Unit) where
       })
       last
 
-  apply_good : (w : EditorAndServer) (k : ℕ) (revisions : List Revision) (done : ActResult) (announced : List AnnouncedDocument) → Good w → AppliesAnswer w.editor k revisions done announced → Good (after_move w done announced)
+  apply_good : (w : EditorAndServer) (k : ℕ) (revisions : List Revision) (done : ActResult) (announced : List AnnouncedDocument) → Good w → AppliesAnswer w.editor k revisions done announced → Good (state_after_move w done announced)
   apply_good w k revisions done announced good a =
       let e : Editor = without_answer w.editor k in
       let known : Known w.editor.requested k (λ text. EditsPreserveRun unit text a.edits) = held_known unit w.editor.requested k w.editor.answers a.edits a.answered good.kept.answers_held in
@@ -149,7 +149,7 @@ module _ (unit : Unit) where
       let keep : EditsPreserveRun unit a.document.text a.edits = subst (λ text. EditsPreserveRun unit text a.edits) same known.holds in
       let is : keep.after ≡ a.text = same_Some keep.after a.text (sym keep.makes ∙ ap (λ u. text_after_edits u a.document.text a.edits) (sym good.kept.counts) ∙ a.makes) in
       let applied : Applied = record { uri = a.requested.uri; before = a.document.text; after = a.text } in
-      let keeps : KeepsTheRun applied = record { before_is_well_typed = keep.before_is_well_typed; after_is_well_typed = subst WellTypedText is keep.after_is_well_typed; same = subst (SameRun a.document.text) is keep.same } in
+      let keeps : PreservesRun applied = record { before_is_well_typed = keep.before_is_well_typed; after_is_well_typed = subst WellTypedText is keep.after_is_well_typed; same = subst (SameRun a.document.text) is keep.same } in
       let without : EditorAndServer = record w { editor = e } in
       let so : Good without =
       record {
@@ -161,27 +161,27 @@ module _ (unit : Unit) where
         are_made_for_documents = good.are_made_for_documents;
         pending = good.pending;
       } in
-      subst (λ x. Good (after_move w x announced)) (sym a.is)
-      (revisions_good revisions without a.requested.uri a.new announced (applied ∷ []) so a.revises (All-push KeepsTheRun [] applied (All-nil KeepsTheRun) keeps))
+      subst (λ x. Good (state_after_move w x announced)) (sym a.is)
+      (revisions_good revisions without a.requested.uri a.new announced (applied ∷ []) so a.revises (All-push PreservesRun [] applied (All-nil PreservesRun) keeps))
 
-  move_good : (w : EditorAndServer) (move : Move) (done : ActResult) (announced : List AnnouncedDocument) → Good w → IsAllowedMove w.editor move done announced → Good (after_move w done announced)
+  move_good : (w : EditorAndServer) (move : Move) (done : ActResult) (announced : List AnnouncedDocument) → Good w → IsAllowedMove w.editor move done announced → Good (state_after_move w done announced)
   move_good w (to_open uri version text) done announced good (is, are) =
-      subst (λ x. Good (after_move w x announced)) (sym is)
-      (subst (λ ts. Good (after_move w (opening_result_as (record { version = version; text = text; opening = w.editor.openings + 1 }) w.editor uri) ts)) (sym are) (open_good w uri text version good))
+      subst (λ x. Good (state_after_move w x announced)) (sym is)
+      (subst (λ ts. Good (state_after_move w (opening_result_for_document (record { version = version; text = text; opening = w.editor.openings + 1 }) w.editor uri) ts)) (sym are) (open_good w uri text version good))
   move_good w (to_revise uri revisions) done announced good (new, revises, is) =
-      subst (λ x. Good (after_move w x announced)) (sym is) (revisions_good revisions w uri new announced [] good revises (All-nil KeepsTheRun))
+      subst (λ x. Good (state_after_move w x announced)) (sym is) (revisions_good revisions w uri new announced [] good revises (All-nil PreservesRun))
   move_good w (to_close uri) done announced good (is, are) =
-      subst (λ x. Good (after_move w x announced)) (sym is)
-      (subst (λ ts. Good (after_move w (closing_result w.editor uri) ts)) (sym are)
+      subst (λ x. Good (state_after_move w x announced)) (sym is)
+      (subst (λ ts. Good (state_after_move w (closing_result w.editor uri) ts)) (sym are)
       (one_sent w (closing_result w.editor uri).editor (notifies (Closed uri)) [] [] good (close_kept unit (model_state_of w) uri good.kept) (λ held mirror. refl) refl))
   move_good w (to_ask uri ask) done announced good (d, at, is, are) =
-      subst (λ x. Good (after_move w x announced)) (sym is)
-      (subst (λ ts. Good (after_move w (asking_result w.editor uri ask d) ts)) (sym are)
+      subst (λ x. Good (state_after_move w x announced)) (sym is)
+      (subst (λ ts. Good (state_after_move w (asking_result w.editor uri ask d) ts)) (sym are)
       (one_sent w (asking_result w.editor uri ask d).editor (requests (suc (length w.editor.requested)) uri ask) [] [] good (ask_kept unit (model_state_of w) uri ask d at good.kept) (λ held mirror. refl) refl))
   move_good w (to_apply k revisions) done announced good may = apply_good w k revisions done announced good may
   move_good w (to_discard k) done announced good (is, are) =
-      subst (λ x. Good (after_move w x announced)) (sym is)
-      (subst (λ ts. Good (after_move w (unchanged_result (without_answer w.editor k)) ts)) (sym are)
+      subst (λ x. Good (state_after_move w x announced)) (sym is)
+      (subst (λ ts. Good (state_after_move w (silent_result (without_answer w.editor k)) ts)) (sym are)
       (none_sent w (without_answer w.editor k) [] good (still_kept unit (record (model_state_of w) { editor = without_answer w.editor k }) (without_kept unit (model_state_of w) k good.kept))))
 
   -- ---- the other turns
@@ -216,7 +216,7 @@ module _ (unit : Unit) where
       })
       refl)
   serve_good w (Some m ∷ rest) new waits good (said, made, replies, is) =
-      let after : EditorAndServer = record w { to_server = rest; held = after_message w.held m; to_editor = w.to_editor ++ map Some said; made = w.made ++ made } in
+      let after : EditorAndServer = record w { to_server = rest; held = documents_after_message w.held m; to_editor = w.to_editor ++ map Some said; made = w.made ++ made } in
       let queue : List MessageToServer = m ∷ modeled_messages rest in
       let same : (model_state_of w).to_server ≡ queue = ap modeled_messages waits in
       let takes : ServerTakes (model_state_of w) queue (model_state_of after) = (said, made, replies, λ i. record (model_state_of after) { to_editor = others_push w.to_editor said i }) in
@@ -234,7 +234,7 @@ module _ (unit : Unit) where
         pending = next.pending;
       })
 
-  take_good : (w : EditorAndServer) (queue : List (Option MessageToEditor)) → w.to_editor ≡ queue → Good w → Good (after_editor_takes_next w queue)
+  take_good : (w : EditorAndServer) (queue : List (Option MessageToEditor)) → w.to_editor ≡ queue → Good w → Good (state_after_editor_takes_next w queue)
   take_good w [] waits good = good
   take_good w (None ∷ rest) waits good =
       unmoved w (record w { to_editor = rest }) good (λ i. record (model_state_of w) { to_editor = ap modeled_messages waits i }) refl
@@ -274,7 +274,7 @@ module _ (unit : Unit) where
         pending = refl;
       }
 
-  holds_with : (w : EditorAndServer) → Good w → HoldsWithEditor w
+  holds_with : (w : EditorAndServer) → Good w → HoldsForEditorAndServer w
   holds_with w good =
       record {
         holds = record { applied = good.kept.applied; made = good.kept.made; latest_are_up_to_date = λ nothing_waits. up_to_date unit (model_state_of w) (good.kept, good.latest) (ap notifications_among nothing_waits) };

@@ -13,15 +13,15 @@ use Rattle.ob0_text.specs.OpenDocuments.{OpenDocuments, Document, InStep, OutOfS
 use Rattle.ob0_text.proofs.EntryLaws.{updated-some, updated-none}
 use Rattle.ob0_world_rules.specs.Edited.{Replacement}
 use Rattle.ob0_world_rules.specs.Asks.{Ask}
-use Rattle.ob0_world_rules.specs.Answers.{IsAnswer}
-use Rattle.ob0_world_rules.specs.ClientAndServer.{OpenDocument, SentAsk, Answer, open_at, MessageToServer, notifies, requests, MessageToEditor, publishes, answers, PublicationWithText, ClientAndServer, start, after_message}
-use Rattle.ob0_world_rules.specs.EditorActs.{unchanged_result, closing_result, asking_result, answers_except, without_answer}
-use Rattle.ob0_world_rules.specs.Serving.{Publishes, RepliesToNotification, Replies}
-use Rattle.ob0_world_rules.specs.Happens.{after_act, after_editor_takes, ServerTakes}
-use Rattle.ob0_world_rules.specs.Editors.{opening_result_as}
+use Rattle.ob0_world_rules.specs.Answers.{IsAnswerForDocument}
+use Rattle.ob0_world_rules.specs.ClientAndServer.{OpenDocument, SentAsk, Answer, open_document_at, MessageToServer, notifies, requests, MessageToEditor, publishes, answers, PublicationWithText, ClientAndServer, start, documents_after_message}
+use Rattle.ob0_world_rules.specs.EditorActs.{silent_result, closing_result, asking_result, answers_except, without_answer}
+use Rattle.ob0_world_rules.specs.Serving.{SendsDiagnostics, RepliesToNotification, Replies}
+use Rattle.ob0_world_rules.specs.Happens.{state_after_act, state_after_editor_takes, ServerTakes}
+use Rattle.ob0_world_rules.specs.Editors.{opening_result_for_document}
 use Rattle.ob0_world_rules.specs.EveryEditor.{notifications_among}
 use Rattle.ob0_world_rules.specs.Mirror.{documents_after_queue, in_step_document}
-use Rattle.ob0_world_rules.specs.Headline.{KeepsTheRun, IsCorrectPublication, last_publication, AreUpToDate}
+use Rattle.ob0_world_rules.specs.Headline.{PreservesRun, IsCorrectPublication, last_publication, PublicationsAreUpToDate}
 use Rattle.ob0_world_rules.specs.Laws.{EditsPreserveRun}
 use Rattle.ob0_world_rules.proofs.UriLaws.{get_put, get_removed, same_uri, uri_itself}
 use Rattle.ob0_world_rules.proofs.Latest.{IsMadeFor, latest_push}
@@ -30,7 +30,7 @@ use Rattle.ob0_world_rules.proofs.KeptRuns.{answer_keeps}
 use Rattle.ob0_world_rules.proofs.Keeping.{Fits, AnswerFits, HeldFits, HasText, AsksSee, Kept, message_unit, acts_kept, put_mirrors, remove_mirrors, answers_kept}
 
 -- Messages without a notification don't change the server's documents.
-quiet_stays : (held : OpenDocuments) (q : List MessageToServer) → notifications_among q ≡ [] → fold after_message held q ≡ held
+quiet_stays : (held : OpenDocuments) (q : List MessageToServer) → notifications_among q ≡ [] → fold documents_after_message held q ≡ held
 quiet_stays held [] quiet = refl
 quiet_stays held (notifies note ∷ q) quiet = absurd (cc)
 quiet_stays held (requests k uri ask ∷ q) quiet = quiet_stays held q quiet
@@ -38,16 +38,16 @@ quiet_stays held (requests k uri ask ∷ q) quiet = quiet_stays held q quiet
 -- ---- the editor's events
 
 module _ (unit : Unit) where
-  pub opened_kept : (w : ClientAndServer) (uri text : List ℕ) (version : ℤ) → Kept unit w → Kept unit (after_act w (opening_result_as (record { version = version; text = text; opening = w.editor.openings + 1 }) w.editor uri))
+  pub opened_kept : (w : ClientAndServer) (uri text : List ℕ) (version : ℤ) → Kept unit w → Kept unit (state_after_act w (opening_result_for_document (record { version = version; text = text; opening = w.editor.openings + 1 }) w.editor uri))
   opened_kept w uri text version kept =
       let d : OpenDocument = record { version = version; text = text; opening = w.editor.openings + 1 } in
-      acts_kept unit w (opening_result_as d w.editor uri) kept (λ k a is. is) refl refl (put_mirrors w uri d kept.mirror) tt (All-nil KeepsTheRun)
+      acts_kept unit w (opening_result_for_document d w.editor uri) kept (λ k a is. is) refl refl (put_mirrors w uri d kept.mirror) tt (All-nil PreservesRun)
 
-  pub close_kept : (w : ClientAndServer) (uri : List ℕ) → Kept unit w → Kept unit (after_act w (closing_result w.editor uri))
+  pub close_kept : (w : ClientAndServer) (uri : List ℕ) → Kept unit w → Kept unit (state_after_act w (closing_result w.editor uri))
   close_kept w uri kept =
-      acts_kept unit w (closing_result w.editor uri) kept (λ k a is. is) refl refl (remove_mirrors w uri kept.mirror) tt (All-nil KeepsTheRun)
+      acts_kept unit w (closing_result w.editor uri) kept (λ k a is. is) refl refl (remove_mirrors w uri kept.mirror) tt (All-nil PreservesRun)
 
-  pub ask_kept : (w : ClientAndServer) (uri : List ℕ) (ask : Ask) (d : OpenDocument) → open_at w.editor uri ≡ Some d → Kept unit w → Kept unit (after_act w (asking_result w.editor uri ask d))
+  pub ask_kept : (w : ClientAndServer) (uri : List ℕ) (ask : Ask) (d : OpenDocument) → open_document_at w.editor uri ≡ Some d → Kept unit w → Kept unit (state_after_act w (asking_result w.editor uri ask d))
   ask_kept w uri ask d is kept =
       let a : SentAsk = record { ask = ask; uri = uri; text = d.text; opening = d.opening; version = d.version } in
       let known : Known (w.editor.requested ++ a ∷ []) (suc (length w.editor.requested)) (HasText (documents_after_queue w) uri) =
@@ -56,12 +56,12 @@ module _ (unit : Unit) where
         is = slice_get_last w.editor.requested a;
         holds = (d.version, kept.mirror uri ∙ ap (option_map in_step_document) is);
       } in
-      acts_kept unit w (asking_result w.editor uri ask d) kept (numbered_push w.editor.requested (a ∷ [])) refl refl kept.mirror (known, tt) (All-nil KeepsTheRun)
+      acts_kept unit w (asking_result w.editor uri ask d) kept (numbered_push w.editor.requested (a ∷ [])) refl refl kept.mirror (known, tt) (All-nil PreservesRun)
 
   -- An act that sends nothing and changes nothing keeps the invariant.
-  pub still_kept : (w : ClientAndServer) → Kept unit w → Kept unit (after_act w (unchanged_result w.editor))
+  pub still_kept : (w : ClientAndServer) → Kept unit w → Kept unit (state_after_act w (silent_result w.editor))
   still_kept w kept =
-      acts_kept unit w (unchanged_result w.editor) kept (λ k a is. is) refl refl kept.mirror tt (All-nil KeepsTheRun)
+      acts_kept unit w (silent_result w.editor) kept (λ k a is. is) refl refl kept.mirror tt (All-nil PreservesRun)
 
   -- Taking the first message out of the editor's queue keeps the invariant.
   rest_kept : (w : ClientAndServer) (rest : List MessageToEditor) → Kept unit w → All (AnswerFits unit w.editor.requested) rest → Kept unit (record w { to_editor = rest })
@@ -76,7 +76,7 @@ module _ (unit : Unit) where
       go text (inl none) = absurd (cc)
       go text (inr keep) = keep
 
-  pub take_kept : (w : ClientAndServer) (queue : List MessageToEditor) → Kept unit w → All (AnswerFits unit w.editor.requested) queue → Kept unit (after_editor_takes w queue)
+  pub take_kept : (w : ClientAndServer) (queue : List MessageToEditor) → Kept unit w → All (AnswerFits unit w.editor.requested) queue → Kept unit (state_after_editor_takes w queue)
   take_kept w [] kept fit = kept
   take_kept w (publishes uri version empty ∷ rest) kept fit = rest_kept w rest kept (All-tail (AnswerFits unit w.editor.requested) (publishes uri version empty) rest fit)
   take_kept w (answers k [] ∷ rest) kept fit = rest_kept w rest kept (All-tail (AnswerFits unit w.editor.requested) (answers k []) rest fit)
@@ -151,7 +151,7 @@ module _ (unit : Unit) where
       (subst (λ m. Sound asked held [] made m) (sym none_made)
       (record { fit = All-nil (AnswerFits unit asked); right = All-nil IsCorrectPublication; now = subst (AreLatest held) (sym (append-nil made)) now }))
 
-  publish_sound : (asked : List SentAsk) (held : OpenDocuments) (uri : List ℕ) (o : Option Document) (said : List MessageToEditor) (made more : List PublicationWithText) → document_at held uri ≡ o → Others held uri made → Publishes uri o said more → Sound asked held said made more
+  publish_sound : (asked : List SentAsk) (held : OpenDocuments) (uri : List ℕ) (o : Option Document) (said : List MessageToEditor) (made more : List PublicationWithText) → document_at held uri ≡ o → Others held uri made → SendsDiagnostics uri o said more → Sound asked held said made more
   publish_sound asked held uri (Some (InStep version text)) said made more at others (empty, right, is_said, is_made) =
       let m : PublicationWithText = record { uri = uri; version = version; text = text; no_diagnostics = empty } in
       subst (λ s. Sound asked held s made more) (sym is_said)
@@ -226,16 +226,16 @@ module _ (unit : Unit) where
       }
 
   -- An answer to a request fits the text that the request was about.
-  ask_fits : (asked : List SentAsk) (held : OpenDocuments) (k : ℕ) (uri : List ℕ) (ask : Ask) (edits : List Replacement) → held.unit ≡ unit → Known asked k (HasText held uri) → IsAnswer held.unit (document_at held uri) ask edits
+  ask_fits : (asked : List SentAsk) (held : OpenDocuments) (k : ℕ) (uri : List ℕ) (ask : Ask) (edits : List Replacement) → held.unit ≡ unit → Known asked k (HasText held uri) → IsAnswerForDocument held.unit (document_at held uri) ask edits
       → Known asked k (Fits unit edits)
   ask_fits asked held k uri ask edits same_unit known may =
-      record { requested = known.requested; is = known.is; holds = answer_keeps unit known.requested.text ask edits (subst (λ o. IsAnswer unit o ask edits) known.holds.1 (subst (λ u. IsAnswer u (document_at held uri) ask edits) same_unit may)) }
+      record { requested = known.requested; is = known.is; holds = answer_keeps unit known.requested.text ask edits (subst (λ o. IsAnswerForDocument unit o ask edits) known.holds.1 (subst (λ u. IsAnswerForDocument u (document_at held uri) ask edits) same_unit may)) }
 
   -- holds if the server has the text of the request when it takes this message
   abbrev Meets : List SentAsk → OpenDocuments → MessageToServer → Type 0
   Meets asked held m = AsksSee asked held (m ∷ [])
 
-  message_sound : (asked : List SentAsk) (held : OpenDocuments) (m : MessageToServer) (said : List MessageToEditor) (made more : List PublicationWithText) → held.unit ≡ unit → Meets asked held m → AreLatest held made → Replies held m said more → Sound asked (after_message held m) said made more
+  message_sound : (asked : List SentAsk) (held : OpenDocuments) (m : MessageToServer) (said : List MessageToEditor) (made more : List PublicationWithText) → held.unit ≡ unit → Meets asked held m → AreLatest held made → Replies held m said more → Sound asked (documents_after_message held m) said made more
   message_sound asked held (notifies note) said made more same_unit meets now h = note_sound asked held note said made more now h
   message_sound asked held (requests k uri ask) said made more same_unit meets now (edits, may, is_said, is_made) =
       let quiet : Sound asked held [] made more = silent asked held made [] more refl is_made now in
@@ -250,7 +250,7 @@ module _ (unit : Unit) where
 
   -- If the server will have the text of each request in a queue, that holds of the first message, and later of the
   -- rest.
-  sees_first : (e : List SentAsk) (held : OpenDocuments) (m : MessageToServer) (rest : List MessageToServer) → AsksSee e held (m ∷ rest) → Meets e held m × AsksSee e (after_message held m) rest
+  sees_first : (e : List SentAsk) (held : OpenDocuments) (m : MessageToServer) (rest : List MessageToServer) → AsksSee e held (m ∷ rest) → Meets e held m × AsksSee e (documents_after_message held m) rest
   sees_first e held (notifies note) rest h = (tt, h)
   sees_first e held (requests k uri ask) rest h = ((h.0, tt), h.1)
 
@@ -258,13 +258,13 @@ module _ (unit : Unit) where
   serve_kept w [] new is both h = subst Both (sym h) both
   serve_kept w (m ∷ rest) new is (kept, now) (said, more, may, is_new) =
       let asked : List SentAsk = w.editor.requested in
-      let see : Meets asked w.held m × AsksSee asked (after_message w.held m) rest = sees_first asked w.held m rest (subst (AsksSee asked w.held) is kept.requested) in
-      let sound : Sound asked (after_message w.held m) said w.made more = message_sound asked w.held m said w.made more kept.holds see.0 now may in
+      let see : Meets asked w.held m × AsksSee asked (documents_after_message w.held m) rest = sees_first asked w.held m rest (subst (AsksSee asked w.held) is kept.requested) in
+      let sound : Sound asked (documents_after_message w.held m) said w.made more = message_sound asked w.held m said w.made more kept.holds see.0 now may in
       subst Both (sym is_new) (
         record {
           counts = kept.counts;
           holds = message_unit w.held m ∙ kept.holds;
-          mirror = subst (λ q. (uri : List ℕ) → document_at (fold after_message w.held q) uri ≡ option_map in_step_document (open_at w.editor uri)) is kept.mirror;
+          mirror = subst (λ q. (uri : List ℕ) → document_at (fold documents_after_message w.held q) uri ≡ option_map in_step_document (open_document_at w.editor uri)) is kept.mirror;
           requested = see.1;
           answered = All-append (AnswerFits unit asked) w.to_editor said kept.answered sound.fit;
           answers_held = kept.answers_held;
@@ -277,7 +277,7 @@ module _ (unit : Unit) where
   -- ---- all events
 
   -- When the editor takes a message, the server's documents and publications don't change.
-  pub take_unmoved : (w : ClientAndServer) (queue : List MessageToEditor) → ((after_editor_takes w queue).held ≡ w.held) × ((after_editor_takes w queue).made ≡ w.made)
+  pub take_unmoved : (w : ClientAndServer) (queue : List MessageToEditor) → ((state_after_editor_takes w queue).held ≡ w.held) × ((state_after_editor_takes w queue).made ≡ w.made)
   take_unmoved w [] = (refl, refl)
   take_unmoved w (m ∷ rest) = (refl, refl)
 
@@ -293,13 +293,13 @@ module _ (unit : Unit) where
       requested = tt;
       answered = All-nil (AnswerFits unit []);
       answers_held = All-nil (HeldFits unit []);
-      applied = All-nil KeepsTheRun;
+      applied = All-nil PreservesRun;
       made = All-nil IsCorrectPublication;
     },
     λ uri version text at. nothing_at uri (InStep version text) (IsMadeFor version text None) at,
   )
 
-  pub up_to_date : (w : ClientAndServer) → Both w → notifications_among w.to_server ≡ [] → AreUpToDate w.editor w.made
+  pub up_to_date : (w : ClientAndServer) → Both w → notifications_among w.to_server ≡ [] → PublicationsAreUpToDate w.editor w.made
   up_to_date w (kept, now) quiet uri d at =
       let held : document_at w.held uri ≡ Some (in_step_document d) = subst (λ held. document_at held uri ≡ Some (in_step_document d)) (quiet_stays w.held w.to_server quiet) (kept.mirror uri ∙ ap (option_map in_step_document) at) in
       now uri d.version d.text held

@@ -11,11 +11,11 @@ use Rattle.ob0_text.specs.declared.position_types.Unit.{Unit}
 use Rattle.ob0_text.specs.OpenDocuments.{OpenDocuments, InStep, document_with_text, DocumentEvent, Opened, Changed, Lost, Closed, TextChange, documents_after_event, changed_document, document_at}
 use Rattle.ob0_text.proofs.EntryLaws.{updated-some}
 use Rattle.ob0_world_rules.specs.Edited.{Replacement, text_after_changes}
-use Rattle.ob0_world_rules.specs.ClientAndServer.{OpenDocument, SentAsk, Answer, open_at, MessageToServer, notifies, requests, MessageToEditor, publishes, answers, Applied, ClientAndServer, after_message}
+use Rattle.ob0_world_rules.specs.ClientAndServer.{OpenDocument, SentAsk, Answer, open_document_at, MessageToServer, notifies, requests, MessageToEditor, publishes, answers, Applied, ClientAndServer, documents_after_message}
 use Rattle.ob0_world_rules.specs.EditorActs.{ActResult, edits_of_answer}
-use Rattle.ob0_world_rules.specs.Happens.{after_act}
-use Rattle.ob0_world_rules.specs.Mirror.{documents_after_queue, in_step_document, Mirrors}
-use Rattle.ob0_world_rules.specs.Headline.{KeepsTheRun, IsCorrectPublication}
+use Rattle.ob0_world_rules.specs.Happens.{state_after_act}
+use Rattle.ob0_world_rules.specs.Mirror.{documents_after_queue, in_step_document, WillMirrorEditor}
+use Rattle.ob0_world_rules.specs.Headline.{PreservesRun, IsCorrectPublication}
 use Rattle.ob0_world_rules.specs.Laws.{EditsPreserveRun}
 use Rattle.ob0_world_rules.proofs.UriLaws.{get_put, get_removed, mapped_choice}
 use Rattle.ob0_world_rules.proofs.Asked.{Known, Later, still_known}
@@ -47,11 +47,11 @@ pub record Kept (unit : Unit) (w : ClientAndServer) : Type 0 where
   -- client and server count positions in this unit
   pub counts : w.editor.unit ≡ unit
   pub holds : w.held.unit ≡ unit
-  pub mirror : Mirrors w
+  pub mirror : WillMirrorEditor w
   pub requested : AsksSee w.editor.requested w.held w.to_server
   pub answered : All (AnswerFits unit w.editor.requested) w.to_editor
   pub answers_held : All (HeldFits unit w.editor.requested) w.editor.answers
-  pub applied : All KeepsTheRun w.applied
+  pub applied : All PreservesRun w.applied
   pub made : All IsCorrectPublication w.made
 
 -- ---- the unit
@@ -62,13 +62,13 @@ note_unit held (Changed uri version how) = refl
 note_unit held (Lost uri) = refl
 note_unit held (Closed uri) = refl
 
-pub message_unit : (held : OpenDocuments) (m : MessageToServer) → (after_message held m).unit ≡ held.unit
+pub message_unit : (held : OpenDocuments) (m : MessageToServer) → (documents_after_message held m).unit ≡ held.unit
 message_unit held (notifies note) = note_unit held note
 message_unit held (requests k uri ask) = refl
 
-will_unit : (held : OpenDocuments) (q : List MessageToServer) → (fold after_message held q).unit ≡ held.unit
+will_unit : (held : OpenDocuments) (q : List MessageToServer) → (fold documents_after_message held q).unit ≡ held.unit
 will_unit held [] = refl
-will_unit held (m ∷ q) = will_unit (after_message held m) q ∙ message_unit held m
+will_unit held (m ∷ q) = will_unit (documents_after_message held m) q ∙ message_unit held m
 
 -- ---- later on
 
@@ -88,7 +88,7 @@ asks_later asked now later held [] h = h
 asks_later asked now later held (notifies note ∷ rest) h = asks_later asked now later (documents_after_event held note) rest h
 asks_later asked now later held (requests k uri ask ∷ rest) h = (still_known asked now k (HasText held uri) later h.0, asks_later asked now later held rest h.1)
 
-asks_append : (asked : List SentAsk) (held : OpenDocuments) (q more : List MessageToServer) → AsksSee asked held q → AsksSee asked (fold after_message held q) more → AsksSee asked held (q ++ more)
+asks_append : (asked : List SentAsk) (held : OpenDocuments) (q more : List MessageToServer) → AsksSee asked held q → AsksSee asked (fold documents_after_message held q) more → AsksSee asked held (q ++ more)
 asks_append asked held [] more h k = k
 asks_append asked held (notifies note ∷ rest) more h k = asks_append asked (documents_after_event held note) rest more h k
 asks_append asked held (requests n uri ask ∷ rest) more h k = (h.0, asks_append asked held rest more h.1 k)
@@ -96,34 +96,34 @@ asks_append asked held (requests n uri ask ∷ rest) more h k = (h.0, asks_appen
 -- ---- the editor acts
 
 pub acts_kept : (unit : Unit) (w : ClientAndServer) (done : ActResult) → Kept unit w → Later w.editor.requested done.editor.requested → done.editor.unit ≡ w.editor.unit → done.editor.answers ≡ w.editor.answers
-    → ((uri : List ℕ) → document_at (fold after_message (documents_after_queue w) done.sent) uri ≡ option_map in_step_document (open_at done.editor uri)) → AsksSee done.editor.requested (documents_after_queue w) done.sent → All KeepsTheRun done.applied → Kept unit (after_act w done)
+    → ((uri : List ℕ) → document_at (fold documents_after_message (documents_after_queue w) done.sent) uri ≡ option_map in_step_document (open_document_at done.editor uri)) → AsksSee done.editor.requested (documents_after_queue w) done.sent → All PreservesRun done.applied → Kept unit (state_after_act w done)
 acts_kept unit w done kept later same_unit same mirror see keeps =
     let asked : List SentAsk = w.editor.requested in
     let now : List SentAsk = done.editor.requested in
     record {
       counts = same_unit ∙ kept.counts;
       holds = kept.holds;
-      mirror = λ uri. ap (λ held. document_at held uri) (fold-append after_message w.held w.to_server done.sent) ∙ mirror uri;
+      mirror = λ uri. ap (λ held. document_at held uri) (fold-append documents_after_message w.held w.to_server done.sent) ∙ mirror uri;
       requested = asks_append now w.held w.to_server done.sent (asks_later asked now later w.held w.to_server kept.requested) see;
       answered = answers_later unit asked now later w.to_editor kept.answered;
       answers_held = subst (λ list. All (HeldFits unit now) list) (sym same) (held_later unit asked now later w.editor.answers kept.answers_held);
-      applied = All-append KeepsTheRun w.applied done.applied kept.applied keeps;
+      applied = All-append PreservesRun w.applied done.applied kept.applied keeps;
       made = kept.made;
     }
 
 -- Inserting a document at client and server keeps the mirror.
-put_mirror : (w : ClientAndServer) (uri : List ℕ) (d : OpenDocument) → Mirrors w → (q : List ℕ)
+put_mirror : (w : ClientAndServer) (uri : List ℕ) (d : OpenDocument) → WillMirrorEditor w → (q : List ℕ)
     → map_of.get (map_of.insert (documents_after_queue w).by_uri uri (in_step_document d)) q ≡ option_map in_step_document (map_of.get (map_of.insert w.editor.documents uri d) q)
 put_mirror w uri d mirror q =
     get_put (documents_after_queue w).by_uri uri (in_step_document d) q ∙ ap (cond (bytes_eq q uri) (Some (in_step_document d))) (mirror q)
     ∙ sym (mapped_choice in_step_document (bytes_eq q uri) (Some d) (map_of.get w.editor.documents q))
     ∙ ap (option_map in_step_document) (sym (get_put w.editor.documents uri d q))
 
-pub put_mirrors : (w : ClientAndServer) (uri : List ℕ) (d : OpenDocument) → Mirrors w → (q : List ℕ)
+pub put_mirrors : (w : ClientAndServer) (uri : List ℕ) (d : OpenDocument) → WillMirrorEditor w → (q : List ℕ)
     → map_of.get (map_of.insert (documents_after_queue w).by_uri uri (in_step_document d)) q ≡ option_map in_step_document (map_of.get (map_of.insert w.editor.documents uri d) q)
 put_mirrors w uri d mirror q = put_mirror w uri d mirror q
 
-pub remove_mirrors : (w : ClientAndServer) (uri : List ℕ) → Mirrors w → (q : List ℕ)
+pub remove_mirrors : (w : ClientAndServer) (uri : List ℕ) → WillMirrorEditor w → (q : List ℕ)
     → map_of.get (map_of.remove (documents_after_queue w).by_uri uri) q ≡ option_map in_step_document (map_of.get (map_of.remove w.editor.documents uri) q)
 remove_mirrors w uri mirror q =
     get_removed (documents_after_queue w).by_uri uri q ∙ ap (cond (bytes_eq q uri) None) (mirror q)
@@ -131,7 +131,7 @@ remove_mirrors w uri mirror q =
     ∙ ap (option_map in_step_document) (sym (get_removed w.editor.documents uri q))
 
 -- Changing a document's text at client and server keeps the mirror.
-change_mirrors : (w : ClientAndServer) (uri : List ℕ) (d new : OpenDocument) (how : List TextChange) → Mirrors w → (documents_after_queue w).unit ≡ w.editor.unit → open_at w.editor uri ≡ Some d
+change_mirrors : (w : ClientAndServer) (uri : List ℕ) (d new : OpenDocument) (how : List TextChange) → WillMirrorEditor w → (documents_after_queue w).unit ≡ w.editor.unit → open_document_at w.editor uri ≡ Some d
     → text_after_changes w.editor.unit (Some d.text) how ≡ Some new.text → (q : List ℕ)
     → document_at (documents_after_event (documents_after_queue w) (Changed uri new.version how)) q ≡ option_map in_step_document (map_of.get (map_of.insert w.editor.documents uri new) q)
 change_mirrors w uri d new how mirror same_unit was_open is q =
@@ -141,9 +141,9 @@ change_mirrors w uri d new how mirror same_unit was_open is q =
     ∙ put_mirror w uri new mirror q
 
 -- Giving an open document another version and text keeps the invariant if the server is sent the changes.
-pub revise_kept : (unit : Unit) (w : ClientAndServer) (uri : List ℕ) (d new : OpenDocument) (how : List TextChange) (applied : List Applied) → Kept unit w → open_at w.editor uri ≡ Some d
-    → text_after_changes w.editor.unit (Some d.text) how ≡ Some new.text → All KeepsTheRun applied
-    → Kept unit (after_act w (record { editor = record w.editor { documents = map_of.insert w.editor.documents uri new }; sent = notifies (Changed uri new.version how) ∷ []; applied = applied }))
+pub revise_kept : (unit : Unit) (w : ClientAndServer) (uri : List ℕ) (d new : OpenDocument) (how : List TextChange) (applied : List Applied) → Kept unit w → open_document_at w.editor uri ≡ Some d
+    → text_after_changes w.editor.unit (Some d.text) how ≡ Some new.text → All PreservesRun applied
+    → Kept unit (state_after_act w (record { editor = record w.editor { documents = map_of.insert w.editor.documents uri new }; sent = notifies (Changed uri new.version how) ∷ []; applied = applied }))
 revise_kept unit w uri d new how applied kept was_open is keeps =
     acts_kept unit w (record { editor = record w.editor { documents = map_of.insert w.editor.documents uri new }; sent = notifies (Changed uri new.version how) ∷ []; applied = applied }) kept (λ k a is. is)
     refl refl (change_mirrors w uri d new how kept.mirror (will_unit w.held w.to_server ∙ kept.holds ∙ sym kept.counts) was_open is) tt keeps

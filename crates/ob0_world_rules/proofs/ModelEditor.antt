@@ -5,15 +5,15 @@ use Rattle.std.proofs.lemmas.List.{map-append}
 use Rattle.ob0_text.specs.declared.position_types.Unit.{Unit}
 use Rattle.ob0_text.specs.OpenDocuments.{TextChange, changed_text}
 use Rattle.ob0_world_rules.specs.Edited.{Replacement, text_after_edits, whole_text_change, text_after_changes}
-use Rattle.ob0_world_rules.specs.ClientAndServer.{OpenDocument, EditorDocuments, SentAsk, Editor, request_numbered, open_at, MessageToServer, MessageToEditor, publishes, answers, ClientAndServer, start, after_message}
-use Rattle.ob0_world_rules.specs.EditorActs.{Act, ActResult, next_version, unchanged_result, opening_result, rewriting_result, edits_of_answer, without_answer, act_result, after_reading}
-use Rattle.ob0_world_rules.specs.Happens.{Event, editor_acts, serve, take_message, after_act, after_editor_takes, ServerTakes, Happens, Course}
-use Rattle.ob0_world_rules.specs.Headline.{Holds}
-use Rattle.ob0_world_rules.specs.Mirror.{Mirrors}
+use Rattle.ob0_world_rules.specs.ClientAndServer.{OpenDocument, EditorDocuments, SentAsk, Editor, request_numbered, open_document_at, MessageToServer, MessageToEditor, publishes, answers, ClientAndServer, start, documents_after_message}
+use Rattle.ob0_world_rules.specs.EditorActs.{Act, ActResult, next_version, silent_result, opening_result, rewriting_result, edits_of_answer, without_answer, act_result, editor_after_reading}
+use Rattle.ob0_world_rules.specs.Happens.{Event, editor_acts, serve, take_message, state_after_act, state_after_editor_takes, ServerTakes, Happens, IsCourse}
+use Rattle.ob0_world_rules.specs.Headline.{GuaranteesHold}
+use Rattle.ob0_world_rules.specs.Mirror.{WillMirrorEditor}
 use Rattle.ob0_world_rules.specs.Laws.{HoldsInEveryInterleaving, ServerMirrorsEditor}
-use Rattle.ob0_world_rules.specs.PublicationsInOrder.{AnnouncedDocument, document_if_open, documents_announced_in, documents_announced_at, AreAnnounced, versions_announced_in, PublicationsInOrder}
+use Rattle.ob0_world_rules.specs.PublicationsInOrder.{AnnouncedDocument, document_if_open, documents_announced_in, documents_announced_at, AreAnnounced, uris_and_versions_announced_in, PublicationsInOrder}
 use Rattle.ob0_world_rules.specs.Editors.{Revision, Move, to_open, to_revise, to_close, to_ask, to_apply, to_discard, revised_document, with_document, Revises, AppliesAnswer, IsAllowedMove}
-use Rattle.ob0_world_rules.specs.EveryEditor.{EditorAndServer, model_state_of, Turn, editor_moves, server_takes, editor_takes, ServerTakesNext, after_editor_takes_next, MayHappen, MayLeadTo, HoldsWithEditor, ModelEditorKeepsRules}
+use Rattle.ob0_world_rules.specs.EveryEditor.{EditorAndServer, model_state_of, Turn, editor_moves, server_takes, editor_takes, ServerTakesNext, state_after_editor_takes_next, MayHappen, MayLeadTo, HoldsForEditorAndServer, ModelEditorKeepsRules}
 use Rattle.ob0_world_rules.proofs.SameDocument.{Same, Knows, same_text, knows_first, knows_other, knows_open, knows_rewrite, knows_close, knows_ask}
 use Rattle.ob0_world_rules.proofs.PerformsAct.{edit_of, of_each}
 use Rattle.ob0_world_rules.proofs.EveryEditor.{others_none, holds_for_every_editor}
@@ -51,10 +51,10 @@ by_quiet_turn w announced new turn happens = by_turn w announced new [] turn (su
 as_it_was : (w new : ClientAndServer) (announced : List AnnouncedDocument) → new ≡ w → ComesTo w announced new []
 as_it_was w new announced is = record { turns = []; lead = λ i. from_model (is i) (append-nil announced i) }
 
-by_move : (w : ClientAndServer) (announced : List AnnouncedDocument) (move : Move) (done : ActResult) (more : List AnnouncedDocument) → IsAllowedMove w.editor move done more → ComesTo w announced (after_act w done) more
+by_move : (w : ClientAndServer) (announced : List AnnouncedDocument) (move : Move) (done : ActResult) (more : List AnnouncedDocument) → IsAllowedMove w.editor move done more → ComesTo w announced (state_after_act w done) more
 by_move w announced move done more may =
-    by_turn w announced (after_act w done) more (editor_moves move)
-    (done, more, may, λ i. record (from_model (after_act w done) (announced ++ more)) { to_server = map-append Some w.to_server done.sent i })
+    by_turn w announced (state_after_act w done) more (editor_moves move)
+    (done, more, may, λ i. record (from_model (state_after_act w done) (announced ++ more)) { to_server = map-append Some w.to_server done.sent i })
 
 -- A document that is inserted is the one that is announced.
 put_announced : (docs : EditorDocuments) (uri : List ℕ) (d : OpenDocument) → document_if_open uri (map_of.get (map_of.insert docs uri d) uri) ++ [] ≡ record { uri = uri; document = d } ∷ []
@@ -64,7 +64,7 @@ put_announced docs uri d = ap (λ o. document_if_open uri o ++ []) (get_put docs
 abbrev rewrite_of : ℤ → List ℕ → List TextChange → Revision
 rewrite_of version text how = record { version = next_version version; text = text; sent_changes = how }
 
-rewritten_revises : (e : Editor) (uri : List ℕ) (d : OpenDocument) (how : List TextChange) (text : List ℕ) → open_at e uri ≡ Some d → text_after_changes e.unit (Some d.text) how ≡ Some text
+rewritten_revises : (e : Editor) (uri : List ℕ) (d : OpenDocument) (how : List TextChange) (text : List ℕ) → open_document_at e uri ≡ Some d → text_after_changes e.unit (Some d.text) how ≡ Some text
     → Revises e uri (rewrite_of d.version text how ∷ []) (with_document e uri (revised_document d (rewrite_of d.version text how))) (record { uri = uri; document = revised_document d (rewrite_of d.version text how) } ∷ [])
 rewritten_revises e uri d how text at makes = (d, [], at, makes, (refl, refl), refl)
 
@@ -112,10 +112,10 @@ knows_act e act knows =
     })
     act
 
-knows_read : (e : Editor) (m : MessageToEditor) → Knows e → Knows (after_reading e m)
+knows_read : (e : Editor) (m : MessageToEditor) → Knows e → Knows (editor_after_reading e m)
 knows_read e (publishes uri version empty) knows = knows
 knows_read e (answers k []) knows = knows
-knows_read e (answers k (edit ∷ edits)) knows = knows_other e (after_reading e (answers k (edit ∷ edits))).answers knows
+knows_read e (answers k (edit ∷ edits)) knows = knows_other e (editor_after_reading e (answers k (edit ∷ edits))).answers knows
 
 pub knows_event : (w : ClientAndServer) (event : Event) (new : ClientAndServer) → Knows w.editor → Happens w event new → Knows new.editor
 knows_event w (editor_acts act) new knows is = subst (λ (x : ClientAndServer). Knows x.editor) (sym is) (knows_act w.editor act knows)
@@ -126,19 +126,19 @@ knows_event w serve new knows happens = go w.to_server happens
     go (m ∷ rest) (said, made, replies, is) = subst (λ (x : ClientAndServer). Knows x.editor) (sym is) knows
 knows_event w take_message new knows is = subst (λ (x : ClientAndServer). Knows x.editor) (sym is) (go w.to_editor)
   where
-    go : (queue : List MessageToEditor) → Knows (after_editor_takes w queue).editor
+    go : (queue : List MessageToEditor) → Knows (state_after_editor_takes w queue).editor
     go [] = knows
     go (m ∷ rest) = knows_read w.editor m knows
 
 -- ---- each event
 
 -- An act that does nothing leaves an equal state.
-nothing_done : (w : ClientAndServer) → after_act w (unchanged_result w.editor) ≡ w
+nothing_done : (w : ClientAndServer) → state_after_act w (silent_result w.editor) ≡ w
 nothing_done w i = record w { to_server = append-nil w.to_server i; applied = append-nil w.applied i }
 
 -- holds if an act changes nothing, or is a move that the editor may make and that announces what its messages announce
 abbrev pub IsMove : Editor → ActResult → Type 0
-IsMove e done = (done ≡ unchanged_result e) ⊎ ((move : Move) × IsAllowedMove e move done (documents_announced_in done.editor done.sent))
+IsMove e done = (done ≡ silent_result e) ⊎ ((move : Move) × IsAllowedMove e move done (documents_announced_in done.editor done.sent))
 
 moves : (e : Editor) (done : ActResult) (move : Move) (announced : List AnnouncedDocument) → documents_announced_in done.editor done.sent ≡ announced → IsAllowedMove e move done announced → IsMove e done
 moves e done move announced are may = inr (move, subst (IsAllowedMove e move done) (sym are) may)
@@ -165,11 +165,11 @@ act_may e act knows =
     })
     act
 
-act_comes : (w : ClientAndServer) (announced : List AnnouncedDocument) (act : Act) → Knows w.editor → ComesTo w announced (after_act w (act_result w.editor act)) (documents_announced_at w (editor_acts act))
+act_comes : (w : ClientAndServer) (announced : List AnnouncedDocument) (act : Act) → Knows w.editor → ComesTo w announced (state_after_act w (act_result w.editor act)) (documents_announced_at w (editor_acts act))
 act_comes w announced act knows = go (act_result w.editor act) (act_may w.editor act knows)
   where
-    go : (done : ActResult) → IsMove w.editor done → ComesTo w announced (after_act w done) (documents_announced_in done.editor done.sent)
-    go done (inl is) = subst (λ (d : ActResult). ComesTo w announced (after_act w d) (documents_announced_in d.editor d.sent)) (sym is) (as_it_was w (after_act w (unchanged_result w.editor)) announced (nothing_done w))
+    go : (done : ActResult) → IsMove w.editor done → ComesTo w announced (state_after_act w done) (documents_announced_in done.editor done.sent)
+    go done (inl is) = subst (λ (d : ActResult). ComesTo w announced (state_after_act w d) (documents_announced_in d.editor d.sent)) (sym is) (as_it_was w (state_after_act w (silent_result w.editor)) announced (nothing_done w))
     go done (inr (move, may)) = by_move w announced move done (documents_announced_in done.editor done.sent) may
 
 serve_comes : (w : ClientAndServer) (announced : List AnnouncedDocument) (queue : List MessageToServer) (new : ClientAndServer) → w.to_server ≡ queue → ServerTakes w queue new → ComesTo w announced new []
@@ -181,18 +181,18 @@ serve_comes w announced (m ∷ rest) new waits (said, made, replies, is) =
       replies,
       ap (λ x. from_model x announced) is ∙ (λ i. record (from_model w announced) {
         to_server = map Some rest;
-        held = after_message w.held m;
+        held = documents_after_message w.held m;
         to_editor = map-append Some w.to_editor said i;
         made = w.made ++ made;
       }),
     ) in
     by_quiet_turn w announced new server_takes (subst (λ q. ServerTakesNext (from_model w announced) q (from_model new announced)) (ap (map Some) (sym waits)) takes)
 
-take_comes : (w : ClientAndServer) (announced : List AnnouncedDocument) (queue : List MessageToEditor) → w.to_editor ≡ queue → ComesTo w announced (after_editor_takes w queue) []
+take_comes : (w : ClientAndServer) (announced : List AnnouncedDocument) (queue : List MessageToEditor) → w.to_editor ≡ queue → ComesTo w announced (state_after_editor_takes w queue) []
 take_comes w announced [] waits = as_it_was w w announced refl
 take_comes w announced (m ∷ rest) waits =
-    by_quiet_turn w announced (after_editor_takes w (m ∷ rest)) editor_takes
-    (subst (λ q. from_model (after_editor_takes w (m ∷ rest)) announced ≡ after_editor_takes_next (from_model w announced) (map Some q)) (sym waits) refl)
+    by_quiet_turn w announced (state_after_editor_takes w (m ∷ rest)) editor_takes
+    (subst (λ q. from_model (state_after_editor_takes w (m ∷ rest)) announced ≡ state_after_editor_takes_next (from_model w announced) (map Some q)) (sym waits) refl)
 
 event_comes : (w : ClientAndServer) (announced : List AnnouncedDocument) (event : Event) (new : ClientAndServer) → Knows w.editor → Happens w event new → ComesTo w announced new (documents_announced_at w event)
 event_comes w announced (editor_acts act) new knows is = subst (λ x. ComesTo w announced x (documents_announced_at w (editor_acts act))) (sym is) (act_comes w announced act knows)
@@ -209,7 +209,7 @@ record Led (w : ClientAndServer) (announced : List AnnouncedDocument) (events : 
   are : AreAnnounced w events more
   comes : ComesTo w announced new more
 
-course_comes : (events : List Event) (w : ClientAndServer) (announced : List AnnouncedDocument) (new : ClientAndServer) → Knows w.editor → Course w events new → Led w announced events new
+course_comes : (events : List Event) (w : ClientAndServer) (announced : List AnnouncedDocument) (new : ClientAndServer) → Knows w.editor → IsCourse w events new → Led w announced events new
 course_comes [] w announced new knows is = record { more = []; are = refl; comes = as_it_was w new announced is }
 course_comes (event ∷ events) w announced new knows (between, happens, run) =
     let now : List AnnouncedDocument = documents_announced_at w event in
@@ -239,21 +239,21 @@ model_editor_keeps_rules unit events end run =
 pub holds_in_every_interleaving : HoldsInEveryInterleaving
 holds_in_every_interleaving unit events end run =
     let (turns, w, lead, is) = model_editor_keeps_rules unit events end run in
-    subst Holds is (holds_for_every_editor unit turns w lead).holds
+    subst GuaranteesHold is (holds_for_every_editor unit turns w lead).holds
 
 pub server_mirrors_editor : ServerMirrorsEditor
 server_mirrors_editor unit events end run =
     let (turns, w, lead, is) = model_editor_keeps_rules unit events end run in
-    subst Mirrors is (holds_for_every_editor unit turns w lead).mirrors
+    subst WillMirrorEditor is (holds_for_every_editor unit turns w lead).mirrors
 
 pub publications_in_order : PublicationsInOrder
 publications_in_order unit events end run =
     let led : Led (start unit) [] events end = course_comes events (start unit) [] end (knows_first unit) run in
-    let holds : HoldsWithEditor (from_model end led.more) = holds_for_every_editor unit led.comes.turns (from_model end led.more) led.comes.lead in
+    let holds : HoldsForEditorAndServer (from_model end led.more) = holds_for_every_editor unit led.comes.turns (from_model end led.more) led.comes.lead in
     record {
       announced = holds.published;
       waiting = holds.waiting;
       all = subst (AreAnnounced (start unit) events) holds.all led.are;
       are_made_for_documents = holds.are_made_for_documents;
-      unpublished_are_queued = λ other too. holds.unpublished_are_queued ∙ ap versions_announced_in (others_none end.to_server) ∙ ap (λ (x : ClientAndServer). versions_announced_in x.to_server) (course_is_determined (start unit) events end other run too);
+      unpublished_are_queued = λ other too. holds.unpublished_are_queued ∙ ap uris_and_versions_announced_in (others_none end.to_server) ∙ ap (λ (x : ClientAndServer). uris_and_versions_announced_in x.to_server) (course_is_determined (start unit) events end other run too);
     }

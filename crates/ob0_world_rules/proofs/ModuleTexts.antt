@@ -7,25 +7,25 @@ use Rattle.std.proofs.lemmas.List.{map-append}
 use Rattle.ob0_scan.specs.declared.lexeme.LexemeKind.{LexemeKind}
 use Rattle.ob0_scan.specs.declared.lexeme.LexemeKind.TheVariants as lexeme
 use Rattle.ob0_scan.specs.Lexed.{Lexeme, LexesInto}
-use Rattle.ob0_scan.specs.TextWithTokens.{TextWithTokens, IsScan, word_of, words_of_lexemes, tokens_from, comments_from, max_text}
+use Rattle.ob0_scan.specs.TextWithTokens.{TextWithTokens, IsScan, words_of_lexeme, words_of_lexemes, tokens_from, comments_from, max_text_length}
 use Rattle.ob0_tree.specs.Tree.{Tree, module_text}
 use Rattle.ob0_language_names.specs.Names.{Name}
 use Rattle.ob0_layout.proofs.Named.{named_lexeme, text_words}
-use Rattle.ob0_edits.specs.Diagnosed.{IsTextOf, IsWellTypedModule}
+use Rattle.ob0_edits.specs.Diagnosed.{IsTextOfTree, IsWellTypedModule}
 use Rattle.ob0_edits.specs.Texts.{utf8}
-use Rattle.ob0_world_rules.specs.Language.{terminals, IsModuleText, WellTypedText}
-use Rattle.ob0_world_rules.specs.Laws.{ReadingsAgree}
+use Rattle.ob0_world_rules.specs.Language.{terminals_of_lexeme, IsModuleText, WellTypedText}
+use Rattle.ob0_world_rules.specs.Laws.{ModuleTextDefinitionsAgree}
 
-spelled_one : (l : Lexeme) (kind : LexemeKind) → map named_lexeme (word_of l kind) ≡ terminals kind l.text
+spelled_one : (l : Lexeme) (kind : LexemeKind) → map named_lexeme (words_of_lexeme l kind) ≡ terminals_of_lexeme kind l.text
 spelled_one l lexeme.Space = refl
 spelled_one l lexeme.Comment = refl
 spelled_one l (lexeme.Token kind) = refl
 
-spelled_so : (lexemes : List Lexeme) → map named_lexeme (words_of_lexemes lexemes) ≡ flat_map (λ l. terminals l.kind l.text) lexemes
+spelled_so : (lexemes : List Lexeme) → map named_lexeme (words_of_lexemes lexemes) ≡ flat_map (λ l. terminals_of_lexeme l.kind l.text) lexemes
 spelled_so [] = refl
-spelled_so (l ∷ lexemes) = map-append named_lexeme (word_of l l.kind) (words_of_lexemes lexemes) ∙ (λ i. spelled_one l l.kind i ++ spelled_so lexemes i)
+spelled_so (l ∷ lexemes) = map-append named_lexeme (words_of_lexeme l l.kind) (words_of_lexemes lexemes) ∙ (λ i. spelled_one l l.kind i ++ spelled_so lexemes i)
 
-pub module_text_of : (tree : Tree Name module_text) (bytes : List ℕ) → IsTextOf tree bytes → IsModuleText tree bytes
+pub module_text_of : (tree : Tree Name module_text) (bytes : List ℕ) → IsTextOfTree tree bytes → IsModuleText tree bytes
 module_text_of tree bytes h =
     let scan : IsScan h.scanned = h.scan.scan in
     record {
@@ -33,11 +33,11 @@ module_text_of tree bytes h =
       lexemes = scan.lexemes;
       lexed = subst (λ text. LexesInto text scan.lexemes) h.scan.of scan.lexed;
       spelled = sym (spelled_so scan.lexemes) ∙ sym (text_words h.scanned scan) ∙ h.module_of.spelled;
-      short = subst (λ text. length text ≤ max_text) h.scan.of h.module_of.short;
+      short = subst (λ text. length text ≤ max_text_length) h.scan.of h.module_of.short;
       shallow = h.module_of.shallow;
     }
 
-pub text_of_module : (tree : Tree Name module_text) (bytes : List ℕ) → IsModuleText tree bytes → IsTextOf tree bytes
+pub text_of_module : (tree : Tree Name module_text) (bytes : List ℕ) → IsModuleText tree bytes → IsTextOfTree tree bytes
 text_of_module tree bytes h =
     let scanned : TextWithTokens = record { text = bytes; tokens = tokens_from 0 h.lexemes; comments = comments_from 0 h.lexemes } in
     let scan : IsScan scanned = record { utf8 = h.utf8; short = h.short; lexemes = h.lexemes; lexed = h.lexed; tokens = refl; comments = refl } in
@@ -53,5 +53,5 @@ well_typed_text text h = record { tree = h.tree; text_of = module_text_of h.tree
 pub well_typed_module : (text : List ℕ) → WellTypedText text → IsWellTypedModule (utf8 text)
 well_typed_module text h = record { tree = h.tree; text_of = text_of_module h.tree (utf8 text) h.text_of; well_typed = h.well_typed }
 
-pub readings_agree : ReadingsAgree
-readings_agree tree bytes = (module_text_of tree bytes, text_of_module tree bytes)
+pub module_text_definitions_agree : ModuleTextDefinitionsAgree
+module_text_definitions_agree tree bytes = (module_text_of tree bytes, text_of_module tree bytes)

@@ -7,7 +7,7 @@ use Rattle.std.proofs.Math.ListN.{length-set}
 use Rattle.std.proofs.lemmas.List.{get_or-replicate, length-replicate}
 use Rattle.ob0_tree.specs.declared.tree.Role.TheVariants as role
 use Rattle.ob0_tree.specs.Lexeme.{Terminal, Name, Number, WordOrSymbol, EndOfText, mapped_terminal}
-use Rattle.ob0_tree.specs.Order.{AreAscending, identifier_names}
+use Rattle.ob0_tree.specs.Order.{AreAscendingWithin, identifier_names}
 use Rattle.ob0_tree.specs.ParsedModule.{tree_of}
 use Rattle.ob0_tree.specs.Places.{token_text_at, token_value_at}
 use Rattle.ob0_tree.specs.Tree.{Sort, Tree, mapped_tree, spell}
@@ -27,7 +27,7 @@ use Rattle.ob0_world_rules.proofs.OneModule.{Same, one_named_tree}
 -- ---- the table of a module's fields
 
 -- Writing fields into a table doesn't change its entries at smaller tokens.
-kept_below : (xs : List (ℕ × Option ℕ)) (table : List (Option ℕ)) (low high i : ℕ) → AreAscending low (tokens xs) high → i < low → ordinal_in (table_with_owners table (fields_with_owners xs)) i ≡ ordinal_in table i
+kept_below : (xs : List (ℕ × Option ℕ)) (table : List (Option ℕ)) (low high i : ℕ) → AreAscendingWithin low (tokens xs) high → i < low → ordinal_in (table_with_owners table (fields_with_owners xs)) i ≡ ordinal_in table i
 kept_below [] table low high i ascend below = refl
 kept_below ((x, None) ∷ xs) table low high i ascend below = kept_below xs table (x + 1) high i ascend.1 (omega (arith, ascend.0, below))
 kept_below ((x, Some k) ∷ xs) table low high i ascend below =
@@ -35,7 +35,7 @@ kept_below ((x, Some k) ∷ xs) table low high i ascend below =
     kept_below xs (set table x (Some k)) (x + 1) high i ascend.1 (omega (arith, ascend.0, below)) ∙ get_or-set_other table x i (Some k) None other
 
 -- Writing the fields of ascending tokens into a table that has none of them gives each token its owner.
-has_owners : (xs : List (ℕ × Option ℕ)) (table : List (Option ℕ)) (low high : ℕ) → AreAscending low (tokens xs) high → high ≤ length table → ((i : ℕ) → low ≤ i → i < high → ordinal_in table i ≡ None)
+has_owners : (xs : List (ℕ × Option ℕ)) (table : List (Option ℕ)) (low high : ℕ) → AreAscendingWithin low (tokens xs) high → high ≤ length table → ((i : ℕ) → low ≤ i → i < high → ordinal_in table i ≡ None)
     → AgreesWithOwnerList (ordinal_in (table_with_owners table (fields_with_owners xs))) xs
 has_owners [] table low high ascend within vacant = tt
 has_owners ((x, None) ∷ xs) table low high ascend within vacant =
@@ -60,7 +60,7 @@ module _ (r : Resolution) (well : IsWellTyped r) where
   table_has =
       let n : ℕ = length r.module_read.source.tokens in
       let nothing : Option ℕ = None in
-      let ascend = subst (λ ts. AreAscending 0 ts n) (sym (module-tokens _ (tree_of r.module_read))) (leaves_ascend r.module_read well.resolved.parsed) in
+      let ascend = subst (λ ts. AreAscendingWithin 0 ts n) (sym (module-tokens _ (tree_of r.module_read))) (leaves_ascend r.module_read well.resolved.parsed) in
       has_owners (owners_in_resolution r) (replicate n nothing) 0 n ascend (subst (λ z. n ≤ z) (sym (length-replicate n nothing)) (le_refl n)) (λ i l u. get_or-replicate n i nothing None u)
 
   table_owns : IsOwnerTable r.module_read (table_of r)

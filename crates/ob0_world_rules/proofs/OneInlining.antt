@@ -6,7 +6,7 @@ use Rattle.std.proofs.Common.{◌≡◌, ◌∙◌, ℕ, nat_lt, Option, Some, N
 use Rattle.std.specs.Prelude.{Ok, Err, Vec, if◌then◌else◌}
 use Rattle.std.specs.List.{filter, list_any, position_from, zip}
 use Rattle.std.specs.declared.alloc.Global.{Global}
-use Rattle.ob0_scan.specs.TextWithTokens.{TextWithTokens, max_text}
+use Rattle.ob0_scan.specs.TextWithTokens.{TextWithTokens, max_text_length}
 use Rattle.ob0_text.specs.declared.edits.Edit.{Edit}
 use Rattle.ob0_text.specs.declared.position_types.Unit.{Unit}
 use Rattle.ob0_text.specs.declared.refusals.EditRefusal.{EditRefusal}
@@ -27,16 +27,16 @@ use Rattle.ob0_scope_table.specs.Resolution.{declaring_names, declaration_token}
 use Rattle.ob0_language_values.specs.declared.scalar.Scalar.{Scalar}
 use Rattle.ob0_language_values.specs.declared.scalar.Scalar.TheVariants as scalar
 use Rattle.ob0_language_values.specs.Scalars.{scalar_value}
-use Rattle.ob0_scope.specs.declared.naming.Named.{Named}
+use Rattle.ob0_scope.specs.declared.naming.BoundName.{BoundName}
 use Rattle.ob0_language_types.specs.ConstantValues.{value_of_constant}
-use Rattle.ob0_inline.specs.declared.constants.NamedConstant.{NamedConstant}
+use Rattle.ob0_inline.specs.declared.constants.DeclaredConstant.{DeclaredConstant}
 use Rattle.ob0_inline.specs.declared.uses.ConstantUse.{ConstantUse}
 use Rattle.ob0_inline.specs.Declarations.{contains_span, is_semicolon}
-use Rattle.ob0_inline.specs.Everywhere.{AnswersInlineEverywhere, IsConstantAt, any_use_shadowed, refusal_everywhere}
-use Rattle.ob0_inline.specs.Uses.{AnswersInlineHere, IsUseAt, value_text_keeps_meaning, refusal_here}
+use Rattle.ob0_inline.specs.Everywhere.{AnswersInlineEverywhere, IsConstantAt, has_shadowed_use, refusal_of_inlining_everywhere}
+use Rattle.ob0_inline.specs.Uses.{AnswersInlineHere, IsUseAt, value_text_keeps_meaning, refusal_of_inlining_here}
 use Rattle.ob0_inline.specs.Values.{value_factor, value_text}
 use Rattle.ob0_inline.proofs.UsesAreIdentifiers.{one_place}
-use Rattle.ob0_edits.specs.Inlinings.{InlinesIn, IsInliningRefusedIn}
+use Rattle.ob0_edits.specs.Inlinings.{InlinesInText, IsInliningRefusedInText}
 use Rattle.ob0_edits.specs.declared.inlinings.Inlining.{Inlining}
 use Rattle.ob0_edits.specs.declared.inlinings.Inlining.TheVariants.{OneUse, Everywhere}
 use Rattle.ob0_edits.specs.Texts.{utf8}
@@ -52,14 +52,14 @@ one_scalar (scalar.Truth a) (scalar.Truth b) e = cc
 some_one : {x y : ℕ} → Some x ≡ Some y → x ≡ y
 some_one h = cc
 
-abbrev named_with : ℕ → ℕ → Named
+abbrev named_with : ℕ → ℕ → BoundName
 named_with token ordinal = record { token = token; ordinal = ordinal }
 
 -- ---- at one use
 
 abbrev refused_at : TextWithTokens → Tree ℕ module_text → ℕ → ℕ → Scalar → Option EditRefusal
 refused_at s t token occurrence value =
-    if nat_lt max_text (length (text_after_replacement s (token ∷ []) (value_text value))) then Some TooLong
+    if nat_lt max_text_length (length (text_after_replacement s (token ∷ []) (value_text value))) then Some TooLong
     else if nat_lt 100 (nesting (inlined (tree_with_names s t) (single_occurrence occurrence) (value_factor value))) then Some TooDeep
     else if value_text_keeps_meaning (tree_with_names s t) occurrence value then None
     else Some Shadowed
@@ -69,10 +69,10 @@ module _ {m n : ParsedModule} (e : Same m n) (parsed : IsParsed n) (offset : ℕ
   same_named = sym at.named ∙ (one_name e offset ∙ also.named)
 
   use_token : u.token ≡ v.token
-  use_token = ap (λ (o : Option Named). elim o [ Some x ↦ x.token | None ↦ u.token ]) same_named
+  use_token = ap (λ (o : Option BoundName). elim o [ Some x ↦ x.token | None ↦ u.token ]) same_named
 
   use_constant : u.constant ≡ v.constant
-  use_constant = ap (λ (o : Option Named). elim o [ Some x ↦ x.ordinal | None ↦ u.constant ]) same_named
+  use_constant = ap (λ (o : Option BoundName). elim o [ Some x ↦ x.ordinal | None ↦ u.constant ]) same_named
 
   use_value : u.value ≡ v.value
   use_value = one_scalar u.value v.value (sym at.has_value ∙ ((λ i. value_of_constant (one_named_tree e i) (use_constant i)) ∙ also.has_value))
@@ -84,7 +84,7 @@ module _ {m n : ParsedModule} (e : Same m n) (parsed : IsParsed n) (offset : ℕ
       let so = one_place 0 (length n.source.tokens) (occurrences (tree_of n)) u.occurrence v.occurrence u.token v.token ascend there also.occurs in
       eqb-true u.occurrence v.occurrence (sym so ∙ eq-eqb u.token v.token use_token)
 
-  same_refusal_here : refusal_here m u ≡ refusal_here n v
+  same_refusal_here : refusal_of_inlining_here m u ≡ refusal_of_inlining_here n v
   same_refusal_here = λ i. refused_at (e.source i) (e.tree i) (use_token i) (use_occurrence i) (use_value i)
 
   same_edit_here : (unit : Unit) (text : List ℕ) → replacement_at_token unit text m.source.tokens (value_text u.value) u.token ≡ replacement_at_token unit text n.source.tokens (value_text v.value) v.token
@@ -118,18 +118,18 @@ uses_in s t d = map (λ u. u.0) (filter (λ u. same_label u.1 (declared d)) (zip
 
 abbrev refused_everywhere : TextWithTokens → Tree ℕ module_text → ℕ → Scalar → ℕ → ℕ → Option EditRefusal
 refused_everywhere s t ordinal value first last =
-    if nat_lt max_text (length (text_after_removal s first last (uses_in s t ordinal) (value_text value))) then Some TooLong
+    if nat_lt max_text_length (length (text_after_removal s first last (uses_in s t ordinal) (value_text value))) then Some TooLong
     else if nat_lt 100 (nesting (inlined_everywhere (tree_with_names s t) ordinal (value_factor value))) then Some TooDeep
-    else if any_use_shadowed (tree_with_names s t) (record { ordinal = ordinal; value = value; first = first; last = last }) then Some Shadowed
+    else if has_shadowed_use (tree_with_names s t) (record { ordinal = ordinal; value = value; first = first; last = last }) then Some Shadowed
     else if list_any (contains_span (span_of_tokens s.tokens first last)) s.comments then Some CommentInside
     else None
 
-module _ {m n : ParsedModule} (e : Same m n) (offset : ℕ) (c d : NamedConstant) (at : IsConstantAt m offset c) (also : IsConstantAt n offset d) where
+module _ {m n : ParsedModule} (e : Same m n) (offset : ℕ) (c d : DeclaredConstant) (at : IsConstantAt m offset c) (also : IsConstantAt n offset d) where
   same_constant : Some (named_with at.token c.ordinal) ≡ Some (named_with also.token d.ordinal)
   same_constant = sym at.named ∙ (one_name e offset ∙ also.named)
 
   constant_ordinal : c.ordinal ≡ d.ordinal
-  constant_ordinal = ap (λ (o : Option Named). elim o [ Some x ↦ x.ordinal | None ↦ c.ordinal ]) same_constant
+  constant_ordinal = ap (λ (o : Option BoundName). elim o [ Some x ↦ x.ordinal | None ↦ c.ordinal ]) same_constant
 
   constant_value : c.value ≡ d.value
   constant_value = one_scalar c.value d.value (sym at.is_constant.has_value ∙ ((λ i. value_of_constant (one_named_tree e i) (constant_ordinal i)) ∙ also.is_constant.has_value))
@@ -140,7 +140,7 @@ module _ {m n : ParsedModule} (e : Same m n) (offset : ℕ) (c d : NamedConstant
   constant_last : c.last ≡ d.last
   constant_last = some_one (sym at.is_constant.ends ∙ ((λ i. position_from (λ t. is_semicolon t.kind) (constant_first i) (drop (constant_first i) ((e.source i).tokens))) ∙ also.is_constant.ends))
 
-  same_refusal_everywhere : refusal_everywhere m c ≡ refusal_everywhere n d
+  same_refusal_everywhere : refusal_of_inlining_everywhere m c ≡ refusal_of_inlining_everywhere n d
   same_refusal_everywhere = λ i. refused_everywhere (e.source i) (e.tree i) (constant_ordinal i) (constant_value i) (constant_first i) (constant_last i)
 
   same_edits_everywhere : (unit : Unit) (text : List ℕ)
@@ -171,16 +171,16 @@ module _ {m n : ParsedModule} (e : Same m n) (unit : Unit) (text : List ℕ) (of
 
 module _ (unit : Unit) (text : List ℕ) (offset : ℕ) (xs : Vec Edit Global) where
   -- Two inlinings at one place in a text have equal parts: ranges, and bytes of the new texts.
-  pub inlines_parts : (how : Inlining) (ys : Vec Edit Global) → InlinesIn how unit text offset xs → InlinesIn how unit text offset ys → map range_and_text xs.items ≡ map range_and_text ys.items
+  pub inlines_parts : (how : Inlining) (ys : Vec Edit Global) → InlinesInText how unit text offset xs → InlinesInText how unit text offset ys → map range_and_text xs.items ≡ map range_and_text ys.items
   inlines_parts OneUse ys h k =
       here_one (same_module (utf8 text) h.module_read k.module_read h.read.scan h.read.parsed k.read.scan k.read.parsed) k.read.parsed unit text offset xs ys h.inlines k.inlines
   inlines_parts Everywhere ys h k =
       everywhere_one (same_module (utf8 text) h.module_read k.module_read h.read.scan h.read.parsed k.read.scan k.read.parsed) unit text offset xs ys h.inlines k.inlines
 
-  pub inlines_one : (how : Inlining) (ys : Vec Edit Global) → InlinesIn how unit text offset xs → InlinesIn how unit text offset ys → replacements xs.items ≡ replacements ys.items
+  pub inlines_one : (how : Inlining) (ys : Vec Edit Global) → InlinesInText how unit text offset xs → InlinesInText how unit text offset ys → replacements xs.items ≡ replacements ys.items
   inlines_one how ys h k = same_parts xs.items ys.items (inlines_parts how ys h k)
 
-  pub inlines_or_refused : (how : Inlining) → InlinesIn how unit text offset xs → IsInliningRefusedIn how unit text offset → ⊥
+  pub inlines_or_refused : (how : Inlining) → InlinesInText how unit text offset xs → IsInliningRefusedInText how unit text offset → ⊥
   inlines_or_refused OneUse h k =
       here_or_refused (same_module (utf8 text) h.module_read k.module_read h.read.scan h.read.parsed k.read.scan k.read.parsed) k.read.parsed unit text offset xs k.refused.0 k.refused.1 h.inlines k.refused.2
   inlines_or_refused Everywhere h k =

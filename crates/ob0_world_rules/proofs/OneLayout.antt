@@ -4,8 +4,8 @@ use Rattle.std.proofs.Common.{◌≡◌, ◌∙◌, ℕ, ◌≤◌, List, map, l
 use Rattle.std.specs.Str.{chars}
 use mathlib.Core.List.{map-map}
 use Rattle.ob0_scan.specs.Lexed.{LexesInto}
-use Rattle.ob0_scan.specs.TextWithTokens.{max_text}
-use Rattle.ob0_scan.proofs.Cuts.{cut_is_unique}
+use Rattle.ob0_scan.specs.TextWithTokens.{max_text_length}
+use Rattle.ob0_scan.proofs.Cuts.{cut_into_lexemes_is_unique}
 use Rattle.ob0_scan.proofs.Spans.{scan_is_unique}
 use Rattle.ob0_text.specs.declared.edits.Edit.{Edit}
 use Rattle.ob0_text.specs.declared.edits.Indent.{Indent}
@@ -13,12 +13,12 @@ use Rattle.ob0_text.specs.declared.position_types.Unit.{Unit}
 use Rattle.ob0_text.specs.Units.{width_of}
 use Rattle.ob0_tree.specs.Tree.{Tree, module_text}
 use Rattle.ob0_language_names.specs.Names.{Name}
-use Rattle.ob0_layout.specs.Layout.{layout}
-use Rattle.ob0_layout.specs.Gaps.{EditContent, edit_content, edit_of, changed_gaps, all_gaps}
+use Rattle.ob0_layout.specs.Layout.{formatted_text}
+use Rattle.ob0_layout.specs.Gaps.{EditContent, edit_content, edit_of_cut, changed_gaps, all_gaps}
 use Rattle.ob0_layout.specs.LineRoles.{line_roles}
-use Rattle.ob0_edits.specs.Diagnosed.{IsTextOf, IsWellTypedModule}
+use Rattle.ob0_edits.specs.Diagnosed.{IsTextOfTree, IsWellTypedModule}
 use Rattle.ob0_edits.specs.Texts.{utf8}
-use Rattle.ob0_edits.specs.Layouts.{FormatsIn, FormattedTextIsTooLong, formatting_changes, formatted_text_of}
+use Rattle.ob0_edits.specs.Layouts.{FormatsText, FormattedTextIsTooLong, edits_of_changed_gaps, formatted_text_of}
 use Rattle.ob0_world_rules.specs.Edited.{Replacement, replacements}
 use Rattle.ob0_world_rules.proofs.Trees.{same_tree}
 
@@ -37,30 +37,30 @@ module _ (text : List ℕ) (m n : IsWellTypedModule (utf8 text)) where
 
   one_lexing : m.text_of.scan.scan.lexemes ≡ n.text_of.scan.scan.lexemes
   one_lexing =
-      cut_is_unique (utf8 text) m.text_of.scan.scan.lexemes n.text_of.scan.scan.lexemes
+      cut_into_lexemes_is_unique (utf8 text) m.text_of.scan.scan.lexemes n.text_of.scan.scan.lexemes
       (subst (λ t. LexesInto t m.text_of.scan.scan.lexemes) m.text_of.scan.of m.text_of.scan.scan.lexed)
       (subst (λ t. LexesInto t n.text_of.scan.scan.lexemes) n.text_of.scan.of n.text_of.scan.scan.lexed)
 
   one_layout : (indent : Indent) → formatted_text_of indent m ≡ formatted_text_of indent n
-  one_layout indent = λ i. layout indent (one_module i) (one_lexing i)
+  one_layout indent = λ i. formatted_text indent (one_module i) (one_lexing i)
 
-  one_change : (unit : Unit) (indent : Indent) → formatting_changes unit indent text m ≡ formatting_changes unit indent text n
-  one_change unit indent = λ i. map (edit_of (width_of unit) text) (changed_gaps (one_source i).text (all_gaps indent (one_source i).text (line_roles 0 (one_module i)) (one_lexing i)))
+  one_change : (unit : Unit) (indent : Indent) → edits_of_changed_gaps unit indent text m ≡ edits_of_changed_gaps unit indent text n
+  one_change unit indent = λ i. map (edit_of_cut (width_of unit) text) (changed_gaps (one_source i).text (all_gaps indent (one_source i).text (line_roles 0 (one_module i)) (one_lexing i)))
 
 -- Two formattings of a text have equal edits, by the bytes of their texts.
-pub lays_out_said : (unit : Unit) (indent : Indent) (text : List ℕ) (xs ys : List Edit) → FormatsIn unit indent text xs → FormatsIn unit indent text ys → map edit_content xs ≡ map edit_content ys
+pub lays_out_said : (unit : Unit) (indent : Indent) (text : List ℕ) (xs ys : List Edit) → FormatsText unit indent text xs → FormatsText unit indent text ys → map edit_content xs ≡ map edit_content ys
 lays_out_said unit indent text xs ys h k = h.changes ∙ (one_change text h.before k.before unit indent ∙ sym k.changes)
 
-pub lays_out_one : (unit : Unit) (indent : Indent) (text : List ℕ) (xs ys : List Edit) → FormatsIn unit indent text xs → FormatsIn unit indent text ys → replacements xs ≡ replacements ys
+pub lays_out_one : (unit : Unit) (indent : Indent) (text : List ℕ) (xs ys : List Edit) → FormatsText unit indent text xs → FormatsText unit indent text ys → replacements xs ≡ replacements ys
 lays_out_one unit indent text xs ys h k = same_said xs ys (lays_out_said unit indent text xs ys h k)
 
--- A text that has a module is no longer than `max_text`.
-short_enough : (text : List ℕ) (tree : Tree Name module_text) → IsTextOf tree text → length text ≤ max_text
-short_enough text tree is = subst (λ t. length t ≤ max_text) is.scan.of is.module_of.short
+-- A text that has a module is no longer than `max_text_length`.
+short_enough : (text : List ℕ) (tree : Tree Name module_text) → IsTextOfTree tree text → length text ≤ max_text_length
+short_enough text tree is = subst (λ t. length t ≤ max_text_length) is.scan.of is.module_of.short
 
-pub lays_out_or_long : (unit : Unit) (indent : Indent) (text : List ℕ) (xs : List Edit) → FormatsIn unit indent text xs → FormattedTextIsTooLong indent text → ⊥
+pub lays_out_or_long : (unit : Unit) (indent : Indent) (text : List ℕ) (xs : List Edit) → FormatsText unit indent text xs → FormattedTextIsTooLong indent text → ⊥
 lays_out_or_long unit indent text xs h long =
-    let short : length (utf8 h.after) ≤ max_text = short_enough (utf8 h.after) h.before.tree h.same_module in
-    let here : length (formatted_text_of indent h.before) ≤ max_text = subst (λ t. length t ≤ max_text) h.is_formatted_text short in
-    let there : length (formatted_text_of indent long.before) ≤ max_text = subst (λ t. length t ≤ max_text) (one_layout text h.before long.before indent) here in
+    let short : length (utf8 h.after) ≤ max_text_length = short_enough (utf8 h.after) h.before.tree h.same_module in
+    let here : length (formatted_text_of indent h.before) ≤ max_text_length = subst (λ t. length t ≤ max_text_length) h.is_formatted_text short in
+    let there : length (formatted_text_of indent long.before) ≤ max_text_length = subst (λ t. length t ≤ max_text_length) (one_layout text h.before long.before indent) here in
     omega (arith, there, long.long)

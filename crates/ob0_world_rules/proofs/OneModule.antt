@@ -16,15 +16,15 @@ use Rattle.ob0_tree.specs.declared.tree.Role.TheVariants as role
 use Rattle.ob0_tree.specs.Lexeme.{EndOfText}
 use Rattle.ob0_tree.specs.Order.{identifier_names}
 use Rattle.ob0_tree.specs.ParsedModule.{ParsedModule, IsParsed, tree_of, named_tree_of}
-use Rattle.ob0_tree.specs.Places.{index_terminals, tree_with_names}
+use Rattle.ob0_tree.specs.Places.{indexed_terminals, tree_with_names}
 use Rattle.ob0_tree.specs.Tree.{Tree, module_text, identifiers}
 use Rattle.ob0_scope_table.specs.Resolution.{span_at}
 use Rattle.ob0_language_names.specs.Scopes.{numbered}
 use Rattle.ob0_parse_descent.proofs.Unique.{same}
 use Rattle.ob0_edits_tokens.specs.Replaced.{range_and_text}
 use Rattle.ob0_scope_table.specs.Spans.{is_on_span}
-use Rattle.ob0_scope.specs.NamesAtPlaces.{BoundIdentifier, name_at_offset, bound_name_of}
-use Rattle.ob0_scope.specs.declared.naming.Named.{Named}
+use Rattle.ob0_scope.specs.NamesAtPlaces.{LabelledIdentifier, name_at_offset, bound_name_of}
+use Rattle.ob0_scope.specs.declared.naming.BoundName.{BoundName}
 use Rattle.ob0_world_rules.specs.Edited.{Replacement, replacements}
 
 pub record Same (m n : ParsedModule) : Type 0 where
@@ -34,13 +34,13 @@ pub record Same (m n : ParsedModule) : Type 0 where
 pub same_module : (text : List ℕ) (m n : ParsedModule) → IsScanOf text m.source → IsParsed m → IsScanOf text n.source → IsParsed n → Same m n
 same_module text m n scan parsed other too =
     let source : m.source ≡ n.source = scan_is_unique m.source n.source scan.scan other.scan (scan.of ∙ sym other.of) in
-    let both = same (tree_of m) (tree_of n) (EndOfText ∷ []) (EndOfText ∷ []) (omega arith) (omega arith) (parsed.places ∙ (ap (λ (s : TextWithTokens). index_terminals s.tokens) source ∙ sym too.places)) in
+    let both = same (tree_of m) (tree_of n) (EndOfText ∷ []) (EndOfText ∷ []) (omega arith) (omega arith) (parsed.places ∙ (ap (λ (s : TextWithTokens). indexed_terminals s.tokens) source ∙ sym too.places)) in
     record { source = source; tree = both.0 }
 
-abbrev pub identifiers_of : TextWithTokens → Tree ℕ module_text → List BoundIdentifier
+abbrev pub identifiers_of : TextWithTokens → Tree ℕ module_text → List LabelledIdentifier
 identifiers_of s t = zip (identifiers role.Declaring t) (identifier_names (numbered (tree_with_names s t)))
 
-abbrev name_in : TextWithTokens → Tree ℕ module_text → ℕ → Option Named
+abbrev name_in : TextWithTokens → Tree ℕ module_text → ℕ → Option BoundName
 name_in s t offset = option_and_then bound_name_of (find (λ x. is_on_span offset (span_at s x.0.1)) (identifiers_of s t))
 
 module _ {m n : ParsedModule} (e : Same m n) where

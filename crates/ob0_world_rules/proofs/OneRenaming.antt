@@ -4,7 +4,7 @@ use Rattle.std.proofs.Common.{◌≡◌, ◌∙◌, ℕ, ◌<◌, ◌≤◌, Boo
 use Rattle.std.specs.Prelude.{◌⊎◌, option_and_then, option_map, slice_get}
 use Rattle.std.specs.List.{filter}
 use Rattle.ob0_scan.specs.Classes.{IsIdentifier}
-use Rattle.ob0_scan.specs.TextWithTokens.{TextWithTokens, max_text}
+use Rattle.ob0_scan.specs.TextWithTokens.{TextWithTokens, max_text_length}
 use Rattle.ob0_text.specs.declared.edits.Edit.{Edit}
 use Rattle.ob0_text.specs.declared.position_types.Position.{Position}
 use Rattle.ob0_text.specs.declared.position_types.Range.{Range}
@@ -19,7 +19,7 @@ use Rattle.ob0_tree.specs.Places.{tree_with_names, token_text_at}
 use Rattle.ob0_tree.specs.Tree.{Tree, identifiers, module_text, occurrences}
 use Rattle.ob0_edits_tokens.specs.Replaced.{replacement_at_token, range_and_text, text_after_replacement}
 use Rattle.ob0_language_names.specs.Names.{Name, same_name}
-use Rattle.ob0_language_names.specs.Occurrences.{NameConflict, Free, at_declaration, at_occurrence, first_name_conflict}
+use Rattle.ob0_language_names.specs.Occurrences.{NameConflict, IsFreeName, at_declaration, at_occurrence, first_name_conflict}
 use Rattle.ob0_language_names.specs.Parts.{module_block}
 use Rattle.ob0_scope_table.specs.Resolution.{Resolution, declaring_names, span_at, declaration_token}
 use Rattle.ob0_scope.proofs.FirstCaptures.{free_means_no_conflict-holds}
@@ -31,8 +31,8 @@ use Rattle.ob0_types_fields.specs.Identifiers.{fields_declared_in_block, field_i
 use Rattle.ob0_edits.specs.Analysed.{IsResolvedWellTypedModule}
 use Rattle.ob0_edits.specs.Texts.{utf8}
 use Rattle.ob0_rename.specs.Renaming.{Renaming, RenameTarget, declaration, field_of, field_tokens_to_rename, renaming_target, target_of_name_or_field, nothing, occurrence_range, conflicting_field_range, conflicting_declaration_range, predeclared, renaming_of, text_after_renaming, tokens_to_rename}
-use Rattle.ob0_rename.specs.Answers.{AreRenameEdits, IsRenameRefusal, IsDeclarationRefusal, IsFieldRefusal, IsTargetRefusal, RenamesDeclaration, RenamesField, WritesNewName}
-use Rattle.ob0_edits.specs.Renamings.{IsRenameRefusedIn, RenamesIn}
+use Rattle.ob0_rename.specs.Answers.{AreRenameEdits, IsRenameRefusal, IsFirstRefusalForDeclaration, IsFirstRefusalForField, IsFirstRefusalForTarget, RenamesDeclaration, RenamesField, WritesNewName}
+use Rattle.ob0_edits.specs.Renamings.{IsRenameRefusedInText, RenamesInText}
 use Rattle.ob0_world_rules.specs.Edited.{replacements}
 use Rattle.ob0_world_rules.proofs.OneModule.{Same, same_module, one_named_tree, one_name, identifiers_of, same_parts}
 use Rattle.ob0_world_rules.proofs.OneFields.{one_list_of_fields}
@@ -63,9 +63,9 @@ module _ (unit : Unit) (text : List ℕ) (place : Position) (new : Name) (names 
   IsCaptured d why = (k : ℕ) × (range : Range) × (first_name_conflict here d new ≡ Some (at_occurrence k)) × (occurrence_range of_names k ≡ Some range) × (why ≡ refusal.Captures range)
 
   abbrev IsLong : ℕ → EditRefusal → Type 0
-  IsLong d why = Free here d new × (why ≡ refusal.TooLong)
+  IsLong d why = IsFreeName here d new × (why ≡ refusal.TooLong)
 
-  declared_view : (d : ℕ) (why : EditRefusal) → IsDeclarationRefusal of_names d why → IsBadName why ⊎ (IsIdentifier new × (IsTwice d why ⊎ (IsCaptured d why ⊎ IsLong d why)))
+  declared_view : (d : ℕ) (why : EditRefusal) → IsFirstRefusalForDeclaration of_names d why → IsBadName why ⊎ (IsIdentifier new × (IsTwice d why ⊎ (IsCaptured d why ⊎ IsLong d why)))
   declared_view d refusal.NoName h = absurd h
   declared_view d refusal.Predeclared h = absurd h
   declared_view d refusal.BadName h = inl (h, refl)
@@ -83,7 +83,7 @@ module _ (unit : Unit) (text : List ℕ) (place : Position) (new : Name) (names 
   abbrev IsLongField : ℕ → Name → EditRefusal → Type 0
   IsLongField k f why = (is_duplicate_field here k f new ≡ false) × (why ≡ refusal.TooLong)
 
-  field_view : (k : ℕ) (f : Name) (why : EditRefusal) → IsFieldRefusal of_names k f why → IsBadName why ⊎ (IsIdentifier new × (IsTwiceField k f why ⊎ IsLongField k f why))
+  field_view : (k : ℕ) (f : Name) (why : EditRefusal) → IsFirstRefusalForField of_names k f why → IsBadName why ⊎ (IsIdentifier new × (IsTwiceField k f why ⊎ IsLongField k f why))
   field_view k f refusal.NoName h = absurd h
   field_view k f refusal.Predeclared h = absurd h
   field_view k f refusal.BadName h = inl (h, refl)
@@ -96,7 +96,7 @@ module _ (unit : Unit) (text : List ℕ) (place : Position) (new : Name) (names 
   field_view k f refusal.Memory h = absurd h
 
   refused_view : (why : EditRefusal) → IsRenameRefusal of_names why
-      → ((renaming_target of_names ≡ nothing) × (why ≡ refusal.NoName)) ⊎ (((renaming_target of_names ≡ predeclared) × (why ≡ refusal.Predeclared)) ⊎ IsTargetRefusal of_names why)
+      → ((renaming_target of_names ≡ nothing) × (why ≡ refusal.NoName)) ⊎ (((renaming_target of_names ≡ predeclared) × (why ≡ refusal.Predeclared)) ⊎ IsFirstRefusalForTarget of_names why)
   refused_view refusal.NoName h = inl (h, refl)
   refused_view refusal.Predeclared h = inr (inl (h, refl))
   refused_view refusal.BadName h = inr (inr h)
@@ -162,17 +162,17 @@ module _ (unit : Unit) (text : List ℕ) (place : Position) (new : Name) (names 
 
   -- ---- edits, or a refusal
 
-  too_long : (xs ys : List ℕ) (t : Tree Name module_text) (es : List Edit) → xs ≡ ys → WritesNewName r xs t es → max_text < length (text_after_renaming q ys) → ⊥
+  too_long : (xs ys : List ℕ) (t : Tree Name module_text) (es : List Edit) → xs ≡ ys → WritesNewName r xs t es → max_text_length < length (text_after_renaming q ys) → ⊥
   too_long xs ys t es same h long =
-      let short : length (text_after_renaming q ys) ≤ max_text = subst (λ x. length x ≤ max_text) (one_text xs ys same) h.short in
+      let short : length (text_after_renaming q ys) ≤ max_text_length = subst (λ x. length x ≤ max_text_length) (one_text xs ys same) h.short in
       omega (arith, short, long)
 
-  not_captured : (d : ℕ) (x : NameConflict) → Free (named_tree_of names.module_read) d new → first_name_conflict (named_tree_of others.module_read) d new ≡ Some x → ⊥
+  not_captured : (d : ℕ) (x : NameConflict) → IsFreeName (named_tree_of names.module_read) d new → first_name_conflict (named_tree_of others.module_read) d new ≡ Some x → ⊥
   not_captured d x free captured =
       let none : first_name_conflict (named_tree_of others.module_read) d new ≡ None = ap (λ t. first_name_conflict t d new) (sym tree_is_unique) ∙ (free_means_no_conflict-holds (named_tree_of names.module_read) d new).1 free in
       let both : None ≡ Some x = sym none ∙ captured in cc
 
-  declared_refused : (d : ℕ) (es : List Edit) (why : EditRefusal) → RenamesDeclaration r d es → IsDeclarationRefusal q d why → ⊥
+  declared_refused : (d : ℕ) (es : List Edit) (why : EditRefusal) → RenamesDeclaration r d es → IsFirstRefusalForDeclaration q d why → ⊥
   declared_refused d es refusal.NoName h bad = bad
   declared_refused d es refusal.Predeclared h bad = bad
   declared_refused d es refusal.BadName h bad = bad h.identifier
@@ -184,7 +184,7 @@ module _ (unit : Unit) (text : List ℕ) (place : Position) (new : Name) (names 
   declared_refused d es refusal.CommentInside h bad = bad
   declared_refused d es refusal.Memory h bad = bad
 
-  field_refused : (k : ℕ) (f : Name) (es : List Edit) (why : EditRefusal) → RenamesField r k f es → IsFieldRefusal q k f why → ⊥
+  field_refused : (k : ℕ) (f : Name) (es : List Edit) (why : EditRefusal) → RenamesField r k f es → IsFirstRefusalForField q k f why → ⊥
   field_refused k f es refusal.NoName h bad = bad
   field_refused k f es refusal.Predeclared h bad = bad
   field_refused k f es refusal.BadName h bad = bad h.identifier
@@ -198,15 +198,15 @@ module _ (unit : Unit) (text : List ℕ) (place : Position) (new : Name) (names 
   field_refused k f es refusal.CommentInside h bad = bad
   field_refused k f es refusal.Memory h bad = bad
 
-  named_refused : (es : List Edit) (why : EditRefusal) → AreRenameEdits r es → IsTargetRefusal q why → ⊥
+  named_refused : (es : List Edit) (why : EditRefusal) → AreRenameEdits r es → IsFirstRefusalForTarget q why → ⊥
   named_refused es why (inl (c, means, h)) (inl (d, also, bad)) =
       let same : c ≡ d = one_declaration (sym means ∙ (one_meaning ∙ also)) in
-      declared_refused c es why h (subst (λ x. IsDeclarationRefusal q x why) (sym same) bad)
+      declared_refused c es why h (subst (λ x. IsFirstRefusalForDeclaration q x why) (sym same) bad)
   named_refused es why (inl (c, means, h)) (inr (l, (g, also, bad))) = let both : declaration c ≡ field_of l g = sym means ∙ (one_meaning ∙ also) in cc
   named_refused es why (inr (l, (g, means, h))) (inl (d, also, bad)) = let both : field_of l g ≡ declaration d = sym means ∙ (one_meaning ∙ also) in cc
   named_refused es why (inr (l, (g, means, h))) (inr (l₂, (g₂, also, bad))) =
       let both : field_of l g ≡ field_of l₂ g₂ = sym means ∙ (one_meaning ∙ also) in
-      field_refused l g es why h (subst (λ x. IsFieldRefusal q l x why) (sym (one_field both)) (subst (λ x. IsFieldRefusal q x g₂ why) (sym (one_record both)) bad))
+      field_refused l g es why h (subst (λ x. IsFirstRefusalForField q l x why) (sym (one_field both)) (subst (λ x. IsFirstRefusalForField q x g₂ why) (sym (one_record both)) bad))
 
   meant_other : (es : List Edit) (m : RenameTarget) → AreRenameEdits r es → renaming_target q ≡ m → (m ≡ nothing) ⊎ (m ≡ predeclared) → ⊥
   meant_other es m (inl (c, means, h)) is (inl none) = let both : declaration c ≡ nothing = sym means ∙ (one_meaning ∙ (is ∙ none)) in cc
@@ -252,10 +252,10 @@ module _ (unit : Unit) (text : List ℕ) (place : Position) (new : Name) (names 
   not_both : (k : ℕ) → Some at_declaration ≡ Some (at_occurrence k) → ⊥
   not_both k h = cc
 
-  not_free : (d : ℕ) (x : NameConflict) → first_name_conflict (named_tree_of others.module_read) d new ≡ Some x → Free (named_tree_of others.module_read) d new → ⊥
+  not_free : (d : ℕ) (x : NameConflict) → first_name_conflict (named_tree_of others.module_read) d new ≡ Some x → IsFreeName (named_tree_of others.module_read) d new → ⊥
   not_free d x captured free = let both : None ≡ Some x = sym ((free_means_no_conflict-holds (named_tree_of others.module_read) d new).1 free) ∙ captured in cc
 
-  declared_refusal : (d : ℕ) (why other : EditRefusal) → IsDeclarationRefusal r d why → IsDeclarationRefusal q d other → why ≡ other
+  declared_refusal : (d : ℕ) (why other : EditRefusal) → IsFirstRefusalForDeclaration r d why → IsFirstRefusalForDeclaration q d other → why ≡ other
   declared_refusal d why other h k = go (declared_view unit text place new names d why h) (declared_view unit text place new others d other k)
     where
       go : IsBadName unit text place new names why ⊎ (IsIdentifier new × (IsTwice unit text place new names d why ⊎ (IsCaptured unit text place new names d why ⊎ IsLong unit text place new names d why)))
@@ -276,7 +276,7 @@ module _ (unit : Unit) (text : List ℕ) (place : Position) (new : Name) (names 
       go (inr (good, inr (inr (free, is)))) (inr (fine, inr (inl (n, y, also, there, too)))) = absurd (not_captured d (at_occurrence n) free also)
       go (inr (good, inr (inr (free, is)))) (inr (fine, inr (inr (free_too, too)))) = is ∙ sym too
 
-  field_refusal : (k : ℕ) (f : Name) (why other : EditRefusal) → IsFieldRefusal r k f why → IsFieldRefusal q k f other → why ≡ other
+  field_refusal : (k : ℕ) (f : Name) (why other : EditRefusal) → IsFirstRefusalForField r k f why → IsFirstRefusalForField q k f other → why ≡ other
   field_refusal k f why other h l = go (field_view unit text place new names k f why h) (field_view unit text place new others k f other l)
     where
       same_duplicate : is_duplicate_field (named_tree_of names.module_read) k f new ≡ is_duplicate_field (named_tree_of others.module_read) k f new
@@ -295,23 +295,23 @@ module _ (unit : Unit) (text : List ℕ) (place : Position) (new : Name) (names 
       go (inr (good, inr (free, is))) (inr (fine, inl (y, also, there, too))) = apart (sym also ∙ sym same_duplicate ∙ free)
       go (inr (good, inr (free, is))) (inr (fine, inr (free_too, too))) = is ∙ sym too
 
-  named_refusal : (why other : EditRefusal) → IsTargetRefusal r why → IsTargetRefusal q other → why ≡ other
+  named_refusal : (why other : EditRefusal) → IsFirstRefusalForTarget r why → IsFirstRefusalForTarget q other → why ≡ other
   named_refusal why other (inl (c, means, h)) (inl (d, also, k)) =
       let same : c ≡ d = one_declaration (sym means ∙ (one_meaning ∙ also)) in
-      declared_refusal c why other h (subst (λ x. IsDeclarationRefusal q x other) (sym same) k)
+      declared_refusal c why other h (subst (λ x. IsFirstRefusalForDeclaration q x other) (sym same) k)
   named_refusal why other (inl (c, means, h)) (inr (l, (g, also, k))) = let both : declaration c ≡ field_of l g = sym means ∙ (one_meaning ∙ also) in absurd (cc)
   named_refusal why other (inr (l, (g, means, h))) (inl (d, also, k)) = let both : field_of l g ≡ declaration d = sym means ∙ (one_meaning ∙ also) in absurd (cc)
   named_refusal why other (inr (l, (g, means, h))) (inr (l₂, (g₂, also, k))) =
       let both : field_of l g ≡ field_of l₂ g₂ = sym means ∙ (one_meaning ∙ also) in
-      field_refusal l g why other h (subst (λ x. IsFieldRefusal q l x other) (sym (one_field both)) (subst (λ x. IsFieldRefusal q x g₂ other) (sym (one_record both)) k))
+      field_refusal l g why other h (subst (λ x. IsFirstRefusalForField q l x other) (sym (one_field both)) (subst (λ x. IsFirstRefusalForField q x g₂ other) (sym (one_record both)) k))
 
-  unnamed : {A : Type 0} (why : EditRefusal) (m : RenameTarget) → IsTargetRefusal q why → renaming_target r ≡ m → (m ≡ nothing) ⊎ (m ≡ predeclared) → A
+  unnamed : {A : Type 0} (why : EditRefusal) (m : RenameTarget) → IsFirstRefusalForTarget q why → renaming_target r ≡ m → (m ≡ nothing) ⊎ (m ≡ predeclared) → A
   unnamed why m (inl (d, also, k)) is (inl none) = let both : declaration d ≡ nothing = sym also ∙ (sym one_meaning ∙ (is ∙ none)) in absurd (cc)
   unnamed why m (inl (d, also, k)) is (inr none) = let both : declaration d ≡ predeclared = sym also ∙ (sym one_meaning ∙ (is ∙ none)) in absurd (cc)
   unnamed why m (inr (l, (g, also, k))) is (inl none) = let both : field_of l g ≡ nothing = sym also ∙ (sym one_meaning ∙ (is ∙ none)) in absurd (cc)
   unnamed why m (inr (l, (g, also, k))) is (inr none) = let both : field_of l g ≡ predeclared = sym also ∙ (sym one_meaning ∙ (is ∙ none)) in absurd (cc)
 
-  unnamed_too : {A : Type 0} (why : EditRefusal) (m : RenameTarget) → IsTargetRefusal r why → renaming_target q ≡ m → (m ≡ nothing) ⊎ (m ≡ predeclared) → A
+  unnamed_too : {A : Type 0} (why : EditRefusal) (m : RenameTarget) → IsFirstRefusalForTarget r why → renaming_target q ≡ m → (m ≡ nothing) ⊎ (m ≡ predeclared) → A
   unnamed_too why m (inl (d, means, k)) is (inl none) = let both : declaration d ≡ nothing = sym means ∙ (one_meaning ∙ (is ∙ none)) in absurd (cc)
   unnamed_too why m (inl (d, means, k)) is (inr none) = let both : declaration d ≡ predeclared = sym means ∙ (one_meaning ∙ (is ∙ none)) in absurd (cc)
   unnamed_too why m (inr (l, (g, means, k))) is (inl none) = let both : field_of l g ≡ nothing = sym means ∙ (one_meaning ∙ (is ∙ none)) in absurd (cc)
@@ -323,8 +323,8 @@ module _ (unit : Unit) (text : List ℕ) (place : Position) (new : Name) (names 
       apart : {A : Type 0} → nothing ≡ predeclared → A
       apart h = absurd (cc)
 
-      go : ((renaming_target r ≡ nothing) × (why ≡ refusal.NoName)) ⊎ (((renaming_target r ≡ predeclared) × (why ≡ refusal.Predeclared)) ⊎ IsTargetRefusal r why)
-          → ((renaming_target q ≡ nothing) × (other ≡ refusal.NoName)) ⊎ (((renaming_target q ≡ predeclared) × (other ≡ refusal.Predeclared)) ⊎ IsTargetRefusal q other) → why ≡ other
+      go : ((renaming_target r ≡ nothing) × (why ≡ refusal.NoName)) ⊎ (((renaming_target r ≡ predeclared) × (why ≡ refusal.Predeclared)) ⊎ IsFirstRefusalForTarget r why)
+          → ((renaming_target q ≡ nothing) × (other ≡ refusal.NoName)) ⊎ (((renaming_target q ≡ predeclared) × (other ≡ refusal.Predeclared)) ⊎ IsFirstRefusalForTarget q other) → why ≡ other
       go (inl (none, is)) (inl (nor, too)) = is ∙ sym too
       go (inl (none, is)) (inr (inl (before, too))) = apart (sym none ∙ (one_meaning ∙ before))
       go (inl (none, is)) (inr (inr b)) = unnamed other nothing b none (inl refl)
@@ -338,14 +338,14 @@ module _ (unit : Unit) (text : List ℕ) (place : Position) (new : Name) (names 
 -- ---- in a text
 
 -- Two renamings of one place have equal edits, by the bytes of their texts.
-pub renames_parts : (unit : Unit) (text : List ℕ) (place : Position) (new : Name) (es fs : List Edit) → RenamesIn unit text place new es → RenamesIn unit text place new fs → map range_and_text es ≡ map range_and_text fs
+pub renames_parts : (unit : Unit) (text : List ℕ) (place : Position) (new : Name) (es fs : List Edit) → RenamesInText unit text place new es → RenamesInText unit text place new fs → map range_and_text es ≡ map range_and_text fs
 renames_parts unit text place new es fs h k = edits_one unit text place new h.names k.names h.read k.read es fs h.are_edits k.are_edits
 
-pub renames_one : (unit : Unit) (text : List ℕ) (place : Position) (new : Name) (es fs : List Edit) → RenamesIn unit text place new es → RenamesIn unit text place new fs → replacements es ≡ replacements fs
+pub renames_one : (unit : Unit) (text : List ℕ) (place : Position) (new : Name) (es fs : List Edit) → RenamesInText unit text place new es → RenamesInText unit text place new fs → replacements es ≡ replacements fs
 renames_one unit text place new es fs h k = same_parts es fs (renames_parts unit text place new es fs h k)
 
-pub renames_or_refused : (unit : Unit) (text : List ℕ) (place : Position) (new : Name) (es : List Edit) (why : EditRefusal) → RenamesIn unit text place new es → IsRenameRefusedIn unit text place new why → ⊥
+pub renames_or_refused : (unit : Unit) (text : List ℕ) (place : Position) (new : Name) (es : List Edit) (why : EditRefusal) → RenamesInText unit text place new es → IsRenameRefusedInText unit text place new why → ⊥
 renames_or_refused unit text place new es why h k = edits_or_refused unit text place new h.names k.names h.read k.read es why h.are_edits k.refused
 
-pub refuses_one : (unit : Unit) (text : List ℕ) (place : Position) (new : Name) (why other : EditRefusal) → IsRenameRefusedIn unit text place new why → IsRenameRefusedIn unit text place new other → why ≡ other
+pub refuses_one : (unit : Unit) (text : List ℕ) (place : Position) (new : Name) (why other : EditRefusal) → IsRenameRefusedInText unit text place new why → IsRenameRefusedInText unit text place new other → why ≡ other
 refuses_one unit text place new why other h k = refusal_is_unique unit text place new h.names k.names h.read k.read why other h.refused k.refused

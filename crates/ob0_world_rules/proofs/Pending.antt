@@ -5,11 +5,11 @@ use Rattle.std.proofs.Common.{◌≡◌, ◌∙◌, ℕ, List, [], ◌∷◌, �
 use Rattle.std.specs.Prelude.{fold, Option, Some, None, option_map}
 use Rattle.std.proofs.lemmas.List.{map-append}
 use Rattle.ob0_text.specs.OpenDocuments.{OpenDocuments, Opened, Changed, Lost, Closed, documents_after_event, document_at}
-use Rattle.ob0_world_rules.specs.ClientAndServer.{OpenDocument, MessageToServer, notifies, requests, MessageToEditor, PublicationWithText, ClientAndServer, after_message}
-use Rattle.ob0_world_rules.specs.Serving.{Publishes, Replies}
+use Rattle.ob0_world_rules.specs.ClientAndServer.{OpenDocument, MessageToServer, notifies, requests, MessageToEditor, PublicationWithText, ClientAndServer, documents_after_message}
+use Rattle.ob0_world_rules.specs.Serving.{SendsDiagnostics, Replies}
 use Rattle.ob0_world_rules.specs.Happens.{ServerTakes}
 use Rattle.ob0_world_rules.specs.Mirror.{in_step_document}
-use Rattle.ob0_world_rules.specs.PublicationsInOrder.{AnnouncedDocument, document_if_open, versions_announced_by, versions_announced_in, versioned_uri, AreMadeForDocuments}
+use Rattle.ob0_world_rules.specs.PublicationsInOrder.{AnnouncedDocument, document_if_open, uris_and_versions_announced_by, uris_and_versions_announced_in, uri_and_version_of, AreMadeForDocuments}
 
 -- ---- the documents that wait for the server
 
@@ -28,17 +28,17 @@ Awaits held (requests number uri ask) now = now ≡ []
 abbrev pub Pending : OpenDocuments → List MessageToServer → List AnnouncedDocument → Type 0
 Pending held [] waiting = waiting ≡ []
 Pending held (m ∷ queue) waiting =
-    (now : List AnnouncedDocument) × (later : List AnnouncedDocument) × (waiting ≡ now ++ later) × (Awaits held m now × (map versioned_uri now ≡ versions_announced_by m)) × Pending (after_message held m) queue later
+    (now : List AnnouncedDocument) × (later : List AnnouncedDocument) × (waiting ≡ now ++ later) × (Awaits held m now × (map uri_and_version_of now ≡ uris_and_versions_announced_by m)) × Pending (documents_after_message held m) queue later
 
-pub pending_push : (held : OpenDocuments) (queue : List MessageToServer) (m : MessageToServer) (waiting now : List AnnouncedDocument) → Pending held queue waiting → Awaits (fold after_message held queue) m now × (map versioned_uri now ≡ versions_announced_by m) → Pending held (queue ++ m ∷ []) (waiting ++ now)
+pub pending_push : (held : OpenDocuments) (queue : List MessageToServer) (m : MessageToServer) (waiting now : List AnnouncedDocument) → Pending held queue waiting → Awaits (fold documents_after_message held queue) m now × (map uri_and_version_of now ≡ uris_and_versions_announced_by m) → Pending held (queue ++ m ∷ []) (waiting ++ now)
 pending_push held [] m waiting now is awaits = (now, [], ap (λ ts. ts ++ now) is ∙ sym (append-nil now), awaits, refl)
 pending_push held (x ∷ queue) m waiting now (first, later, is, so, rest) awaits =
-    (first, later ++ now, ap (λ ts. ts ++ now) is ∙ append_assoc first later now, so, pending_push (after_message held x) queue m later now rest awaits)
+    (first, later ++ now, ap (λ ts. ts ++ now) is ∙ append_assoc first later now, so, pending_push (documents_after_message held x) queue m later now rest awaits)
 
-pub pending_named : (held : OpenDocuments) (queue : List MessageToServer) (waiting : List AnnouncedDocument) → Pending held queue waiting → map versioned_uri waiting ≡ versions_announced_in queue
-pending_named held [] waiting is = ap (map versioned_uri) is
+pub pending_named : (held : OpenDocuments) (queue : List MessageToServer) (waiting : List AnnouncedDocument) → Pending held queue waiting → map uri_and_version_of waiting ≡ uris_and_versions_announced_in queue
+pending_named held [] waiting is = ap (map uri_and_version_of) is
 pending_named held (m ∷ queue) waiting (now, later, is, so, rest) =
-    ap (map versioned_uri) is ∙ map-append versioned_uri now later ∙ ap (λ ns. ns ++ map versioned_uri later) so.1 ∙ ap (λ ns. versions_announced_by m ++ ns) (pending_named (after_message held m) queue later rest)
+    ap (map uri_and_version_of) is ∙ map-append uri_and_version_of now later ∙ ap (λ ns. ns ++ map uri_and_version_of later) so.1 ∙ ap (λ ns. uris_and_versions_announced_by m ++ ns) (pending_named (documents_after_message held m) queue later rest)
 
 -- ---- publications when the server takes a message
 
@@ -48,12 +48,12 @@ made_append (m ∷ made) more (t ∷ announced) later h k = (h.0, made_append ma
 made_append [] more (t ∷ announced) later h k = absurd h
 made_append (m ∷ made) more [] later h k = absurd h
 
-published : (uri : List ℕ) (o : Option OpenDocument) (said : List MessageToEditor) (made : List PublicationWithText) → Publishes uri (option_map in_step_document o) said made → AreMadeForDocuments made (document_if_open uri o)
+published : (uri : List ℕ) (o : Option OpenDocument) (said : List MessageToEditor) (made : List PublicationWithText) → SendsDiagnostics uri (option_map in_step_document o) said made → AreMadeForDocuments made (document_if_open uri o)
 published uri (Some d) said made (empty, right, is_said, is_made) = subst (λ ms. AreMadeForDocuments ms (document_if_open uri (Some d))) (sym is_made) ((refl, refl, refl), tt)
 published uri None said made h = subst (λ ms. AreMadeForDocuments ms []) (sym h.1) tt
 
-awaited : (held : OpenDocuments) (uri : List ℕ) (said : List MessageToEditor) (made : List PublicationWithText) (now : List AnnouncedDocument) → Publishes uri (document_at held uri) said made → AwaitedAt held uri now → AreMadeForDocuments made now
-awaited held uri said made now may (o, at, is) = subst (AreMadeForDocuments made) (sym is) (published uri o said made (subst (λ d. Publishes uri d said made) at may))
+awaited : (held : OpenDocuments) (uri : List ℕ) (said : List MessageToEditor) (made : List PublicationWithText) (now : List AnnouncedDocument) → SendsDiagnostics uri (document_at held uri) said made → AwaitedAt held uri now → AreMadeForDocuments made now
+awaited held uri said made now may (o, at, is) = subst (AreMadeForDocuments made) (sym is) (published uri o said made (subst (λ d. SendsDiagnostics uri d said made) at may))
 
 none_made : (made : List PublicationWithText) (now : List AnnouncedDocument) → made ≡ [] → now ≡ [] → AreMadeForDocuments made now
 none_made made now no_made none_announced = subst (AreMadeForDocuments made) (sym none_announced) (subst (λ ms. AreMadeForDocuments ms []) (sym no_made) tt)
@@ -78,12 +78,12 @@ pub record Next (announced waiting now : List AnnouncedDocument) (new : ClientAn
 
 module _ (announced waiting : List AnnouncedDocument) where
   -- An event that announces nothing and changes neither queue nor publications leaves them so.
-  pub unchanged_result : (w : ClientAndServer) → AreMadeForDocuments w.made announced → Pending w.held w.to_server waiting → Next announced waiting [] w
-  unchanged_result w are_made_for_documents pending = record { done = announced; awaits = waiting; parts = append-nil (announced ++ waiting); are_made_for_documents = are_made_for_documents; pending = pending }
+  pub silent_result : (w : ClientAndServer) → AreMadeForDocuments w.made announced → Pending w.held w.to_server waiting → Next announced waiting [] w
+  silent_result w are_made_for_documents pending = record { done = announced; awaits = waiting; parts = append-nil (announced ++ waiting); are_made_for_documents = are_made_for_documents; pending = pending }
 
   pub serve_next : (w : ClientAndServer) (queue : List MessageToServer) (new : ClientAndServer) → AreMadeForDocuments w.made announced → Pending w.held queue waiting → w.to_server ≡ queue → ServerTakes w queue new → Next announced waiting [] new
   serve_next w [] new are_made_for_documents pending is h =
-      subst (Next announced waiting []) (sym h) (unchanged_result w are_made_for_documents (subst (λ q. Pending w.held q waiting) (sym is) pending))
+      subst (Next announced waiting []) (sym h) (silent_result w are_made_for_documents (subst (λ q. Pending w.held q waiting) (sym is) pending))
   serve_next w (m ∷ rest) new are_made_for_documents (now, later, parts, awaits, following) is (said, made, may, is_new) =
       subst (Next announced waiting []) (sym is_new)
       (record {

@@ -11,38 +11,38 @@ use Rattle.std.proofs.lemmas.Option.{cond_some, same_Some, none-some}
 use Rattle.std.proofs.lemmas.List.Elements.{All-nil, All-head, All-tail, All-weaker, All-push}
 use Rattle.ob0_text.specs.declared.position_types.Unit.{Unit}
 use Rattle.ob0_text.specs.OpenDocuments.{TextChange}
-use Rattle.ob0_world_rules.specs.ClientAndServer.{OpenDocument, EditorDocuments, SentAsk, Answer, Editor, new_editor, request_numbered, open_at, Applied}
+use Rattle.ob0_world_rules.specs.ClientAndServer.{OpenDocument, EditorDocuments, SentAsk, Answer, Editor, new_editor, request_numbered, open_document_at, Applied}
 use Rattle.ob0_world_rules.specs.Asks.{Ask}
-use Rattle.ob0_world_rules.specs.EditorActs.{version_number, next_version, same_version, opening_result, rewriting_result, closing_result, asking_result, if_unchanged_since}
+use Rattle.ob0_world_rules.specs.EditorActs.{version_as_natural, next_version, is_same_version, opening_result, rewriting_result, closing_result, asking_result, document_if_unchanged_since}
 use Rattle.ob0_world_rules.proofs.UriLaws.{get_put, get_removed, same_uri}
 
 -- states that a request was made earlier: its opening's number isn't fresh, and in that opening versions have only
 -- risen
 record Past (e : Editor) (a : SentAsk) : Type 0 where
   known : a.opening ≤ e.openings
-  risen : (d : OpenDocument) → open_at e a.uri ≡ Some d → d.opening ≡ a.opening → version_number a.version ≤ version_number d.version
+  risen : (d : OpenDocument) → open_document_at e a.uri ≡ Some d → d.opening ≡ a.opening → version_as_natural a.version ≤ version_as_natural d.version
 
 -- states that the document of the request is d, with the same opening and the same version
 pub record Same (e : Editor) (a : SentAsk) (d : OpenDocument) : Type 0 where
-  pub at : open_at e a.uri ≡ Some d
+  pub at : open_document_at e a.uri ≡ Some d
   pub opening : d.opening ≡ a.opening
   pub version : d.version ≡ a.version
 
 -- Versions that are found equal are equal.
-same_versions : (v w : ℤ) → same_version v w ≡ true → v ≡ w
+same_versions : (v w : ℤ) → is_same_version v w ≡ true → v ≡ w
 same_versions (pos n) (pos m) is = ap pos (eqb-true n m is)
 same_versions (pos n) (negsuc m) is = absurd (cc)
 same_versions (negsuc n) (pos m) is = absurd (cc)
 same_versions (negsuc n) (negsuc m) is = ap negsuc (eqb-true n m is)
 
-pub same_from : (e : Editor) (a : SentAsk) (d : OpenDocument) → option_and_then (if_unchanged_since a) (open_at e a.uri) ≡ Some d → Same e a d
-same_from e a d h = go (open_at e a.uri) refl h
+pub same_from : (e : Editor) (a : SentAsk) (d : OpenDocument) → option_and_then (document_if_unchanged_since a) (open_document_at e a.uri) ≡ Some d → Same e a d
+same_from e a d h = go (open_document_at e a.uri) refl h
   where
-    go : (o : Option OpenDocument) → open_at e a.uri ≡ o → option_and_then (if_unchanged_since a) o ≡ Some d → Same e a d
+    go : (o : Option OpenDocument) → open_document_at e a.uri ≡ o → option_and_then (document_if_unchanged_since a) o ≡ Some d → Same e a d
     go None is h = absurd (none-some d h)
     go (Some x) is h =
-        let both : (x.opening == a.opening && same_version x.version a.version ≡ true) × (x ≡ d) = cond_some _ x d h in
-        let tests : (x.opening == a.opening ≡ true) × (same_version x.version a.version ≡ true) = and_parts _ _ both.0 in
+        let both : (x.opening == a.opening && is_same_version x.version a.version ≡ true) × (x ≡ d) = cond_some _ x d h in
+        let tests : (x.opening == a.opening ≡ true) × (is_same_version x.version a.version ≡ true) = and_parts _ _ both.0 in
         record {
           at = is ∙ ap Some both.1;
           opening = ap (λ y. y.opening) (sym both.1) ∙ eqb-true _ _ tests.0;
@@ -87,7 +87,7 @@ later_open e uri new fresh =
     record {
       past = λ a past. record {
         known = let known : a.opening ≤ e.openings = past.known in omega arith;
-        risen = λ d at opening. found e.documents uri a.uri new d (version_number a.version ≤ version_number d.version) at (λ same is. absurd (not_fresh a past d is opening)) (λ was. past.risen d was opening);
+        risen = λ d at opening. found e.documents uri a.uri new d (version_as_natural a.version ≤ version_as_natural d.version) at (λ same is. absurd (not_fresh a past d is opening)) (λ was. past.risen d was opening);
       };
       same = λ a d past same. found e.documents uri a.uri new d (Same e a d) same.at (λ at is. absurd (not_fresh a past d is same.opening)) (λ was. record { at = was; opening = same.opening; version = same.version });
     }
@@ -99,25 +99,25 @@ later_open e uri new fresh =
         omega arith
 
 -- Revising a document doesn't give an earlier request its document back, since the version rises.
-later_revise : (e : Editor) (uri : List ℕ) (d new : OpenDocument) → new.opening ≡ d.opening → version_number d.version < version_number new.version → open_at e uri ≡ Some d → Later e (record e { documents = map_of.insert e.documents uri new })
+later_revise : (e : Editor) (uri : List ℕ) (d new : OpenDocument) → new.opening ≡ d.opening → version_as_natural d.version < version_as_natural new.version → open_document_at e uri ≡ Some d → Later e (record e { documents = map_of.insert e.documents uri new })
 later_revise e uri d new same_opening rises was_open =
     record {
       past = λ a past. record {
         known = past.known;
-        risen = λ x at opening. found e.documents uri a.uri new x (version_number a.version ≤ version_number x.version) at
-            (λ same is. let old : version_number a.version ≤ version_number d.version = risen_before a past x same is opening in
-            let version : version_number new.version ≡ version_number x.version = ap (λ y. version_number y.version) is in omega arith)
+        risen = λ x at opening. found e.documents uri a.uri new x (version_as_natural a.version ≤ version_as_natural x.version) at
+            (λ same is. let old : version_as_natural a.version ≤ version_as_natural d.version = risen_before a past x same is opening in
+            let version : version_as_natural new.version ≡ version_as_natural x.version = ap (λ y. version_as_natural y.version) is in omega arith)
             (λ was. past.risen x was opening);
       };
       same = λ a x past same. found e.documents uri a.uri new x (Same e a x) same.at
-          (λ at is. let old : version_number a.version ≤ version_number d.version = risen_before a past x at is same.opening in
-          let version : version_number new.version ≡ version_number x.version = ap (λ y. version_number y.version) is in
-          let equal : version_number x.version ≡ version_number a.version = ap version_number same.version in absurd (omega arith))
+          (λ at is. let old : version_as_natural a.version ≤ version_as_natural d.version = risen_before a past x at is same.opening in
+          let version : version_as_natural new.version ≡ version_as_natural x.version = ap (λ y. version_as_natural y.version) is in
+          let equal : version_as_natural x.version ≡ version_as_natural a.version = ap version_as_natural same.version in absurd (omega arith))
           (λ was. record { at = was; opening = same.opening; version = same.version });
     }
   where
-    risen_before : (a : SentAsk) → Past e a → (x : OpenDocument) → a.uri ≡ uri → new ≡ x → x.opening ≡ a.opening → version_number a.version ≤ version_number d.version
-    risen_before a past x same is opening = past.risen d (ap (open_at e) same ∙ was_open) (sym same_opening ∙ ap (λ y. y.opening) is ∙ opening)
+    risen_before : (a : SentAsk) → Past e a → (x : OpenDocument) → a.uri ≡ uri → new ≡ x → x.opening ≡ a.opening → version_as_natural a.version ≤ version_as_natural d.version
+    risen_before a past x same is opening = past.risen d (ap (open_document_at e) same ∙ was_open) (sym same_opening ∙ ap (λ y. y.opening) is ∙ opening)
 
 later_close : (e : Editor) (uri : List ℕ) → Later e (record e { documents = map_of.remove e.documents uri })
 later_close e uri =
@@ -134,7 +134,7 @@ record IsKnown (e : Editor) (a : SentAsk) : Type 0 where
   same_text : (d : OpenDocument) → Same e a d → d.text ≡ a.text
 
 pub record Knows (e : Editor) : Type 0 where
-  openings : (uri : List ℕ) (d : OpenDocument) → open_at e uri ≡ Some d → d.opening ≤ e.openings
+  openings : (uri : List ℕ) (d : OpenDocument) → open_document_at e uri ≡ Some d → d.opening ≤ e.openings
   asks : All (IsKnown e) e.requested
 
 later_asks : (e e' : Editor) → Later e e' → (list : List SentAsk) → All (IsKnown e) list → All (IsKnown e') list
@@ -167,7 +167,7 @@ knows_open e uri text knows =
       asks = later_asks e (opening_result e uri text).editor (later_open e uri d refl) e.requested knows.asks;
     }
 
-pub knows_rewrite : (e : Editor) (uri : List ℕ) (d : OpenDocument) (text : List ℕ) (how : List TextChange) (applied : List Applied) → open_at e uri ≡ Some d → Knows e → Knows (rewriting_result e uri d text how applied).editor
+pub knows_rewrite : (e : Editor) (uri : List ℕ) (d : OpenDocument) (text : List ℕ) (how : List TextChange) (applied : List Applied) → open_document_at e uri ≡ Some d → Knows e → Knows (rewriting_result e uri d text how applied).editor
 knows_rewrite e uri d text how applied was_open knows =
     let new : OpenDocument = record d { version = next_version d.version; text = text } in
     record {
@@ -184,7 +184,7 @@ knows_close e uri knows =
       asks = later_asks e (closing_result e uri).editor (later_close e uri) e.requested knows.asks;
     }
 
-pub knows_ask : (e : Editor) (uri : List ℕ) (ask : Ask) (d : OpenDocument) → open_at e uri ≡ Some d → Knows e → Knows (asking_result e uri ask d).editor
+pub knows_ask : (e : Editor) (uri : List ℕ) (ask : Ask) (d : OpenDocument) → open_document_at e uri ≡ Some d → Knows e → Knows (asking_result e uri ask d).editor
 knows_ask e uri ask d was_open knows =
     let a : SentAsk = record { ask = ask; uri = uri; text = d.text; opening = d.opening; version = d.version } in
     let new : Editor = (asking_result e uri ask d).editor in
@@ -194,7 +194,7 @@ knows_ask e uri ask d was_open knows =
           (record {
             past = record {
               known = knows.openings uri d was_open;
-              risen = λ x at opening. subst (λ y. version_number d.version ≤ version_number y.version) (same_Some d x (sym was_open ∙ at)) (omega arith);
+              risen = λ x at opening. subst (λ y. version_as_natural d.version ≤ version_as_natural y.version) (same_Some d x (sym was_open ∙ at)) (omega arith);
             };
             same_text = λ x same. ap (λ y. y.text) (same_Some x d (sym same.at ∙ was_open));
           });

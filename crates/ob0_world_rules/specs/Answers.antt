@@ -10,44 +10,44 @@ use Rattle.ob0_text.specs.declared.refusals.EditRefusal.{EditRefusal}
 use Rattle.ob0_text.specs.OpenDocuments.{Document, InStep, OutOfStep}
 use Rattle.ob0_text.specs.Texts.{offset_of}
 use Rattle.ob0_text.specs.Units.{width_of}
-use Rattle.ob0_edits.specs.Renamings.{RenamesIn, IsRenameRefusedIn}
-use Rattle.ob0_edits.specs.Inlinings.{InlinesIn, IsInliningRefusedIn}
-use Rattle.ob0_edits.specs.Layouts.{FormatsIn, FormattedTextIsTooLong}
+use Rattle.ob0_edits.specs.Renamings.{RenamesInText, IsRenameRefusedInText}
+use Rattle.ob0_edits.specs.Inlinings.{InlinesInText, IsInliningRefusedInText}
+use Rattle.ob0_edits.specs.Layouts.{FormatsText, FormattedTextIsTooLong}
 pub use Rattle.ob0_edits.specs.declared.inlinings.Inlining.{Inlining}
 pub use Rattle.ob0_edits.specs.declared.inlinings.Inlining.TheVariants.{OneUse, Everywhere}
 use Rattle.ob0_world_rules.specs.Language.{WellTypedText}
 use Rattle.ob0_world_rules.specs.Edited.{Replacement, replacements}
 use Rattle.ob0_world_rules.specs.Asks.{Ask, rename, inline_here, inline_all, format, clamped_indent}
 
--- returns the byte offset, from 0, of a position in this text
+-- returns the byte offset of a position in this text, counted from 0
 abbrev pub position_offset : Unit → List ℕ → Position → ℕ
 position_offset unit text position = offset_of (width_of unit) text position
 
 -- States that these edits inline the constant whose name is at this position. `how` says whether
--- the edits replace only the use at this position, or all uses.
+-- they replace only the use at this position, or all uses.
 abbrev pub InlinesAt : Inlining → Unit → List ℕ → Position → List Edit → Type 0
 InlinesAt how unit text position edits =
     (found : Vec Edit Global)
-    × InlinesIn how unit text (position_offset unit text position) found
+    × InlinesInText how unit text (position_offset unit text position) found
     × (edits ≡ found.items)
 
--- States that these edits do what the ask (request for edits) requests: rename, inline a constant
--- at one use or everywhere, or format the text.
+-- States that these edits do what the ask (request for edits) requests. They rename a declaration
+-- or field, inline a constant at one use or everywhere, or format the text.
 abbrev pub GivesEdits : Unit → List ℕ → Ask → List Edit → Type 0
-GivesEdits unit text (rename position name) edits = RenamesIn unit text position name edits
+GivesEdits unit text (rename position name) edits = RenamesInText unit text position name edits
 GivesEdits unit text (inline_here position) edits = InlinesAt OneUse unit text position edits
 GivesEdits unit text (inline_all position) edits = InlinesAt Everywhere unit text position edits
-GivesEdits unit text (format indent) edits = FormatsIn unit (clamped_indent indent) text edits
+GivesEdits unit text (format indent) edits = FormatsText unit (clamped_indent indent) text edits
 
--- states that the server refuses this request for edits: the new name or the inlining is refused,
--- or the formatted text would be too long
+-- states that the server refuses this request for edits: the new name or the inlining isn't
+-- allowed, or the formatted text would be too long
 abbrev pub Refuses : Unit → List ℕ → Ask → Type 0
 Refuses unit text (rename position name) =
-    (refusal : EditRefusal) × IsRenameRefusedIn unit text position name refusal
+    (refusal : EditRefusal) × IsRenameRefusedInText unit text position name refusal
 Refuses unit text (inline_here position) =
-    IsInliningRefusedIn OneUse unit text (position_offset unit text position)
+    IsInliningRefusedInText OneUse unit text (position_offset unit text position)
 Refuses unit text (inline_all position) =
-    IsInliningRefusedIn Everywhere unit text (position_offset unit text position)
+    IsInliningRefusedInText Everywhere unit text (position_offset unit text position)
 Refuses unit text (format indent) = FormattedTextIsTooLong (clamped_indent indent) text
 
 -- States that the edits `given` answer this request for edits (`ask`) of the text. They are the
@@ -59,12 +59,11 @@ IsAnswerForText unit text ask given =
 
 -- States that the edits `given` answer this request for edits (`ask`) of the document. If the
 -- document isn't open (None) or is out of step (its text isn't known), there are no edits.
-abbrev pub IsAnswer : Unit → Option Document → Ask → List Replacement → Type 0
-IsAnswer unit (Some (InStep version text)) ask given = IsAnswerForText unit text ask given
-IsAnswer unit (Some OutOfStep) ask given = given ≡ []
-IsAnswer unit None ask given = given ≡ []
+abbrev pub IsAnswerForDocument : Unit → Option Document → Ask → List Replacement → Type 0
+IsAnswerForDocument unit (Some (InStep version text)) ask given = IsAnswerForText unit text ask given
+IsAnswerForDocument unit (Some OutOfStep) ask given = given ≡ []
+IsAnswerForDocument unit None ask given = given ≡ []
 
--- States that `empty` (a list of diagnostics is empty) is true exactly when the text is a
--- well-typed module.
-abbrev pub IsEmptyIfWellTyped : List ℕ → Bool → Type 0
-IsEmptyIfWellTyped text empty = IsTrue empty ↔ WellTypedText text
+-- States that a list of diagnostics is empty (`empty`) exactly if the text is a well-typed module.
+abbrev pub IsEmptyExactlyIfWellTyped : List ℕ → Bool → Type 0
+IsEmptyExactlyIfWellTyped text empty = IsTrue empty ↔ WellTypedText text

@@ -4,7 +4,7 @@ use Rattle.std.specs.Prelude.{ℕ, List}
 use Rattle.ob0_text.specs.declared.position_types.Position.{Position}
 use Rattle.ob0_text.specs.declared.edits.Indent.{Indent}
 use Rattle.ob0_text.specs.declared.edits.Indent.TheVariants.{Tab, Spaces}
-use Rattle.ob0_text.specs.Indents.{spaces_in_level}
+use Rattle.ob0_text.specs.Indents.{indent_spaces_for_tab_size}
 
 -- a request about a document, whose answer the editor may apply
 pub data Ask : Type 0 where
@@ -18,7 +18,7 @@ pub data Ask : Type 0 where
   format : Indent → Ask
 
 -- Returns the indent that the server uses. If the number of spaces is outside the allowed range,
--- the nearest allowed number is used (`spaces_in_level`).
+-- the nearest allowed number is used (`indent_spaces_for_tab_size`).
 abbrev pub clamped_indent : Indent → Indent
 clamped_indent Tab = Tab
-clamped_indent (Spaces n) = Spaces (spaces_in_level n)
+clamped_indent (Spaces n) = Spaces (indent_spaces_for_tab_size n)

@@ -11,14 +11,14 @@ use Rattle.ob0_world_rules.specs.Asks.{Ask}
 
 -- ---- the editor
 
--- A document that is open in the editor: its version, its text, and its opening number. The editor
--- counts its openings of all documents: the first has number 1.
+-- A document that is open in the editor: its version, its text, and its opening number. The
+-- openings of all documents are numbered together, starting with 1.
 pub record OpenDocument : Type 0 where
   pub version : ℤ
   pub text : List ℕ
   pub opening : ℕ
 
--- the open documents, as a map from the bytes of their uris
+-- the open documents of an editor, as a map from the bytes of their uris
 abbrev pub EditorDocuments : Type 0
 EditorDocuments = map_of.FinMap (slice_cmp nat_cmp) OpenDocument
 
@@ -54,22 +54,22 @@ abbrev pub new_editor : Unit → Editor
 new_editor unit =
     record { unit = unit; documents = map_of.empty; openings = 0; requested = []; answers = [] }
 
--- returns the sent request for edits with this number, counted from 1; None if there is no such
+-- returns the sent request for edits with this number, counted from 1, or None if there is no such
 -- request
 abbrev pub request_numbered : List SentAsk → ℕ → Option SentAsk
 request_numbered requested zero = None
 request_numbered requested (suc k) = slice_get requested k
 
--- returns the open document with this uri; None if no document with this uri is open
-abbrev pub open_at : Editor → List ℕ → Option OpenDocument
-open_at e uri = map_of.get e.documents uri
+-- returns the open document with this uri, or None if no document with this uri is open
+abbrev pub open_document_at : Editor → List ℕ → Option OpenDocument
+open_document_at e uri = map_of.get e.documents uri
 
 -- ---- the messages in the queues
 
 -- a message to the server: a notification about a document, or an ask (a request for edits)
 pub data MessageToServer : Type 0 where
   notifies : DocumentEvent → MessageToServer
-  -- an ask: its number, the document's uri, and the requested edits
+  -- an ask: its number, the document's uri, and which edits are requested
   requests : ℕ → List ℕ → Ask → MessageToServer
 
 -- a message to the editor: a publication of diagnostics, or the answer to an ask (request for
@@ -99,8 +99,8 @@ pub record PublicationWithText : Type 0 where
 
 -- ---- a client and a server with their queues
 
--- a client and a server: the editor, the server's documents, the two queues, and the edits and
--- publications recorded so far
+-- the editor, the server's documents, the two queues, and the edits and publications recorded so
+-- far
 pub record ClientAndServer : Type 0 where
   pub editor : Editor
   pub to_server : List MessageToServer
@@ -124,6 +124,6 @@ start unit =
     }
 
 -- returns the server's documents after the server has taken a message
-abbrev pub after_message : OpenDocuments → MessageToServer → OpenDocuments
-after_message held (notifies note) = documents_after_event held note
-after_message held (requests number uri ask) = held
+abbrev pub documents_after_message : OpenDocuments → MessageToServer → OpenDocuments
+documents_after_message held (notifies note) = documents_after_event held note
+documents_after_message held (requests number uri ask) = held

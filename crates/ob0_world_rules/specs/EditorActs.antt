@@ -6,11 +6,11 @@ use Rattle.ob0_text.specs.OpenDocuments.{TextChange, Opened, Changed, Closed}
 use Rattle.ob0_language_types.specs.Typing.{◌>>=◌}
 use Rattle.ob0_world_rules.specs.Edited.{Replacement, text_after_edits, whole_text_change, text_after_changes}
 use Rattle.ob0_world_rules.specs.Asks.{Ask}
-use Rattle.ob0_world_rules.specs.ClientAndServer.{OpenDocument, SentAsk, Answer, Editor, request_numbered, open_at, MessageToServer, notifies, requests, MessageToEditor, publishes, answers, Applied}
+use Rattle.ob0_world_rules.specs.ClientAndServer.{OpenDocument, SentAsk, Answer, Editor, request_numbered, open_document_at, MessageToServer, notifies, requests, MessageToEditor, publishes, answers, Applied}
 
 -- an act of the editor: about a document, or about an answer that the editor has
 pub data Act : Type 0 where
-  -- the uri and the text
+  -- the uri and the text of the document
   open_document : List ℕ → List ℕ → Act
   change_document : List ℕ → List TextChange → Act
   close_document : List ℕ → Act
@@ -26,29 +26,30 @@ pub record ActResult : Type 0 where
   pub sent : List MessageToServer
   pub applied : List Applied
 
--- returns the result of an act that sends and applies nothing and leads to this editor
-abbrev pub unchanged_result : Editor → ActResult
-unchanged_result e = record { editor = e; sent = []; applied = [] }
+-- returns the result of an act that sends nothing, applies nothing and leaves the editor as `e`
+abbrev pub silent_result : Editor → ActResult
+silent_result e = record { editor = e; sent = []; applied = [] }
 
--- returns the result of an act that sends one message, applies these edits and leads to this editor
+-- returns the result of an act that sends one message, applies these edits and leaves the editor as
+-- `e`
 abbrev pub sending_result : Editor → MessageToServer → List Applied → ActResult
 sending_result e message applied = record { editor = e; sent = message ∷ []; applied = applied }
 
 -- returns a version as a natural number: 0 if the version is negative
-abbrev pub version_number : ℤ → ℕ
-version_number (pos n) = n
-version_number (negsuc n) = 0
+abbrev pub version_as_natural : ℤ → ℕ
+version_as_natural (pos n) = n
+version_as_natural (negsuc n) = 0
 
--- returns the version that follows this one: greater by 1, or 1 after a negative version
+-- returns the next version: greater by 1, or 1 after a negative version
 abbrev pub next_version : ℤ → ℤ
-next_version version = pos (version_number version + 1)
+next_version version = pos (version_as_natural version + 1)
 
 -- returns whether two versions are equal
-abbrev pub same_version : ℤ → ℤ → Bool
-same_version (pos n) (pos m) = n == m
-same_version (pos n) (negsuc m) = false
-same_version (negsuc n) (pos m) = false
-same_version (negsuc n) (negsuc m) = n == m
+abbrev pub is_same_version : ℤ → ℤ → Bool
+is_same_version (pos n) (pos m) = n == m
+is_same_version (pos n) (negsuc m) = false
+is_same_version (negsuc n) (pos m) = false
+is_same_version (negsuc n) (negsuc m) = n == m
 
 -- returns the result of opening a document, with version 1 and the next opening number
 abbrev pub opening_result : Editor → List ℕ → List ℕ → ActResult
@@ -57,8 +58,8 @@ opening_result e uri text =
     sending_result (record e { documents = map_of.insert e.documents uri d; openings = e.openings + 1 })
     (notifies (Opened uri (pos 1) text)) []
 
--- returns the result of an act that gives the open document `d` this text and the next version,
--- sends the changes `how`, and applies these edits
+-- Returns the result of an act that gives the open document `d` this text and the next version. The
+-- act notifies the server of the changes `how`, and applies these edits.
 abbrev pub rewriting_result : Editor → List ℕ → OpenDocument → List ℕ → List TextChange → List Applied → ActResult
 rewriting_result e uri d text how applied =
     let new : OpenDocument = record d { version = next_version d.version; text = text } in
@@ -70,8 +71,8 @@ abbrev pub closing_result : Editor → List ℕ → ActResult
 closing_result e uri =
     sending_result (record e { documents = map_of.remove e.documents uri }) (notifies (Closed uri)) []
 
--- returns the result of sending a request for edits of the open document `d`: the request is stored
--- in `requested`, and sent with the next number
+-- returns the result of sending a request for edits of the open document `d`: it is sent with the
+-- next number, and is appended to `requested`
 abbrev pub asking_result : Editor → List ℕ → Ask → OpenDocument → ActResult
 asking_result e uri ask d =
     let a : SentAsk = record {
@@ -84,7 +85,7 @@ asking_result e uri ask d =
     sending_result (record e { requested = e.requested ++ a ∷ [] })
     (requests (suc (length e.requested)) uri ask) []
 
--- returns the edits of the first answer to request `k`; None if the list has no such answer
+-- returns the edits of the first answer to request `k`, or None if the list has no such answer
 abbrev pub edits_of_answer : ℕ → List Answer → Option (List Replacement)
 edits_of_answer k [] = None
 edits_of_answer k (a ∷ rest) = if a.number == k then Some a.edits else edits_of_answer k rest
@@ -100,44 +101,44 @@ without_answer e k = record e { answers = answers_except k e.answers }
 
 -- returns the document if its opening number and its version are equal to the request's,
 -- otherwise None
-abbrev pub if_unchanged_since : SentAsk → OpenDocument → Option OpenDocument
-if_unchanged_since a d = if d.opening == a.opening && same_version d.version a.version then Some d else None
+abbrev pub document_if_unchanged_since : SentAsk → OpenDocument → Option OpenDocument
+document_if_unchanged_since a d = if d.opening == a.opening && is_same_version d.version a.version then Some d else None
 
 -- Returns the result of making the edits of an answer to request `k` in the request's document.
--- None if there is no such request, if the document isn't open, if its opening number or version
--- has changed since the request, or if two edits share a character.
+-- Returns None in four cases: there is no such request, its document isn't open, the document's
+-- opening number or version has changed since the request, or two edits share a character.
 abbrev pub applying_result : Editor → ℕ → List Replacement → Option ActResult
 applying_result e k edits = do
   a ← request_numbered e.requested k
-  d ← open_at e a.uri >>= if_unchanged_since a
+  d ← open_document_at e a.uri >>= document_if_unchanged_since a
   text ← text_after_edits e.unit d.text edits
   let made : Applied = record { uri = a.uri; before = d.text; after = text }
   Some (rewriting_result e a.uri d text (whole_text_change text ∷ []) (made ∷ []))
 
--- Returns the result of an act. Nothing happens if a document is opened that is open already, or if
--- a document is changed, closed or asked about that isn't open. `apply` and `discard` always remove
--- the answer, even if its edits can't be made.
+-- Returns the result of an act. Nothing happens if an open document is opened, or if a document
+-- that isn't open is changed, closed or asked about. `apply` and `discard` always remove the
+-- answer, even if its edits can't be made.
 abbrev pub act_result : Editor → Act → ActResult
 act_result e (open_document uri text) =
-    if is_some (open_at e uri) then unchanged_result e else opening_result e uri text
+    if is_some (open_document_at e uri) then silent_result e else opening_result e uri text
 act_result e (change_document uri how) = unwrap_or (do
-  d ← open_at e uri
+  d ← open_document_at e uri
   text ← text_after_changes e.unit (Some d.text) how
-  Some (rewriting_result e uri d text how [])) (unchanged_result e)
+  Some (rewriting_result e uri d text how [])) (silent_result e)
 act_result e (close_document uri) =
-    if is_some (open_at e uri) then closing_result e uri else unchanged_result e
+    if is_some (open_document_at e uri) then closing_result e uri else silent_result e
 act_result e (ask_about uri ask) = unwrap_or (do
-  d ← open_at e uri
-  Some (asking_result e uri ask d)) (unchanged_result e)
+  d ← open_document_at e uri
+  Some (asking_result e uri ask d)) (silent_result e)
 act_result e (apply k) =
     let rest : Editor = without_answer e k in
-    unwrap_or (edits_of_answer k e.answers >>= applying_result rest k) (unchanged_result rest)
-act_result e (discard k) = unchanged_result (without_answer e k)
+    unwrap_or (edits_of_answer k e.answers >>= applying_result rest k) (silent_result rest)
+act_result e (discard k) = silent_result (without_answer e k)
 
 -- Returns the editor after it has read a message. The editor keeps an answer that has edits, and
 -- nothing else.
-abbrev pub after_reading : Editor → MessageToEditor → Editor
-after_reading e (publishes uri version empty) = e
-after_reading e (answers number []) = e
-after_reading e (answers number (edit ∷ edits)) =
+abbrev pub editor_after_reading : Editor → MessageToEditor → Editor
+editor_after_reading e (publishes uri version empty) = e
+editor_after_reading e (answers number []) = e
+editor_after_reading e (answers number (edit ∷ edits)) =
     record e { answers = e.answers ++ record { number = number; edits = edit ∷ edits } ∷ [] }

@@ -1,13 +1,12 @@
 -- Defines the rules for an editor: which moves it may make, and which messages it sends. The
--- model's editor (`act_result`) keeps these rules and makes each move in only one way.
--- Rule: LSP 3.17, Text Document Synchronization, versioned documents.
+-- model's editor (`act_result`) also keeps these rules, but its acts have only one result.
 use Rattle.std.specs.Prelude.{◌≡◌, ◌+◌, ℕ, ℤ, List, [], ◌∷◌, ◌++◌, map, Some}
 use Rattle.std.specs.FinMap as map_of
 use Rattle.ob0_text.specs.OpenDocuments.{TextChange, Opened, Changed}
 use Rattle.ob0_world_rules.specs.Edited.{Replacement, text_after_edits, text_after_changes}
 use Rattle.ob0_world_rules.specs.Asks.{Ask}
-use Rattle.ob0_world_rules.specs.ClientAndServer.{OpenDocument, SentAsk, Editor, request_numbered, open_at, MessageToServer, notifies}
-use Rattle.ob0_world_rules.specs.EditorActs.{ActResult, unchanged_result, sending_result, closing_result, asking_result, edits_of_answer, without_answer}
+use Rattle.ob0_world_rules.specs.ClientAndServer.{OpenDocument, SentAsk, Editor, request_numbered, open_document_at, MessageToServer, notifies}
+use Rattle.ob0_world_rules.specs.EditorActs.{ActResult, silent_result, sending_result, closing_result, asking_result, edits_of_answer, without_answer}
 use Rattle.ob0_world_rules.specs.PublicationsInOrder.{AnnouncedDocument}
 
 -- a revision of a document: its next version and text, and the changes that are sent to the server
@@ -16,8 +15,8 @@ pub record Revision : Type 0 where
   pub text : List ℕ
   pub sent_changes : List TextChange
 
--- A move of the editor. It is like an `Act`, but a document may get any version, and the changes
--- are a list of revisions.
+-- A move of the editor. It differs from an `Act` in two ways: a document may get any version, and
+-- changes are given as a list of revisions.
 pub data Move : Type 0 where
   -- the uri, the version and the text
   to_open : List ℕ → ℤ → List ℕ → Move
@@ -41,15 +40,14 @@ abbrev pub with_document : Editor → List ℕ → OpenDocument → Editor
 with_document e uri d = record e { documents = map_of.insert e.documents uri d }
 
 -- States that these revisions of an open document, made in order, lead from editor `e` to `new` and
--- announce these documents. The changes of each revision turn the text before the revision into the
--- text after the revision. The positions of the changes count in the editor's unit. A revision may
--- have any version.
+-- announce these documents. The changes of each revision turn the text before it into the text
+-- after it. Positions are counted in the editor's unit. A revision may have any version.
 abbrev pub Revises : Editor → List ℕ → List Revision → Editor → List AnnouncedDocument → Type 0
 Revises e uri [] new announced = (new ≡ e) × (announced ≡ [])
 Revises e uri (r ∷ more) new announced =
     (d : OpenDocument)
     × (later : List AnnouncedDocument)
-    × (open_at e uri ≡ Some d)
+    × (open_document_at e uri ≡ Some d)
     × (text_after_changes e.unit (Some d.text) r.sent_changes ≡ Some r.text)
     × Revises (with_document e uri (revised_document d r)) uri more new later
     × (announced ≡ record { uri = uri; document = revised_document d r } ∷ later)
@@ -66,10 +64,9 @@ changes_of (r ∷ more) = r.sent_changes ++ changes_of more
 
 -- ---- answers
 
--- States that the edits of the answer to request `k` are made in the document that was asked about,
--- all at once. The document still has the text that it had when the request was sent. The changes
--- `first` make the edited text. The changes `next` are the user's later ones, which an editor may
--- send with them.
+-- States that all edits of the answer to request `k` are made in the document that was asked about.
+-- The document still has its text from when the request was sent. The changes `first` make the
+-- edited text. The changes `next` are later ones by the user, which an editor may send with them.
 pub record AppliesAnswer (e : Editor) (k : ℕ) (revisions : List Revision) (done : ActResult)
     (announced : List AnnouncedDocument) : Type 0 where
   pub edits : List Replacement
@@ -77,7 +74,7 @@ pub record AppliesAnswer (e : Editor) (k : ℕ) (revisions : List Revision) (don
   pub requested : SentAsk
   pub numbered : request_numbered e.requested k ≡ Some requested
   pub document : OpenDocument
-  pub is_open : open_at e requested.uri ≡ Some document
+  pub is_open : open_document_at e requested.uri ≡ Some document
   pub same_text : document.text ≡ requested.text
   pub text : List ℕ
   pub makes : text_after_edits e.unit document.text edits ≡ Some text
@@ -96,19 +93,19 @@ pub record AppliesAnswer (e : Editor) (k : ℕ) (revisions : List Revision) (don
 
 -- ---- the allowed moves and their results
 
--- returns the result of opening the document `d` under this uri, with the version, text and opening
--- number in `d`; a document that is already open may be opened again
-abbrev pub opening_result_as : OpenDocument → Editor → List ℕ → ActResult
-opening_result_as d e uri =
+-- returns the result of opening the document `d`, with its version, text and opening number, under
+-- this uri; a document that is already open may be opened again
+abbrev pub opening_result_for_document : OpenDocument → Editor → List ℕ → ActResult
+opening_result_for_document d e uri =
     sending_result (record (with_document e uri d) { openings = d.opening })
     (notifies (Opened uri d.version d.text)) []
 
 -- States that a move may have this result and announce these documents to the server. Only an open
--- document can be changed or asked about.
+-- document can be revised or asked about.
 abbrev pub IsAllowedMove : Editor → Move → ActResult → List AnnouncedDocument → Type 0
 IsAllowedMove e (to_open uri version text) done announced =
     let d : OpenDocument = record { version = version; text = text; opening = e.openings + 1 } in
-    (done ≡ opening_result_as d e uri)
+    (done ≡ opening_result_for_document d e uri)
     × (announced ≡ record { uri = uri; document = d } ∷ [])
 IsAllowedMove e (to_revise uri revisions) done announced =
     (new : Editor)
@@ -116,6 +113,6 @@ IsAllowedMove e (to_revise uri revisions) done announced =
     × (done ≡ record { editor = new; sent = notifications_of uri revisions; applied = [] })
 IsAllowedMove e (to_close uri) done announced = (done ≡ closing_result e uri) × (announced ≡ [])
 IsAllowedMove e (to_ask uri ask) done announced =
-    (d : OpenDocument) × (open_at e uri ≡ Some d) × (done ≡ asking_result e uri ask d) × (announced ≡ [])
+    (d : OpenDocument) × (open_document_at e uri ≡ Some d) × (done ≡ asking_result e uri ask d) × (announced ≡ [])
 IsAllowedMove e (to_apply k revisions) done announced = AppliesAnswer e k revisions done announced
-IsAllowedMove e (to_discard k) done announced = (done ≡ unchanged_result (without_answer e k)) × (announced ≡ [])
+IsAllowedMove e (to_discard k) done announced = (done ≡ silent_result (without_answer e k)) × (announced ≡ [])

@@ -4,19 +4,20 @@
 use Rattle.std.specs.Prelude.{◌≡◌, List, [], ◌∷◌, ◌++◌, map, Option, Some, None}
 use Rattle.ob0_text.specs.declared.position_types.Unit.{Unit}
 use Rattle.ob0_text.specs.OpenDocuments.{OpenDocuments, no_open_documents}
-use Rattle.ob0_world_rules.specs.ClientAndServer.{Editor, new_editor, MessageToServer, notifies, requests, MessageToEditor, Applied, PublicationWithText, ClientAndServer, start, after_message}
-use Rattle.ob0_world_rules.specs.EditorActs.{ActResult, after_reading}
+use Rattle.ob0_world_rules.specs.ClientAndServer.{Editor, new_editor, MessageToServer, notifies, requests, MessageToEditor, Applied, PublicationWithText, ClientAndServer, start, documents_after_message}
+use Rattle.ob0_world_rules.specs.EditorActs.{ActResult, editor_after_reading}
 use Rattle.ob0_world_rules.specs.Serving.{Replies}
-use Rattle.ob0_world_rules.specs.Happens.{Event, Course}
-use Rattle.ob0_world_rules.specs.Headline.{Holds, AreUpToDate}
-use Rattle.ob0_world_rules.specs.Mirror.{Mirrors}
-use Rattle.ob0_world_rules.specs.PublicationsInOrder.{AnnouncedDocument, AreMadeForDocuments, versions_announced_in, versioned_uri}
+use Rattle.ob0_world_rules.specs.Happens.{Event, IsCourse}
+use Rattle.ob0_world_rules.specs.Headline.{GuaranteesHold, PublicationsAreUpToDate}
+use Rattle.ob0_world_rules.specs.Mirror.{WillMirrorEditor}
+use Rattle.ob0_world_rules.specs.PublicationsInOrder.{AnnouncedDocument, AreMadeForDocuments, uris_and_versions_announced_in, uri_and_version_of}
 use Rattle.ob0_world_rules.specs.Editors.{Move, IsAllowedMove}
 
 -- ---- an editor and the server
 
 -- An editor and the server. Their queues may contain messages outside the model (`None`): requests
--- that change nothing, such as a hover, their answers, and notifications that the server ignores.
+-- that change nothing, such as a hover request, the answers to them, and notifications that the
+-- server ignores.
 pub record EditorAndServer : Type 0 where
   pub editor : Editor
   pub to_server : List (Option MessageToServer)
@@ -81,8 +82,8 @@ pub data Turn : Type 0 where
   editor_takes : Turn
 
 -- returns the state after a move of the editor that has this result and announces these documents
-abbrev pub after_move : EditorAndServer → ActResult → List AnnouncedDocument → EditorAndServer
-after_move w done announced =
+abbrev pub state_after_move : EditorAndServer → ActResult → List AnnouncedDocument → EditorAndServer
+state_after_move w done announced =
     record w {
       editor = done.editor;
       to_server = w.to_server ++ map Some done.sent;
@@ -90,9 +91,9 @@ after_move w done announced =
       applied = w.applied ++ done.applied;
     }
 
--- States that the server takes the first message that waits for it, and sends its replies. If that
--- message is outside the model (None), no document changes, and all replies are outside the model.
--- If no message waits, nothing changes.
+-- States that the server takes the first waiting message and sends its replies. If that message is
+-- outside the model (None), no document changes, and all replies are outside the model. If no
+-- message waits, nothing changes.
 abbrev pub ServerTakesNext : EditorAndServer → List (Option MessageToServer) → EditorAndServer → Type 0
 ServerTakesNext w [] new = new ≡ w
 ServerTakesNext w (None ∷ rest) new =
@@ -106,18 +107,18 @@ ServerTakesNext w (Some message ∷ rest) new =
     × (new
     ≡ record w {
       to_server = rest;
-      held = after_message w.held message;
+      held = documents_after_message w.held message;
       to_editor = w.to_editor ++ map Some said;
       made = w.made ++ made;
     })
 
--- Returns the state after the editor has taken the first message that waits for it. A message
--- outside the model (None) only leaves the queue. If no message waits, the state is unchanged.
-abbrev pub after_editor_takes_next : EditorAndServer → List (Option MessageToEditor) → EditorAndServer
-after_editor_takes_next w [] = w
-after_editor_takes_next w (None ∷ rest) = record w { to_editor = rest }
-after_editor_takes_next w (Some message ∷ rest) =
-    record w { editor = after_reading w.editor message; to_editor = rest }
+-- Returns the state after the editor has taken the first waiting message. A message outside the
+-- model (None) is only removed from the queue. If no message waits, the state is unchanged.
+abbrev pub state_after_editor_takes_next : EditorAndServer → List (Option MessageToEditor) → EditorAndServer
+state_after_editor_takes_next w [] = w
+state_after_editor_takes_next w (None ∷ rest) = record w { to_editor = rest }
+state_after_editor_takes_next w (Some message ∷ rest) =
+    record w { editor = editor_after_reading w.editor message; to_editor = rest }
 
 -- states that this turn can lead from `w` to `new`
 abbrev pub MayHappen : EditorAndServer → Turn → EditorAndServer → Type 0
@@ -125,10 +126,10 @@ MayHappen w (editor_moves move) new =
     (done : ActResult)
     × (announced : List AnnouncedDocument)
     × IsAllowedMove w.editor move done announced
-    × (new ≡ after_move w done announced)
+    × (new ≡ state_after_move w done announced)
 MayHappen w editor_sends_unmodeled new = new ≡ record w { to_server = w.to_server ++ None ∷ [] }
 MayHappen w server_takes new = ServerTakesNext w w.to_server new
-MayHappen w editor_takes new = new ≡ after_editor_takes_next w w.to_editor
+MayHappen w editor_takes new = new ≡ state_after_editor_takes_next w w.to_editor
 
 -- states that these turns, one after another, can lead from `w` to `new`
 abbrev pub MayLeadTo : EditorAndServer → List Turn → EditorAndServer → Type 0
@@ -138,18 +139,18 @@ MayLeadTo w (turn ∷ turns) new =
 
 -- ---- the laws
 
--- states the guarantees for the state `w`; by the law `HoldsForEveryEditor` they hold for each
--- state to which turns lead
-pub record HoldsWithEditor (w : EditorAndServer) : Type 0 where
-  -- Each applied edit keeps the module's run. Each list of diagnostics is empty exactly when the
-  -- text that it was made for is a well-typed module. If no message of the model waits for the
-  -- server, the latest diagnostics are for the present text.
-  pub holds : Holds (model_state_of w)
+-- states the guarantees for the state `w`; according to the law `HoldsForEveryEditor`, they hold
+-- for each state to which turns lead
+pub record HoldsForEditorAndServer (w : EditorAndServer) : Type 0 where
+  -- Each applied edit keeps the module's run. Each list of diagnostics is empty exactly if its text
+  -- is a well-typed module. If no message of the model waits for the server, the latest diagnostics
+  -- are for the present text.
+  pub holds : GuaranteesHold (model_state_of w)
   -- if no notification waits for the server, the latest diagnostics are for the present text, even
   -- if asks and messages outside the model still wait
-  pub latest : notifications_among (modeled_messages w.to_server) ≡ [] → AreUpToDate w.editor w.made
-  -- the server will have the editor's documents once it has taken the messages that wait for it
-  pub mirrors : Mirrors (model_state_of w)
+  pub latest : notifications_among (modeled_messages w.to_server) ≡ [] → PublicationsAreUpToDate w.editor w.made
+  -- once the server has taken the waiting messages, it has the editor's documents
+  pub mirrors : WillMirrorEditor (model_state_of w)
   -- The publications are for the first documents that the editor announced (`published`), one for
   -- each, in order. The messages that still wait for the server announce the other documents
   -- (`waiting`).
@@ -157,7 +158,7 @@ pub record HoldsWithEditor (w : EditorAndServer) : Type 0 where
   pub waiting : List AnnouncedDocument
   pub all : w.announced ≡ published ++ waiting
   pub are_made_for_documents : AreMadeForDocuments w.made published
-  pub unpublished_are_queued : map versioned_uri waiting ≡ versions_announced_in (modeled_messages w.to_server)
+  pub unpublished_are_queued : map uri_and_version_of waiting ≡ uris_and_versions_announced_in (modeled_messages w.to_server)
 
 -- states that the guarantees hold for every editor that keeps ob0's rules, in every interleaving of
 -- the turns
@@ -165,14 +166,14 @@ abbrev pub HoldsForEveryEditor : Type 0
 HoldsForEveryEditor =
     (unit : Unit) (turns : List Turn) (w : EditorAndServer)
     → MayLeadTo (initial_editor_and_server unit) turns w
-    → HoldsWithEditor w
+    → HoldsForEditorAndServer w
 
 -- States that the model's editor keeps ob0's rules: for each state to which a list of its events
 -- leads, some turns lead to the same state.
 abbrev pub ModelEditorKeepsRules : Type 0
 ModelEditorKeepsRules =
     (unit : Unit) (events : List Event) (end : ClientAndServer)
-    → Course (start unit) events end
+    → IsCourse (start unit) events end
     → (turns : List Turn)
     × (w : EditorAndServer)
     × MayLeadTo (initial_editor_and_server unit) turns w

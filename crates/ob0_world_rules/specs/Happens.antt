@@ -1,8 +1,8 @@
 -- Defines the events of a client and a server, and their results.
 -- Rule: LSP 3.17: a model of client and server.
 use Rattle.std.specs.Prelude.{◌≡◌, List, [], ◌∷◌, ◌++◌}
-use Rattle.ob0_world_rules.specs.ClientAndServer.{MessageToServer, MessageToEditor, PublicationWithText, ClientAndServer, after_message}
-use Rattle.ob0_world_rules.specs.EditorActs.{Act, ActResult, act_result, after_reading}
+use Rattle.ob0_world_rules.specs.ClientAndServer.{MessageToServer, MessageToEditor, PublicationWithText, ClientAndServer, documents_after_message}
+use Rattle.ob0_world_rules.specs.EditorActs.{Act, ActResult, act_result, editor_after_reading}
 use Rattle.ob0_world_rules.specs.Serving.{Replies}
 
 -- an event: the editor acts, or the server or the editor takes a message
@@ -15,8 +15,8 @@ pub data Event : Type 0 where
   take_message : Event
 
 -- returns the state after an act of the editor that has the result `done`
-abbrev pub after_act : ClientAndServer → ActResult → ClientAndServer
-after_act w done =
+abbrev pub state_after_act : ClientAndServer → ActResult → ClientAndServer
+state_after_act w done =
     record w {
       editor = done.editor;
       to_server = w.to_server ++ done.sent;
@@ -34,26 +34,26 @@ ServerTakes w (message ∷ rest) new =
     × (new
     ≡ record w {
       to_server = rest;
-      held = after_message w.held message;
+      held = documents_after_message w.held message;
       to_editor = w.to_editor ++ said;
       made = w.made ++ made;
     })
 
--- returns the state after the editor has taken the first message that waits for it; unchanged if no
--- message waits
-abbrev pub after_editor_takes : ClientAndServer → List MessageToEditor → ClientAndServer
-after_editor_takes w [] = w
-after_editor_takes w (message ∷ rest) =
-    record w { editor = after_reading w.editor message; to_editor = rest }
+-- returns the state after the editor has taken the first waiting message, or the unchanged state if
+-- no message waits
+abbrev pub state_after_editor_takes : ClientAndServer → List MessageToEditor → ClientAndServer
+state_after_editor_takes w [] = w
+state_after_editor_takes w (message ∷ rest) =
+    record w { editor = editor_after_reading w.editor message; to_editor = rest }
 
 -- states that this event leads from `w` to `new`
 abbrev pub Happens : ClientAndServer → Event → ClientAndServer → Type 0
-Happens w (editor_acts act) new = new ≡ after_act w (act_result w.editor act)
+Happens w (editor_acts act) new = new ≡ state_after_act w (act_result w.editor act)
 Happens w serve new = ServerTakes w w.to_server new
-Happens w take_message new = new ≡ after_editor_takes w w.to_editor
+Happens w take_message new = new ≡ state_after_editor_takes w w.to_editor
 
 -- states that these events, one after another, lead from `w` to `new`
-abbrev pub Course : ClientAndServer → List Event → ClientAndServer → Type 0
-Course w [] new = new ≡ w
-Course w (event ∷ events) new =
-    (between : ClientAndServer) × Happens w event between × Course between events new
+abbrev pub IsCourse : ClientAndServer → List Event → ClientAndServer → Type 0
+IsCourse w [] new = new ≡ w
+IsCourse w (event ∷ events) new =
+    (between : ClientAndServer) × Happens w event between × IsCourse between events new

@@ -4,64 +4,66 @@ use Rattle.std.specs.Prelude.{◌≡◌, ℕ, List, [], All, Option, Some, None,
 use Rattle.std.specs.Str.{bytes_eq}
 use Rattle.ob0_text.specs.declared.position_types.Unit.{Unit}
 use Rattle.ob0_world_rules.specs.Language.{WellTypedText, SameRun}
-use Rattle.ob0_world_rules.specs.Answers.{IsEmptyIfWellTyped}
-use Rattle.ob0_world_rules.specs.ClientAndServer.{OpenDocument, Editor, open_at, Applied, PublicationWithText, ClientAndServer, start}
-use Rattle.ob0_world_rules.specs.Happens.{Event, Course}
+use Rattle.ob0_world_rules.specs.Answers.{IsEmptyExactlyIfWellTyped}
+use Rattle.ob0_world_rules.specs.ClientAndServer.{OpenDocument, Editor, open_document_at, Applied, PublicationWithText, ClientAndServer, start}
+use Rattle.ob0_world_rules.specs.Happens.{Event, IsCourse}
 use Rattle.ob0_world_rules.specs.PublicationsInOrder.{AreMadeInOrder}
 
 -- ---- an applied edit
 
 -- states that the texts before and after the edit are well-typed modules with the same run: the
 -- same output and the same end
-pub record KeepsTheRun (a : Applied) : Type 0 where
+pub record PreservesRun (a : Applied) : Type 0 where
   pub before_is_well_typed : WellTypedText a.before
   pub after_is_well_typed : WellTypedText a.after
   pub same : SameRun a.before a.after
 
 -- ---- a publication with a version
 
--- states that the list of diagnostics is empty exactly when the text that it was made for is a
+-- states that the list of diagnostics is empty exactly if the text that it was made for is a
 -- well-typed module
 abbrev pub IsCorrectPublication : PublicationWithText → Type 0
-IsCorrectPublication m = IsEmptyIfWellTyped m.text m.no_diagnostics
+IsCorrectPublication m = IsEmptyExactlyIfWellTyped m.text m.no_diagnostics
 
--- returns the last publication with a version for the document with this uri; None if there is none
+-- returns the last publication with a version for the document with this uri, or None if there is
+-- none
 abbrev pub last_publication : List ℕ → List PublicationWithText → Option PublicationWithText
 last_publication uri made =
     fold (λ last m. if bytes_eq m.uri uri then Some m else last) None made
 
 -- States that each open document has a publication, and that its last publication was made for the
 -- document's present version and text.
-abbrev pub AreUpToDate : Editor → List PublicationWithText → Type 0
-AreUpToDate e made =
+abbrev pub PublicationsAreUpToDate : Editor → List PublicationWithText → Type 0
+PublicationsAreUpToDate e made =
     (uri : List ℕ) (d : OpenDocument)
-    → open_at e uri ≡ Some d
+    → open_document_at e uri ≡ Some d
     → MatchOption (last_publication uri made) ⊥
     (λ m. (m.version ≡ d.version) × (m.text ≡ d.text))
 
 -- ---- the guarantees for a list of events
 
--- states the guarantees for the state `w`; by the law `HoldsInEveryInterleaving` they hold for each
--- state to which events lead
-pub record Holds (w : ClientAndServer) : Type 0 where
+-- states the guarantees for the state `w`; according to the law `HoldsInEveryInterleaving`, they
+-- hold for each state to which events lead
+pub record GuaranteesHold (w : ClientAndServer) : Type 0 where
   -- each applied edit keeps the module's run
-  pub applied : All KeepsTheRun w.applied
-  -- each published list is empty exactly when the text that it was made for is a well-typed module
+  pub applied : All PreservesRun w.applied
+  -- each published list is empty exactly if the text that it was made for is a well-typed module
   pub made : All IsCorrectPublication w.made
   -- If no message waits for the server, the latest diagnostics of each open document were made for
   -- its present text.
-  pub latest_are_up_to_date : w.to_server ≡ [] → AreUpToDate w.editor w.made
+  pub latest_are_up_to_date : w.to_server ≡ [] → PublicationsAreUpToDate w.editor w.made
 
--- States that a list of events, from the start, leads to exactly one state. This state has these
--- applied edits and these publications, in this order. The guarantees (`Holds`) hold in this state.
+-- States that a list of events leads from the start to exactly one state. That state has these
+-- applied edits and these publications, in this order, and the guarantees (`GuaranteesHold`) hold
+-- in it.
 pub record Headline (unit : Unit) (events : List Event) (applied : List Applied)
     (made : List PublicationWithText) : Type 0 where
   pub end : ClientAndServer
   -- the events lead to this end, and to no other
-  pub course : Course (start unit) events end
-  pub only : (other : ClientAndServer) → Course (start unit) events other → other ≡ end
+  pub course : IsCourse (start unit) events end
+  pub only : (other : ClientAndServer) → IsCourse (start unit) events other → other ≡ end
   pub applied_at_end : applied ≡ end.applied
   pub made_at_end : made ≡ end.made
-  pub holds : Holds end
+  pub holds : GuaranteesHold end
   -- the n-th publication was made for the n-th document that the editor announced
   pub made_in_order : AreMadeInOrder unit events made

@@ -6,7 +6,7 @@ use Rattle.std.specs.Str.{IsUtf8}
 use Rattle.ob0_scan.specs.declared.lexeme.LexemeKind.{LexemeKind}
 use Rattle.ob0_scan.specs.declared.lexeme.LexemeKind.TheVariants as lexeme
 use Rattle.ob0_scan.specs.Lexed.{Lexeme, LexesInto}
-use Rattle.ob0_scan.specs.TextWithTokens.{max_text}
+use Rattle.ob0_scan.specs.TextWithTokens.{max_text_length}
 use Rattle.ob0_tree.specs.Lexeme.{Terminal, terminal_of_kind}
 use Rattle.ob0_tree.specs.Module.{max_nesting}
 use Rattle.ob0_tree.specs.Tree.{Tree, module_text, spell, nesting}
@@ -15,21 +15,21 @@ use Rattle.ob0_language_types.specs.WellTyped.{WellTyped}
 use Rattle.ob0_language_runs.specs.EditLaws.{HaveSameRuns}
 use Rattle.ob0_edits.specs.Texts.{utf8}
 
--- returns the terminals (leaves) of a syntax tree for a lexeme of its text: one for a token, none
--- for white space or a comment
-abbrev pub terminals : LexemeKind → List ℕ → List (Terminal Name)
-terminals lexeme.Space text = []
-terminals lexeme.Comment text = []
-terminals (lexeme.Token kind) text = terminal_of_kind text kind ∷ []
+-- returns the leaves of a syntax tree that stand for a lexeme: one for a token, none for white
+-- space or a comment
+abbrev pub terminals_of_lexeme : LexemeKind → List ℕ → List (Terminal Name)
+terminals_of_lexeme lexeme.Space text = []
+terminals_of_lexeme lexeme.Comment text = []
+terminals_of_lexeme (lexeme.Token kind) text = terminal_of_kind text kind ∷ []
 
--- States that these bytes are the text of a module with this tree. The text has at most `max_text`
+-- States that these bytes are the text of a module with this tree. The text has at most `max_text_length`
 -- bytes, and the tree isn't nested deeper than `max_nesting`.
 pub record IsModuleText (tree : Tree Name module_text) (bytes : List ℕ) : Type 0 where
   pub utf8 : IsUtf8 bytes
   pub lexemes : List Lexeme
   pub lexed : LexesInto bytes lexemes
-  pub spelled : flat_map (λ l. terminals l.kind l.text) lexemes ≡ spell tree
-  pub short : length bytes ≤ max_text
+  pub spelled : flat_map (λ l. terminals_of_lexeme l.kind l.text) lexemes ≡ spell tree
+  pub short : length bytes ≤ max_text_length
   pub shallow : nesting tree ≤ max_nesting
 
 -- In the definitions above, a text is a list of bytes. In the definitions below, it is a list of

@@ -5,27 +5,27 @@ use Rattle.std.specs.Prelude.{◌≡◌, ⊤, ℕ, ℤ, List, [], ◌∷◌, ◌
 use Rattle.std.specs.List.{flat_map}
 use Rattle.ob0_text.specs.declared.position_types.Unit.{Unit}
 use Rattle.ob0_text.specs.OpenDocuments.{Opened, Changed, Lost, Closed}
-use Rattle.ob0_world_rules.specs.ClientAndServer.{OpenDocument, Editor, open_at, MessageToServer, notifies, requests, PublicationWithText, ClientAndServer, start}
+use Rattle.ob0_world_rules.specs.ClientAndServer.{OpenDocument, Editor, open_document_at, MessageToServer, notifies, requests, PublicationWithText, ClientAndServer, start}
 use Rattle.ob0_world_rules.specs.EditorActs.{ActResult, act_result}
-use Rattle.ob0_world_rules.specs.Happens.{Event, editor_acts, serve, take_message, Happens, Course}
+use Rattle.ob0_world_rules.specs.Happens.{Event, editor_acts, serve, take_message, Happens, IsCourse}
 
 -- ---- the documents that the editor announced
 
--- a document in the state in which the editor announced it to the server
+-- a document with the version and text that the editor announced to the server
 pub record AnnouncedDocument : Type 0 where
   pub uri : List ℕ
   pub document : OpenDocument
 
--- returns a list of this one document with its uri, or an empty list for None (no document is open)
+-- returns a list with this document and its uri, or an empty list if no document is open (None)
 abbrev pub document_if_open : List ℕ → Option OpenDocument → List AnnouncedDocument
 document_if_open uri (Some d) = record { uri = uri; document = d } ∷ []
 document_if_open uri None = []
 
--- returns a list of the one document of the editor that the message opens or changes, or an empty
--- list if there is none
+-- returns a list with the editor's document that the message opens or changes, or an empty list if
+-- there is none
 abbrev pub documents_announced_by : Editor → MessageToServer → List AnnouncedDocument
-documents_announced_by e (notifies (Opened uri version text)) = document_if_open uri (open_at e uri)
-documents_announced_by e (notifies (Changed uri version how)) = document_if_open uri (open_at e uri)
+documents_announced_by e (notifies (Opened uri version text)) = document_if_open uri (open_document_at e uri)
+documents_announced_by e (notifies (Changed uri version how)) = document_if_open uri (open_document_at e uri)
 documents_announced_by e (notifies (Lost uri)) = []
 documents_announced_by e (notifies (Closed uri)) = []
 documents_announced_by e (requests number uri ask) = []
@@ -34,7 +34,8 @@ documents_announced_by e (requests number uri ask) = []
 abbrev pub documents_announced_in : Editor → List MessageToServer → List AnnouncedDocument
 documents_announced_in e messages = flat_map (documents_announced_by e) messages
 
--- returns the documents that the editor announces by this event; only an act announces documents
+-- returns the documents that the editor announces by this event, which are none unless the event is
+-- an act
 abbrev pub documents_announced_at : ClientAndServer → Event → List AnnouncedDocument
 documents_announced_at w (editor_acts act) =
     let done : ActResult = act_result w.editor act in documents_announced_in done.editor done.sent
@@ -66,23 +67,23 @@ AreMadeForDocuments (m ∷ made) (t ∷ announced) = IsMadeForDocument m t × Ar
 AreMadeForDocuments [] (t ∷ announced) = ⊥
 AreMadeForDocuments (m ∷ made) [] = ⊥
 
--- returns a list of the uri and version of the one document that the message opens or changes, or
--- an empty list if there is none
-abbrev pub versions_announced_by : MessageToServer → List (List ℕ × ℤ)
-versions_announced_by (notifies (Opened uri version text)) = (uri, version) ∷ []
-versions_announced_by (notifies (Changed uri version how)) = (uri, version) ∷ []
-versions_announced_by (notifies (Lost uri)) = []
-versions_announced_by (notifies (Closed uri)) = []
-versions_announced_by (requests number uri ask) = []
+-- returns a list with the uri and version of the document that the message opens or changes, or an
+-- empty list if there is none
+abbrev pub uris_and_versions_announced_by : MessageToServer → List (List ℕ × ℤ)
+uris_and_versions_announced_by (notifies (Opened uri version text)) = (uri, version) ∷ []
+uris_and_versions_announced_by (notifies (Changed uri version how)) = (uri, version) ∷ []
+uris_and_versions_announced_by (notifies (Lost uri)) = []
+uris_and_versions_announced_by (notifies (Closed uri)) = []
+uris_and_versions_announced_by (requests number uri ask) = []
 
 -- returns the uris and versions of the documents that these messages open or change, in order
-abbrev pub versions_announced_in : List MessageToServer → List (List ℕ × ℤ)
-versions_announced_in [] = []
-versions_announced_in (message ∷ queue) = versions_announced_by message ++ versions_announced_in queue
+abbrev pub uris_and_versions_announced_in : List MessageToServer → List (List ℕ × ℤ)
+uris_and_versions_announced_in [] = []
+uris_and_versions_announced_in (message ∷ queue) = uris_and_versions_announced_by message ++ uris_and_versions_announced_in queue
 
 -- returns a document's uri and version
-abbrev pub versioned_uri : AnnouncedDocument → List ℕ × ℤ
-versioned_uri t = (t.uri, t.document.version)
+abbrev pub uri_and_version_of : AnnouncedDocument → List ℕ × ℤ
+uri_and_version_of t = (t.uri, t.document.version)
 
 -- States that the publications `made` were made for the first documents that the editor announced
 -- (`announced`), one for each, in order. The messages that still wait for the server announce the
@@ -93,8 +94,8 @@ pub record AreMadeInOrder (unit : Unit) (events : List Event) (made : List Publi
   pub all : AreAnnounced (start unit) events (announced ++ waiting)
   pub are_made_for_documents : AreMadeForDocuments made announced
   pub unpublished_are_queued : (end : ClientAndServer)
-      → Course (start unit) events end
-      → map versioned_uri waiting ≡ versions_announced_in end.to_server
+      → IsCourse (start unit) events end
+      → map uri_and_version_of waiting ≡ uris_and_versions_announced_in end.to_server
 
 -- ---- the law
 
@@ -103,5 +104,5 @@ pub record AreMadeInOrder (unit : Unit) (events : List Event) (made : List Publi
 abbrev pub PublicationsInOrder : Type 0
 PublicationsInOrder =
     (unit : Unit) (events : List Event) (end : ClientAndServer)
-    → Course (start unit) events end
+    → IsCourse (start unit) events end
     → AreMadeInOrder unit events end.made

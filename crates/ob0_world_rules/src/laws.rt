@@ -1,24 +1,24 @@
 //! Proves laws about the model of client and server.
-ghost use Rattle.ob0_world_rules.specs.Laws.{CourseExists, AnswersAreUnique, EditsKeepTheRun, HoldsInEveryInterleaving, CourseIsDetermined, ReadingsAgree, StepIsDetermined, ServerMirrorsEditor};
+ghost use Rattle.ob0_world_rules.specs.Laws.{CourseExistsIfAnswerable, AnswersAreUnique, AnswerEditsPreserveRun, HoldsInEveryInterleaving, CourseIsDetermined, ModuleTextDefinitionsAgree, StateAfterEventIsDetermined, ServerMirrorsEditor};
 ghost use Rattle.ob0_world_rules.specs.PublicationsInOrder.{PublicationsInOrder};
 ghost use Rattle.ob0_world_rules.specs.EveryEditor.{ModelEditorKeepsRules, HoldsForEveryEditor};
 
 /// Proves that every applied edit keeps the module's run and that all diagnostics are correct
-/// (`Holds`), whatever the order of the events.
+/// (`GuaranteesHold`), in whatever order the events happen.
 pub fn holds_in_every_interleaving()
     ensures { HoldsInEveryInterleaving }
 {}
 
 /// Proves that the edits that answer a request for edits turn a well-typed module into a well-typed
 /// module with the same run: the same output and the same end.
-pub fn edits_keep_the_run()
-    ensures { EditsKeepTheRun }
+pub fn answer_edits_preserve_run()
+    ensures { AnswerEditsPreserveRun }
 {}
 
-/// Proves that two definitions of a module's text with its tree agree. One is by the text's lexemes
-/// (`IsModuleText`), and the other is by the parser's tokens (`IsTextOf`).
-pub fn readings_agree()
-    ensures { ReadingsAgree }
+/// Proves that two definitions of the text of a module with this tree agree. One uses the text's
+/// lexemes (`IsModuleText`), the other uses the parser's tokens (`IsTextOfTree`).
+pub fn module_text_definitions_agree()
+    ensures { ModuleTextDefinitionsAgree }
 {}
 
 /// Proves that two answers to the same request for edits of the same text are equal.
@@ -27,8 +27,8 @@ pub fn answers_are_unique()
 {}
 
 /// Proves that an event leads from a state to at most one state.
-pub fn step_is_determined()
-    ensures { StepIsDetermined }
+pub fn state_after_event_is_determined()
+    ensures { StateAfterEventIsDetermined }
 {}
 
 /// Proves that a list of events leads from a state to at most one state.
@@ -36,29 +36,28 @@ pub fn course_is_determined()
     ensures { CourseIsDetermined }
 {}
 
-/// Proves that each list of events leads from the start to some state, if its requests for edits
-/// have answers. So the laws about all courses of events aren't vacuous.
-pub fn course_exists()
-    ensures { CourseExists }
+/// Proves that each list of events leads from the start to some state, provided that its requests
+/// for edits have answers. So the laws about all courses of events aren't vacuous.
+pub fn course_exists_if_answerable()
+    ensures { CourseExistsIfAnswerable }
 {}
 
-/// Proves that the server will have the editor's documents once it has taken all messages that wait
-/// for it.
+/// Proves that once the server has taken all waiting messages, it has the editor's documents.
 pub fn server_mirrors_editor()
     ensures { ServerMirrorsEditor }
 {}
 
-/// Proves that the n-th publication with a version was made for the n-th document that the editor
-/// announced: for its uri, version and text. The editor announces a document when it opens or
-/// changes the document, or applies an edit.
+/// Proves that the n-th publication with a version has the uri, version and text of the n-th
+/// document that the editor announced. The editor announces a document when it opens or changes the
+/// document, or applies an edit.
 pub fn publications_in_order()
     ensures { PublicationsInOrder }
 {}
 
-/// Proves the guarantees for every editor that keeps ob0's rules, whatever the order of the turns.
-/// Every applied edit keeps the module's run. All diagnostics are correct, and are made for the
-/// announced documents in order. The latest diagnostics are for the present text, once the server
-/// has taken all notifications.
+/// Proves the guarantees for every editor that keeps ob0's rules, in whatever order the turns
+/// happen. Every applied edit keeps the module's run. All diagnostics are correct, and are made for
+/// the announced documents in order. Once the server has taken all notifications, the latest
+/// diagnostics are for the present text.
 pub fn holds_for_every_editor()
     ensures { HoldsForEveryEditor }
 {}

@@ -1,43 +1,43 @@
--- Each well-typed module has an answer to a request for formatting: the edits, or that its layout is too long.
+-- Each well-typed module has an answer to a request for formatting: the edits, or that its formatted text is too long.
 use Rattle.std.proofs.Common.{◌≡◌, ◌≤◌, ℕ, Bool, true, false, List, [], length, inl, inr, refl, sym}
 use Rattle.std.specs.Prelude.{nat_lt}
 use Rattle.std.specs.Str.{IsUtf8, chars}
 use Rattle.std.proofs.lemmas.Bool.{ltb-false, ltb-true}
 use Rattle.std.proofs.lemmas.Str.{chars_from_encodes, encodes-chars}
 use Rattle.ob0_scan.specs.Lexed.{LexesInto, Lexeme}
-use Rattle.ob0_scan.specs.TextWithTokens.{IsScan, TextWithTokens, comments_from, max_text, tokens_from}
+use Rattle.ob0_scan.specs.TextWithTokens.{IsScan, TextWithTokens, comments_from, max_text_length, tokens_from}
 use Rattle.ob0_text.specs.declared.edits.Edit.{Edit}
 use Rattle.ob0_text.specs.declared.edits.Indent.{Indent}
 use Rattle.ob0_text.specs.declared.position_types.Unit.{Unit}
 use Rattle.ob0_tree.specs.Module.{ModuleOf}
 use Rattle.ob0_tree.specs.Tree.{Tree, module_text}
-use Rattle.ob0_layout.specs.Layout.{formatted_lexemes, layout}
-use Rattle.ob0_edits.specs.Diagnosed.{IsTextOf, IsWellTypedModule}
+use Rattle.ob0_layout.specs.Layout.{formatted_lexemes, formatted_text}
+use Rattle.ob0_edits.specs.Diagnosed.{IsTextOfTree, IsWellTypedModule}
 use Rattle.ob0_edits.specs.Texts.{utf8}
-use Rattle.ob0_edits.specs.Layouts.{FormatsIn, formatted_text_of}
+use Rattle.ob0_edits.specs.Layouts.{FormatsText, formatted_text_of}
 use Rattle.ob0_world_rules.specs.Asks.{format, clamped_indent}
 use Rattle.ob0_world_rules.specs.Edited.{replacements}
 use Rattle.ob0_world_rules.specs.Language.{WellTypedText}
-use Rattle.ob0_world_rules.specs.Laws.{HasAnswers}
+use Rattle.ob0_world_rules.specs.Laws.{AlwaysHasAnswer}
 use Rattle.ob0_world_rules.proofs.ModuleTexts.{well_typed_module}
 use Rattle.ob0_world_worked.proofs.LayoutEdits.{layout_edits, layout_patches}
 
 abbrev pub ModuleStays : Type 0
 ModuleStays =
     (indent : Indent) (s : TextWithTokens) (scan : IsScan s) (tree : Tree (List ℕ) module_text) → ModuleOf s tree
-    → (t : TextWithTokens) → IsScan t → t.text ≡ layout indent tree scan.lexemes → ModuleOf t tree
+    → (t : TextWithTokens) → IsScan t → t.text ≡ formatted_text indent tree scan.lexemes → ModuleOf t tree
 
 abbrev pub LexemesStay : Type 0
-LexemesStay = (indent : Indent) (s : TextWithTokens) (scan : IsScan s) (tree : Tree (List ℕ) module_text) → ModuleOf s tree → LexesInto (layout indent tree scan.lexemes) (formatted_lexemes indent tree scan.lexemes)
+LexemesStay = (indent : Indent) (s : TextWithTokens) (scan : IsScan s) (tree : Tree (List ℕ) module_text) → ModuleOf s tree → LexesInto (formatted_text indent tree scan.lexemes) (formatted_lexemes indent tree scan.lexemes)
 
 abbrev pub LayoutIsUtf8 : Type 0
-LayoutIsUtf8 = (indent : Indent) (s : TextWithTokens) (scan : IsScan s) (tree : Tree (List ℕ) module_text) → IsUtf8 (layout indent tree scan.lexemes)
+LayoutIsUtf8 = (indent : Indent) (s : TextWithTokens) (scan : IsScan s) (tree : Tree (List ℕ) module_text) → IsUtf8 (formatted_text indent tree scan.lexemes)
 
 module _ (unchanged_result : ModuleStays) (lexed : LexemesStay) (good : LayoutIsUtf8) (unit : Unit) (indent : Indent) (text : List ℕ) (m : IsWellTypedModule (utf8 text)) where
   held : text ≡ chars m.text_of.scanned.text
   held = chars_from_encodes text m.text_of.scanned.text m.text_of.scan.scan.utf8 (sym m.text_of.scan.of)
 
-  stays_module : length (formatted_text_of indent m) ≤ 1048576 → IsTextOf m.tree (utf8 (chars (formatted_text_of indent m)))
+  stays_module : length (formatted_text_of indent m) ≤ 1048576 → IsTextOfTree m.tree (utf8 (chars (formatted_text_of indent m)))
   stays_module short =
       let laid : List ℕ = formatted_text_of indent m in
       let s = m.text_of.scanned in
@@ -48,7 +48,7 @@ module _ (unchanged_result : ModuleStays) (lexed : LexemesStay) (good : LayoutIs
       let read : IsScan t = record { utf8 = u; short = short; lexemes = lexemes; lexed = lexed indent s scan m.tree m.text_of.module_of; tokens = refl; comments = refl } in
       record { scanned = t; scan = record { of = sym (encodes-chars laid u); scan = read }; module_of = unchanged_result indent s scan m.tree m.text_of.module_of t read refl }
 
-  pub lays_out : length (formatted_text_of indent m) ≤ 1048576 → (edits : List Edit) × FormatsIn unit indent text edits
+  pub lays_out : length (formatted_text_of indent m) ≤ 1048576 → (edits : List Edit) × FormatsText unit indent text edits
   lays_out short =
       let s = m.text_of.scanned in
       let scan = m.text_of.scan.scan in
@@ -65,15 +65,15 @@ module _ (unchanged_result : ModuleStays) (lexed : LexemesStay) (good : LayoutIs
         },
       )
 
-pub formatting_has_answers : ModuleStays → LexemesStay → LayoutIsUtf8 → (indent : Indent) → HasAnswers (format indent)
+pub formatting_has_answers : ModuleStays → LexemesStay → LayoutIsUtf8 → (indent : Indent) → AlwaysHasAnswer (format indent)
 formatting_has_answers unchanged_result lexed good indent unit text none = none [] (inr (inr unfit, refl))
   where
-    go : (m : IsWellTypedModule (utf8 text)) (b : Bool) → nat_lt max_text (length (formatted_text_of (clamped_indent indent) m)) ≡ b → ⊥
-    go m true long = none [] (inr (inl (record { before = m; long = ltb-true max_text (length (formatted_text_of (clamped_indent indent) m)) long }), refl))
+    go : (m : IsWellTypedModule (utf8 text)) (b : Bool) → nat_lt max_text_length (length (formatted_text_of (clamped_indent indent) m)) ≡ b → ⊥
+    go m true long = none [] (inr (inl (record { before = m; long = ltb-true max_text_length (length (formatted_text_of (clamped_indent indent) m)) long }), refl))
     go m false fits =
-        let low = ltb-false max_text (length (formatted_text_of (clamped_indent indent) m)) fits in
+        let low = ltb-false max_text_length (length (formatted_text_of (clamped_indent indent) m)) fits in
         let made = lays_out unchanged_result lexed good unit (clamped_indent indent) text m low in
         none (replacements made.0) (inl (made.0, made.1, refl))
 
     unfit : WellTypedText text → ⊥
-    unfit h = let m = well_typed_module text h in go m (nat_lt max_text (length (formatted_text_of (clamped_indent indent) m))) refl
+    unfit h = let m = well_typed_module text h in go m (nat_lt max_text_length (length (formatted_text_of (clamped_indent indent) m))) refl

@@ -14,7 +14,7 @@ use Rattle.ob0_scan.specs.declared.lexeme.LexemeKind.TheVariants as lexeme
 use Rattle.ob0_scan.specs.Classes.{IsLexemeOfKind, IsIdentifier, decimal_value, is_space, reserved_text, symbol_text}
 use Rattle.ob0_scan.specs.Ends.{EachEndsBeforeNext, continues_lexeme}
 use Rattle.ob0_scan.specs.Lexed.{LexesInto, Lexeme, text_of_lexemes}
-use Rattle.ob0_scan.proofs.Borders.{cut_depends_on_next_bytes}
+use Rattle.ob0_scan.proofs.Borders.{cut_into_lexemes_depends_on_next_bytes}
 
 abbrev pub all_reserved : List ReservedWord
 all_reserved =
@@ -109,4 +109,4 @@ apart_so (l ∷ lexemes) h =
     off false e = refl
 
 pub lexed_so : (text : List ℕ) (lexemes : List Lexeme) → text_of_lexemes lexemes ≡ text → are_disjoint lexemes ≡ true → LexesInto text lexemes
-lexed_so text lexemes whole apart = (cut_depends_on_next_bytes text lexemes).1 (whole, apart_so lexemes apart)
+lexed_so text lexemes whole apart = (cut_into_lexemes_depends_on_next_bytes text lexemes).1 (whole, apart_so lexemes apart)

@@ -21,7 +21,7 @@ use Rattle.ob0_language_values.specs.declared.scalar.Scalar.TheVariants as scala
 use Rattle.ob0_language_values.specs.Scalars.{scalar_value}
 use Rattle.ob0_types.specs.CheckedModules.{IsWellTyped}
 use Rattle.ob0_analysis.specs.Analysed.{IsResolvedWellTypedModule}
-use Rattle.ob0_analysis.specs.Diagnosed.{IsTextOf}
+use Rattle.ob0_analysis.specs.Diagnosed.{IsTextOfTree}
 use Rattle.ob0_analysis.specs.Texts.{utf8}
 use Rattle.ob0_analysis.proofs.Scanning.{is_module, utf8_of}
 use Rattle.ob0_edits_tokens.specs.Ranges.{range_of}
@@ -30,7 +30,7 @@ use Rattle.ob0_edits_tokens.specs.Replaced.{replacement_at_token, range_and_text
 use Rattle.ob0_rename.specs.Answers.{IsRenameRefusal, RenamesDeclaration}
 use Rattle.ob0_rename.specs.Renaming.{TargetsDeclaration, Renaming, rename_target_at, renaming_of}
 use Rattle.ob0_inline.specs.declared.uses.ConstantUse.{ConstantUse}
-use Rattle.ob0_inline.specs.declared.constants.NamedConstant.{NamedConstant}
+use Rattle.ob0_inline.specs.declared.constants.DeclaredConstant.{DeclaredConstant}
 use Rattle.ob0_inline.specs.Everywhere.{IsConstant, IsConstantAt, tree_inlined_everywhere}
 use Rattle.ob0_inline.specs.Inlined.{EditsGiveModule}
 use Rattle.ob0_inline.specs.Uses.{IsUse, IsUseAt, tree_inlined_here}
@@ -39,14 +39,14 @@ use Rattle.ob0_inline.proofs.AtUses as at_uses
 use Rattle.ob0_inline.proofs.AtConstants as at_constants
 use Rattle.ob0_edits.specs.declared.inlinings.Inlining.{Inlining}
 use Rattle.ob0_edits.specs.declared.inlinings.Inlining.TheVariants.{OneUse, Everywhere}
-use Rattle.ob0_edits.specs.Inlinings.{IsInlineResult, InlinesIn}
-use Rattle.ob0_edits.specs.Renamings.{IsRenameRefusedIn, RenamesIn}
+use Rattle.ob0_edits.specs.Inlinings.{IsInlineResult, InlinesInText}
+use Rattle.ob0_edits.specs.Renamings.{IsRenameRefusedInText, RenamesInText}
 use Rattle.ob0_edits.proofs.Renamings.{new_name_found}
 use Rattle.ob0_world_rules.specs.Asks.{Ask, rename, inline_here, inline_all}
 use Rattle.ob0_world_rules.specs.Answers.{IsAnswerForText}
 use Rattle.ob0_world_rules.specs.Edited.{Replacement}
 use Rattle.ob0_world_rules.specs.Laws.{AnswersAreUnique}
-use Rattle.ob0_world_worked.specs.WorkedText.{line_position, worked_text}
+use Rattle.ob0_world_worked.specs.WorkedText.{line_position, example_text}
 use Rattle.ob0_world_worked.specs.WorkedAnswers.{CaptureIsRefused, RenameIsAnswered, InliningIsAnswered, InliningEverywhereIsAnswered, IsAnsweredBy, range_on_line, replacement_on_line}
 use Rattle.ob0_world_worked.proofs.WorkedValues.{vec_of}
 use Rattle.ob0_world_worked.proofs.LexemeTests.{identifier_of}
@@ -59,20 +59,20 @@ use Rattle.ob0_world_worked.proofs.WorkedEdits.{declaration_parts, everywhere_le
 pub worked_well : IsWellTyped worked_names
 worked_well = record { resolved = worked_resolved; well_typed = worked_fits }
 
-worked_scan_of : IsScanOf worked_text (scanned_of worked_lexemes)
+worked_scan_of : IsScanOf example_text (scanned_of worked_lexemes)
 worked_scan_of = record { of = refl; scan = worked_scan }
 
-pub worked_in : IsResolvedWellTypedModule worked_text worked_names
+pub worked_in : IsResolvedWellTypedModule example_text worked_names
 worked_in = record { scan = worked_scan_of; well_typed = worked_well }
 
-worked_bytes : worked_text ≡ utf8 worked_text
-worked_bytes = sym (bytes_so worked_text refl)
+worked_bytes : example_text ≡ utf8 example_text
+worked_bytes = sym (bytes_so example_text refl)
 
-pub worked_in_bytes : IsResolvedWellTypedModule (utf8 worked_text) worked_names
+pub worked_in_bytes : IsResolvedWellTypedModule (utf8 example_text) worked_names
 worked_in_bytes = subst (λ (t : List ℕ). IsResolvedWellTypedModule t worked_names) worked_bytes worked_in
 
-answered_by : AnswersAreUnique → (ask : Ask) (edits : List Replacement) → IsAnswerForText Utf16 worked_text ask edits → IsAnsweredBy ask edits
-answered_by one ask edits exists given = (λ h. one Utf16 worked_text ask given edits h exists, λ e. subst (IsAnswerForText Utf16 worked_text ask) (sym e) exists)
+answered_by : AnswersAreUnique → (ask : Ask) (edits : List Replacement) → IsAnswerForText Utf16 example_text ask edits → IsAnsweredBy ask edits
+answered_by one ask edits exists given = (λ h. one Utf16 example_text ask given edits h exists, λ e. subst (IsAnswerForText Utf16 example_text ask) (sym e) exists)
 
 y_is : codes "y" ≡ chars (codes "y")
 y_is = sym (chars_so (codes "y") refl)
@@ -86,12 +86,12 @@ nothing_is = sym (chars_so [] refl)
 -- ---- the rename
 
 renaming : List ℕ → Renaming
-renaming new = renaming_of Utf16 worked_text worked_names (line_position 4 2) new
+renaming new = renaming_of Utf16 example_text worked_names (line_position 4 2) new
 
-names_x : (new : List ℕ) → TargetsDeclaration (renaming_of Utf16 worked_text worked_names (line_position 4 2) new) 8
+names_x : (new : List ℕ) → TargetsDeclaration (renaming_of Utf16 example_text worked_names (line_position 4 2) new) 8
 names_x new = ap (rename_target_at worked_names) x_is_at ∙ refl
 
-renames_x : FreeRenamingKeepsTypingAndRuns → RenamesDeclaration (renaming_of Utf16 worked_text worked_names (line_position 4 2) (codes "y")) 8 renames
+renames_x : FreeRenamingKeepsTypingAndRuns → RenamesDeclaration (renaming_of Utf16 example_text worked_names (line_position 4 2) (codes "y")) 8 renames
 renames_x keeps =
     let kept = keeps (named_tree_of worked_module) 8 (codes "y") (refl, refl) worked_fits in
     record {
@@ -109,9 +109,9 @@ renames_x keeps =
       };
     }
 
-pub renames_in : FreeRenamingKeepsTypingAndRuns → RenamesIn Utf16 worked_text (line_position 4 2) (codes "y") renames
+pub renames_in : FreeRenamingKeepsTypingAndRuns → RenamesInText Utf16 example_text (line_position 4 2) (codes "y") renames
 renames_in keeps =
-    new_name_found Utf16 worked_text worked_text (line_position 4 2) (codes "y") (Some (Ok (vec_of renames (omega (arith))))) (utf8_so worked_text refl) (chars_so worked_text refl)
+    new_name_found Utf16 example_text example_text (line_position 4 2) (codes "y") (Some (Ok (vec_of renames (omega (arith))))) (utf8_so example_text refl) (chars_so example_text refl)
     (worked_names, worked_in, inl (8, names_x (codes "y"), renames_x keeps))
 
 pub rename_is_answered : FreeRenamingKeepsTypingAndRuns → AnswersAreUnique → RenameIsAnswered
@@ -119,12 +119,12 @@ rename_is_answered keeps one =
     answered_by one (rename (line_position 4 2) (codes "y")) (replacement_on_line 4 2 3 (codes "y") ∷ replacement_on_line 6 2 3 (codes "y") ∷ replacement_on_line 7 8 9 (codes "y") ∷ [])
     (inl (renames, renames_in keeps, ap (λ t. replacement_on_line 4 2 3 t ∷ replacement_on_line 6 2 3 t ∷ replacement_on_line 7 8 9 t ∷ []) y_is))
 
-refused : IsRenameRefusal (renaming_of Utf16 worked_text worked_names (line_position 4 2) (codes "Write")) (Captures (range_on_line 7 2 7))
+refused : IsRenameRefusal (renaming_of Utf16 example_text worked_names (line_position 4 2) (codes "Write")) (Captures (range_on_line 7 2 7))
 refused = inl (8, names_x (codes "Write"), (identifier_of (codes "Write") refl, (3, refl, ap Some write_is_at)))
 
-pub refused_in : IsRenameRefusedIn Utf16 worked_text (line_position 4 2) (codes "Write") (Captures (range_on_line 7 2 7))
+pub refused_in : IsRenameRefusedInText Utf16 example_text (line_position 4 2) (codes "Write") (Captures (range_on_line 7 2 7))
 refused_in =
-    new_name_found Utf16 worked_text worked_text (line_position 4 2) (codes "Write") (Some (Err (Captures (range_on_line 7 2 7)))) (utf8_so worked_text refl) (chars_so worked_text refl)
+    new_name_found Utf16 example_text example_text (line_position 4 2) (codes "Write") (Some (Err (Captures (range_on_line 7 2 7)))) (utf8_so example_text refl) (chars_so example_text refl)
     (worked_names, worked_in, refused)
 
 pub capture_is_refused : AnswersAreUnique → CaptureIsRefused
@@ -158,12 +158,12 @@ use_so : IsUse worked_module the_use
 use_so = record { occurs = refl; bound = refl; has_value = has_two }
 
 -- edits that leave the text of a module with the same runs
-inlines_in : (how : Inlining) (offset : ℕ) (edits : Vec Edit Global) (t : Tree Name module_text) → EditsGiveModule Utf16 worked_text edits.items t → WellTyped t → HaveSameRuns t (named_tree_of worked_module)
-    → IsInlineResult how Utf16 worked_text worked_module offset (Some edits) → InlinesIn how Utf16 worked_text offset edits
+inlines_in : (how : Inlining) (offset : ℕ) (edits : Vec Edit Global) (t : Tree Name module_text) → EditsGiveModule Utf16 example_text edits.items t → WellTyped t → HaveSameRuns t (named_tree_of worked_module)
+    → IsInlineResult how Utf16 example_text worked_module offset (Some edits) → InlinesInText how Utf16 example_text offset edits
 inlines_in how offset edits t leaves well same inlines =
     let after : List ℕ = chars leaves.after.text in
-    let text_of : IsTextOf t (utf8 after) =
-    subst (λ (w : List ℕ). IsTextOf t w) (utf8_of leaves.after.text after leaves.scan.utf8 refl) (record { scanned = leaves.after; scan = record { of = refl; scan = leaves.scan }; module_of = leaves.module_of })
+    let text_of : IsTextOfTree t (utf8 after) =
+    subst (λ (w : List ℕ). IsTextOfTree t w) (utf8_of leaves.after.text after leaves.scan.utf8 refl) (record { scanned = leaves.after; scan = record { of = refl; scan = leaves.scan }; module_of = leaves.module_of })
     in
     record {
       module_read = worked_module;
@@ -171,12 +171,12 @@ inlines_in how offset edits t leaves well same inlines =
       inlines = inlines;
       after = after;
       made = leaves.made;
-      runs = record { old = is_module (utf8 worked_text) worked_names worked_in_bytes; new = record { tree = t; text_of = text_of; well_typed = well }; same = same };
+      runs = record { old = is_module (utf8 example_text) worked_names worked_in_bytes; new = record { tree = t; text_of = text_of; well_typed = well }; same = same };
     }
 
-here_made : at_uses.Made worked_names the_use Utf16 worked_text (puts_two ∷ [])
+here_made : at_uses.Made worked_names the_use Utf16 example_text (puts_two ∷ [])
 here_made = record {
-  edits_are = subst (λ (t : List ℕ). map range_and_text (puts_two ∷ []) ≡ replacement_at_token Utf16 worked_text (scanned_of worked_lexemes).tokens t 16 ∷ []) text_of_two (ap (λ p. p ∷ []) inlines_parts);
+  edits_are = subst (λ (t : List ℕ). map range_and_text (puts_two ∷ []) ≡ replacement_at_token Utf16 example_text (scanned_of worked_lexemes).tokens t 16 ∷ []) text_of_two (ap (λ p. p ∷ []) inlines_parts);
   make_text = record {
     leaves = λ alone. record {
       after = scanned_of inlined_lexemes;
@@ -191,9 +191,9 @@ here_made = record {
 one_edit : Vec Edit Global
 one_edit = vec_of (puts_two ∷ []) (omega (arith))
 
-pub inlines_here_in : ConstantUsesAreFactors → InliningKeepsTypingAndRuns → InlinesIn OneUse Utf16 worked_text 56 (vec_of (puts_two ∷ []) (omega (arith)))
+pub inlines_here_in : ConstantUsesAreFactors → InliningKeepsTypingAndRuns → InlinesInText OneUse Utf16 example_text 56 (vec_of (puts_two ∷ []) (omega (arith)))
 inlines_here_in alone keeps =
-    let answer = at_uses.answer_ok worked_names worked_well the_use use_so alone two_fits keeps Utf16 worked_text (puts_two ∷ []) here_made refl in
+    let answer = at_uses.answer_ok worked_names worked_well the_use use_so alone two_fits keeps Utf16 example_text (puts_two ∷ []) here_made refl in
     inlines_in OneUse 56 (vec_of (puts_two ∷ []) (omega (arith))) (tree_inlined_here worked_module the_use) answer.1.leaves answer.1.well_typed answer.1.same_runs (inl (the_use, use_at, answer))
 
 pub inlining_is_answered : ConstantUsesAreFactors → InliningKeepsTypingAndRuns → AnswersAreUnique → InliningIsAnswered
@@ -201,11 +201,11 @@ inlining_is_answered alone keeps one =
     answered_by one (inline_here (line_position 6 7)) (replacement_on_line 6 7 8 (codes "2") ∷ [])
     (inl (
       puts_two ∷ [],
-      (vec_of (puts_two ∷ []) (omega (arith)), subst (λ n. InlinesIn OneUse Utf16 worked_text n (vec_of (puts_two ∷ []) (omega (arith)))) (sym n_is_at) (inlines_here_in alone keeps), refl),
+      (vec_of (puts_two ∷ []) (omega (arith)), subst (λ n. InlinesInText OneUse Utf16 example_text n (vec_of (puts_two ∷ []) (omega (arith)))) (sym n_is_at) (inlines_here_in alone keeps), refl),
       ap (λ t. replacement_on_line 6 7 8 t ∷ []) two_is,
     ))
 
-abbrev the_constant : NamedConstant
+abbrev the_constant : DeclaredConstant
 the_constant = record { ordinal = 7; value = scalar.Number (pos 2); first = 4; last = 7 }
 
 constant_so : IsConstant worked_module the_constant
@@ -214,10 +214,10 @@ constant_so = record { has_value = has_two; begins = refl; ends = refl }
 constant_at : IsConstantAt worked_module 56 the_constant
 constant_at = record { token = 16; named = refl; is_constant = constant_so }
 
-everywhere_made : at_constants.Made worked_names the_constant Utf16 worked_text (takes_out ∷ puts_two ∷ [])
+everywhere_made : at_constants.Made worked_names the_constant Utf16 example_text (takes_out ∷ puts_two ∷ [])
 everywhere_made = record {
   edits_are =
-      subst (λ (t : List ℕ). map range_and_text (takes_out ∷ puts_two ∷ []) ≡ (range_of (width_of Utf16) worked_text (span_of_tokens (scanned_of worked_lexemes).tokens 4 7), []) ∷ replacement_at_token Utf16 worked_text (scanned_of worked_lexemes).tokens t 16 ∷ []) text_of_two
+      subst (λ (t : List ℕ). map range_and_text (takes_out ∷ puts_two ∷ []) ≡ (range_of (width_of Utf16) example_text (span_of_tokens (scanned_of worked_lexemes).tokens 4 7), []) ∷ replacement_at_token Utf16 example_text (scanned_of worked_lexemes).tokens t 16 ∷ []) text_of_two
       (λ i. declaration_parts i ∷ inlines_parts i ∷ []);
   make_text = record {
     leaves = λ alone. record {
@@ -230,9 +230,9 @@ everywhere_made = record {
   };
 }
 
-pub inlines_everywhere_in : ConstantUsesAreFactors → InliningEverywhereKeepsTypingAndRuns → InlinesIn Everywhere Utf16 worked_text 56 (vec_of (takes_out ∷ puts_two ∷ []) (omega (arith)))
+pub inlines_everywhere_in : ConstantUsesAreFactors → InliningEverywhereKeepsTypingAndRuns → InlinesInText Everywhere Utf16 example_text 56 (vec_of (takes_out ∷ puts_two ∷ []) (omega (arith)))
 inlines_everywhere_in alone keeps =
-    let answer = at_constants.answer_made worked_names worked_well the_constant constant_so alone two_fits keeps Utf16 worked_text (takes_out ∷ puts_two ∷ []) everywhere_made refl refl in
+    let answer = at_constants.answer_made worked_names worked_well the_constant constant_so alone two_fits keeps Utf16 example_text (takes_out ∷ puts_two ∷ []) everywhere_made refl refl in
     inlines_in Everywhere 56 (vec_of (takes_out ∷ puts_two ∷ []) (omega (arith))) (tree_inlined_everywhere worked_module the_constant) answer.1.leaves answer.1.well_typed answer.1.same_runs
     (inl (the_constant, constant_at, answer))
 
@@ -241,6 +241,6 @@ inlining_everywhere_is_answered alone keeps one =
     answered_by one (inline_all (line_position 6 7)) (replacement_on_line 2 2 8 [] ∷ replacement_on_line 6 7 8 (codes "2") ∷ [])
     (inl (
       takes_out ∷ puts_two ∷ [],
-      (vec_of (takes_out ∷ puts_two ∷ []) (omega (arith)), subst (λ n. InlinesIn Everywhere Utf16 worked_text n (vec_of (takes_out ∷ puts_two ∷ []) (omega (arith)))) (sym n_is_at) (inlines_everywhere_in alone keeps), refl),
+      (vec_of (takes_out ∷ puts_two ∷ []) (omega (arith)), subst (λ n. InlinesInText Everywhere Utf16 example_text n (vec_of (takes_out ∷ puts_two ∷ []) (omega (arith)))) (sym n_is_at) (inlines_everywhere_in alone keeps), refl),
       λ i. replacement_on_line 2 2 8 (nothing_is i) ∷ replacement_on_line 6 7 8 (two_is i) ∷ [],
     ))

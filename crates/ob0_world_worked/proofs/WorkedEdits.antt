@@ -7,14 +7,14 @@ use Rattle.ob0_scan.specs.Lexed.{text_of_lexemes}
 use Rattle.ob0_text.specs.declared.edits.Edit.{Edit}
 use Rattle.ob0_text.specs.declared.position_types.Unit.TheVariants.{Utf16}
 use Rattle.ob0_text.specs.Units.{width_of}
-use Rattle.ob0_text.specs.Texts.{text_before, line_body, ends_line, fitting_prefix, lines, offset_of, position_in, position_of, starts_with_lf}
+use Rattle.ob0_text.specs.Texts.{text_before, line_body, ends_line, fitting_prefix, lines, offset_of, position_in_lines, position_of, starts_with_lf}
 use Rattle.ob0_text.specs.Texts as texts
-use Rattle.ob0_text.specs.Patches.{are_all_disjoint, cut_at, in_text_order, patched, patched_by_cuts, text_with_cuts, char_count_before}
+use Rattle.ob0_text.specs.Patches.{are_all_disjoint, cut_at, cuts_in_text_order, patched_text, patched_by_cuts, text_with_cuts, char_count_before}
 use Rattle.ob0_edits_tokens.specs.Ranges.{range_of}
 use Rattle.ob0_edits_tokens.specs.Removed.{span_of_tokens, text_after_removal}
 use Rattle.ob0_edits_tokens.specs.Replaced.{replacement_at_token, range_and_text, text_after_replacement}
 use Rattle.ob0_scope_table.specs.Resolution.{span_at}
-use Rattle.ob0_world_worked.specs.WorkedText.{line_position, worked_text}
+use Rattle.ob0_world_worked.specs.WorkedText.{line_position, example_text}
 use Rattle.ob0_world_worked.proofs.WorkedValues.{string_of}
 use Rattle.ob0_world_worked.proofs.WorkedTexts.{chars_so, inlined_lexemes, renamed_lexemes, scanned_of, utf8_so, without_lexemes, worked_lexemes}
 
@@ -33,49 +33,49 @@ puts_two = edit 6 7 8 (codes "2") (utf8_so (codes "2") refl) (omega (arith))
 abbrev pub takes_out : Edit
 takes_out = edit 2 2 8 [] (utf8_so [] refl) (omega (arith))
 
-pub x_is_at : offset_of (width_of Utf16) worked_text (line_position 4 2) ≡ 31
+pub x_is_at : offset_of (width_of Utf16) example_text (line_position 4 2) ≡ 31
 unfolding text_before fitting_prefix lines line_body ends_line starts_with_lf texts.text_of_lines lib.Utf8.encode
 x_is_at = refl
 
-pub n_is_at : offset_of (width_of Utf16) worked_text (line_position 6 7) ≡ 56
+pub n_is_at : offset_of (width_of Utf16) example_text (line_position 6 7) ≡ 56
 unfolding text_before fitting_prefix lines line_body ends_line starts_with_lf texts.text_of_lines lib.Utf8.encode
 n_is_at = refl
 
-pub renames_parts : map range_and_text renames ≡ map (replacement_at_token Utf16 worked_text (scanned_of worked_lexemes).tokens (codes "y")) (9 ∷ 14 ∷ 20 ∷ [])
-unfolding position_of position_in lines ends_line starts_with_lf fitting_prefix
+pub renames_parts : map range_and_text renames ≡ map (replacement_at_token Utf16 example_text (scanned_of worked_lexemes).tokens (codes "y")) (9 ∷ 14 ∷ 20 ∷ [])
+unfolding position_of position_in_lines lines ends_line starts_with_lf fitting_prefix
 renames_parts = refl
 
-pub inlines_parts : range_and_text puts_two ≡ replacement_at_token Utf16 worked_text (scanned_of worked_lexemes).tokens (codes "2") 16
-unfolding position_of position_in lines ends_line starts_with_lf fitting_prefix
+pub inlines_parts : range_and_text puts_two ≡ replacement_at_token Utf16 example_text (scanned_of worked_lexemes).tokens (codes "2") 16
+unfolding position_of position_in_lines lines ends_line starts_with_lf fitting_prefix
 inlines_parts = refl
 
-renames_made : patched (width_of Utf16) worked_text renames ≡ Some (text_of_lexemes renamed_lexemes)
-unfolding patched_by_cuts cut_at char_count_before are_all_disjoint in_text_order text_with_cuts text_before fitting_prefix lines line_body ends_line starts_with_lf texts.text_of_lines chars
+renames_made : patched_text (width_of Utf16) example_text renames ≡ Some (text_of_lexemes renamed_lexemes)
+unfolding patched_by_cuts cut_at char_count_before are_all_disjoint cuts_in_text_order text_with_cuts text_before fitting_prefix lines line_body ends_line starts_with_lf texts.text_of_lines chars
 renames_made = refl
 
-pub renames_leave : patched (width_of Utf16) worked_text renames ≡ Some (chars (text_of_lexemes renamed_lexemes))
+pub renames_leave : patched_text (width_of Utf16) example_text renames ≡ Some (chars (text_of_lexemes renamed_lexemes))
 renames_leave = renames_made ∙ ap Some (sym (chars_so (text_of_lexemes renamed_lexemes) refl))
 
-inlines_made : patched (width_of Utf16) worked_text (puts_two ∷ []) ≡ Some (text_of_lexemes inlined_lexemes)
-unfolding patched_by_cuts cut_at char_count_before are_all_disjoint in_text_order text_with_cuts text_before fitting_prefix lines line_body ends_line starts_with_lf texts.text_of_lines chars
+inlines_made : patched_text (width_of Utf16) example_text (puts_two ∷ []) ≡ Some (text_of_lexemes inlined_lexemes)
+unfolding patched_by_cuts cut_at char_count_before are_all_disjoint cuts_in_text_order text_with_cuts text_before fitting_prefix lines line_body ends_line starts_with_lf texts.text_of_lines chars
 inlines_made = refl
 
-pub inlines_leave : patched (width_of Utf16) worked_text (puts_two ∷ []) ≡ Some (chars (text_of_lexemes inlined_lexemes))
+pub inlines_leave : patched_text (width_of Utf16) example_text (puts_two ∷ []) ≡ Some (chars (text_of_lexemes inlined_lexemes))
 inlines_leave = inlines_made ∙ ap Some (sym (chars_so (text_of_lexemes inlined_lexemes) refl))
 
-everywhere_made : patched (width_of Utf16) worked_text (takes_out ∷ puts_two ∷ []) ≡ Some (text_of_lexemes without_lexemes)
-unfolding patched_by_cuts cut_at char_count_before are_all_disjoint in_text_order text_with_cuts text_before fitting_prefix lines line_body ends_line starts_with_lf texts.text_of_lines chars
+everywhere_made : patched_text (width_of Utf16) example_text (takes_out ∷ puts_two ∷ []) ≡ Some (text_of_lexemes without_lexemes)
+unfolding patched_by_cuts cut_at char_count_before are_all_disjoint cuts_in_text_order text_with_cuts text_before fitting_prefix lines line_body ends_line starts_with_lf texts.text_of_lines chars
 everywhere_made = refl
 
-pub everywhere_leave : patched (width_of Utf16) worked_text (takes_out ∷ puts_two ∷ []) ≡ Some (chars (text_of_lexemes without_lexemes))
+pub everywhere_leave : patched_text (width_of Utf16) example_text (takes_out ∷ puts_two ∷ []) ≡ Some (chars (text_of_lexemes without_lexemes))
 everywhere_leave = everywhere_made ∙ ap Some (sym (chars_so (text_of_lexemes without_lexemes) refl))
 
-pub declaration_parts : range_and_text takes_out ≡ (range_of (width_of Utf16) worked_text (span_of_tokens (scanned_of worked_lexemes).tokens 4 7), [])
-unfolding position_of position_in lines ends_line starts_with_lf fitting_prefix
+pub declaration_parts : range_and_text takes_out ≡ (range_of (width_of Utf16) example_text (span_of_tokens (scanned_of worked_lexemes).tokens 4 7), [])
+unfolding position_of position_in_lines lines ends_line starts_with_lf fitting_prefix
 declaration_parts = refl
 
-pub write_is_at : range_of (width_of Utf16) worked_text (span_at (scanned_of worked_lexemes) 18) ≡ record { start = line_position 7 2; end = line_position 7 7 }
-unfolding position_of position_in lines ends_line starts_with_lf fitting_prefix
+pub write_is_at : range_of (width_of Utf16) example_text (span_at (scanned_of worked_lexemes) 18) ≡ record { start = line_position 7 2; end = line_position 7 7 }
+unfolding position_of position_in_lines lines ends_line starts_with_lf fitting_prefix
 write_is_at = refl
 
 pub renamed_length : length (text_after_replacement (scanned_of worked_lexemes) (9 ∷ 14 ∷ 20 ∷ []) (codes "y")) ≡ 77

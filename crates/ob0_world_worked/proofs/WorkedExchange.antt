@@ -8,7 +8,7 @@ use Rattle.serde_json.specs.Data.{Data, null, number, unsigned, depth}
 use Rattle.ob0_text.specs.declared.position_types.Unit.TheVariants.{Utf16}
 use Rattle.ob0_text.specs.Texts.{text_before, line_body, ends_line, fitting_prefix, lines, offset_of, starts_with_lf}
 use Rattle.ob0_text.specs.Texts as texts
-use Rattle.ob0_text.specs.Patches.{are_all_disjoint, cut_at, in_text_order, patched_by_cuts, text_with_cuts, char_count_before}
+use Rattle.ob0_text.specs.Patches.{are_all_disjoint, cut_at, cuts_in_text_order, patched_by_cuts, text_with_cuts, char_count_before}
 use Rattle.ob0_text.specs.OpenDocuments.{Document, InStep, changed_text, document_at, no_open_documents, documents_after_open}
 use Rattle.ob0_rpc.specs.Appending.{ReadsBack}
 use Rattle.ob0_rpc.specs.Requesting.{DocumentPlace}
@@ -20,26 +20,26 @@ use Rattle.ob0_analysis.specs.Diagnosed.{IsWellTypedModule}
 use Rattle.ob0_analysis.specs.Texts.{utf8}
 use Rattle.ob0_analysis.proofs.Scanning.{is_module}
 use Rattle.ob0_edits.specs.declared.inlinings.Inlining.TheVariants.{OneUse, Everywhere}
-use Rattle.ob0_edits.specs.Inlinings.{InlinesIn}
+use Rattle.ob0_edits.specs.Inlinings.{InlinesInText}
 use Rattle.ob0_session_answers.specs.Actions.{actions_offset, actions_array, ListsInlinings}
-use Rattle.ob0_session_answers.specs.Questions.{hover_with_range, hover_question, offset_in, value_or_null}
+use Rattle.ob0_session_answers.specs.Questions.{hover_value_with_range, hover_question, offset_in, value_or_null}
 use Rattle.ob0_session_server.specs.Answers as server
-use Rattle.ob0_session_server.specs.Answers.{Answers, Conversation, AreContentsOfReply, Sends, ServerState, react_about_document, question_reply, apply_notification, state_after_initialize, actions_reply, publication_reply}
-use Rattle.ob0_world_editor.specs.InitializeRequest.{client_for, initialize_message}
+use Rattle.ob0_session_server.specs.Answers.{Answers, IsConversation, AreContentsOfReply, SendsMessage, ServerState, react_about_document, question_reply, apply_notification, state_after_initialize, actions_reply, publication_reply}
+use Rattle.ob0_world_editor.specs.InitializeRequest.{client_features_for, initialize_message}
 use Rattle.ob0_world_editor.specs.Shapes.{change_object, change_params, open_params}
 use Rattle.ob0_world_editor.specs.MessagesToEditor.{message_to_editor_by, message_to_editor_of}
 use Rattle.ob0_world_rules.specs.Asks.{inline_all}
-use Rattle.ob0_world_rules.specs.ClientAndServer.{Applied, Editor, OpenDocument, SentAsk, MessageToEditor, answers, new_editor, open_at, publishes}
+use Rattle.ob0_world_rules.specs.ClientAndServer.{Applied, Editor, OpenDocument, SentAsk, MessageToEditor, answers, new_editor, open_document_at, publishes}
 use Rattle.ob0_world_rules.specs.Edited.{Replacement, text_after_changes, text_after_edits}
 use Rattle.ob0_world_rules.specs.EditorActs.{asking_result, without_answer}
-use Rattle.ob0_world_rules.specs.Editors.{AppliesAnswer, opening_result_as, revised_document, to_apply, to_ask, to_open, notifications_of, with_document}
+use Rattle.ob0_world_rules.specs.Editors.{AppliesAnswer, opening_result_for_document, revised_document, to_apply, to_ask, to_open, notifications_of, with_document}
 use Rattle.ob0_world_rules.specs.EveryEditor.{editor_moves, editor_sends_unmodeled, editor_takes, server_takes}
 use Rattle.ob0_world_rules.specs.PublicationsInOrder.{AnnouncedDocument}
 use Rattle.ob0_world_rules.proofs.UriLaws.{get_put}
-use Rattle.ob0_world.specs.Exchanges.{BeginsExchange, Exchange, Exchanges, IsActionsRequest, SentRequest, ask_number_by_id, number_id, message_to_editor_by_ids, after_reading_if_any}
-use Rattle.ob0_world_worked.specs.WorkedText.{line_position, worked_text}
+use Rattle.ob0_world.specs.Exchanges.{IsInitialExchange, Exchange, Exchanges, IsActionsRequest, SentRequestId, ask_number_by_id, number_id, message_to_editor_by_ids, editor_after_reading_if_any}
+use Rattle.ob0_world_worked.specs.WorkedText.{line_position, example_text}
 use Rattle.ob0_world_worked.specs.WorkedAnswers.{range_on_line, replacement_on_line}
-use Rattle.ob0_world_worked.specs.WorkedExchange.{WorkedExchangeExists, actions_params, actions_request, hover_request, hover_params, inlined_text, inlining_context, worked_revision, change_notification, initialized_notification, open_notification, worked_turns, uri}
+use Rattle.ob0_world_worked.specs.WorkedExchange.{ExampleExchangeExists, actions_params, actions_request, hover_request, hover_params, inlined_text, inlining_context, inlining_revision, change_notification, initialized_notification, open_notification, example_turns, uri}
 use Rattle.ob0_world_worked.specs.WorkedExchange as law
 use Rattle.ob0_world_worked.proofs.WorkedTexts.{chars_so}
 use Rattle.ob0_world_worked.proofs.WorkedModule.{worked_names}
@@ -57,13 +57,13 @@ editor_reads of requested d r shallow =
 -- ---- the states
 
 abbrev session₀ : ServerState
-session₀ = state_after_initialize (client_for Utf16)
+session₀ = state_after_initialize (client_features_for Utf16)
 
 abbrev session₁ : ServerState
-session₁ = record { phase = session₀.phase; client = client_for Utf16; held = documents_after_open (no_open_documents Utf16) uri (pos 0) worked_text }
+session₁ = record { phase = session₀.phase; client = client_features_for Utf16; held = documents_after_open (no_open_documents Utf16) uri (pos 0) example_text }
 
 abbrev document₀ : OpenDocument
-document₀ = record { version = pos 0; text = worked_text; opening = 1 }
+document₀ = record { version = pos 0; text = example_text; opening = 1 }
 
 abbrev editor₀ : Editor
 editor₀ = new_editor Utf16
@@ -72,7 +72,7 @@ abbrev editor₁ : Editor
 editor₁ = record (with_document (new_editor Utf16) uri document₀) { openings = 1 }
 
 abbrev the_ask : SentAsk
-the_ask = record { ask = inline_all (line_position 6 7); uri = uri; text = worked_text; opening = 1; version = pos 0 }
+the_ask = record { ask = inline_all (line_position 6 7); uri = uri; text = example_text; opening = 1; version = pos 0 }
 
 abbrev editor₂ : Editor
 editor₂ = record editor₁ { requested = the_ask ∷ [] }
@@ -84,21 +84,21 @@ abbrev editor₃ : Editor
 editor₃ = record editor₂ { answers = record { number = 1; edits = the_edits } ∷ [] }
 
 abbrev editor₄ : Editor
-editor₄ = with_document (without_answer editor₃ 1) uri (revised_document document₀ worked_revision)
+editor₄ = with_document (without_answer editor₃ 1) uri (revised_document document₀ inlining_revision)
 
-abbrev hover_id : SentRequest
+abbrev hover_id : SentRequestId
 hover_id = record { id = number_id 1; ask = None }
 
-abbrev ask_id : SentRequest
+abbrev ask_id : SentRequestId
 ask_id = record { id = number_id 2; ask = Some 1 }
 
 abbrev announced₀ : AnnouncedDocument
 announced₀ = record { uri = uri; document = document₀ }
 
 abbrev announced₁ : AnnouncedDocument
-announced₁ = record { uri = uri; document = revised_document document₀ worked_revision }
+announced₁ = record { uri = uri; document = revised_document document₀ inlining_revision }
 
-abbrev exchange : Editor → List SentRequest → ServerState → List (List ℕ) → List (List ℕ) → List (List ℕ) → List (List ℕ) → List AnnouncedDocument → List Applied → Exchange
+abbrev exchange : Editor → List SentRequestId → ServerState → List (List ℕ) → List (List ℕ) → List (List ℕ) → List (List ℕ) → List AnnouncedDocument → List Applied → Exchange
 exchange e ids session taken to_server got to_editor announced applied =
     record { editor = e; ids = ids; wire = record { session = session; taken = taken; to_server = to_server; got = got; to_editor = to_editor }; announced = announced; applied = applied }
 
@@ -159,20 +159,20 @@ x₁₁ = exchange editor₃ (hover_id ∷ ask_id ∷ []) session₁ taken₄ []
 abbrev x₁₂ : Exchange
 x₁₂ =
     exchange editor₄ (hover_id ∷ ask_id ∷ []) session₁ taken₄ (content_of change_notification ∷ []) (content_of initialized_with ∷ content_of shows_none ∷ content_of no_hover ∷ content_of two_actions ∷ []) []
-    (announced₀ ∷ announced₁ ∷ []) (record { uri = uri; before = worked_text; after = inlined_text } ∷ [])
+    (announced₀ ∷ announced₁ ∷ []) (record { uri = uri; before = example_text; after = inlined_text } ∷ [])
 
 -- ---- the beginning
 
-initialized_so : Answers server.start (content_of (initialize_message Utf16)) (content_of initialized_with ∷ []) (state_after_initialize (client_for Utf16))
+initialized_so : Answers server.start (content_of (initialize_message Utf16)) (content_of initialized_with ∷ []) (state_after_initialize (client_features_for Utf16))
 initialized_so = (Some (initialize_message Utf16), reads_so (initialize_message Utf16) initialize_read refl, (refl, sends initialized_with capabilities_read refl))
 
-begins_so : BeginsExchange Utf16 x₀
+begins_so : IsInitialExchange Utf16 x₀
 begins_so = record {
-  client = client_for Utf16;
+  client = client_features_for Utf16;
   counts = refl;
   taken = begin;
   got = got₀;
-  initialized = record { between = state_after_initialize (client_for Utf16); first = got₀; later = []; answers = initialized_so; follows = (refl, refl); all = refl };
+  initialized = record { between = state_after_initialize (client_features_for Utf16); first = got₀; later = []; answers = initialized_so; follows = (refl, refl); all = refl };
   is = refl;
 }
 
@@ -184,26 +184,26 @@ turn₂ = (x₂.wire, (session₀, [], (Some initialized_notification, reads_so 
 
 -- ---- the document is opened
 
-opened_note : notification_by_method (codes "textDocument/didOpen") ((open_params uri 0 worked_text)) ≡ opens uri (pos 0) worked_text
-opened_note = ap (λ t. opens uri (pos 0) t) (chars_so worked_text refl)
+opened_note : notification_by_method (codes "textDocument/didOpen") ((open_params uri 0 example_text)) ≡ opens uri (pos 0) example_text
+opened_note = ap (λ t. opens uri (pos 0) t) (chars_so example_text refl)
 
-turn₃ : Exchanges x₂ (editor_moves (to_open uri (pos 0) worked_text)) x₃
+turn₃ : Exchanges x₂ (editor_moves (to_open uri (pos 0) example_text)) x₃
 turn₃ = (
-  opening_result_as document₀ editor₀ uri,
+  opening_result_for_document document₀ editor₀ uri,
   announced₀ ∷ [],
   [],
   content_of open_notification ∷ [],
   (refl, refl),
   refl,
-  (record { json = open_notification; reads = reads_so open_notification open_read refl; method = codes "textDocument/didOpen"; params = (open_params uri 0 worked_text); means = refl; reported = opened_note; fits = refl }, tt),
+  (record { json = open_notification; reads = reads_so open_notification open_read refl; method = codes "textDocument/didOpen"; params = (open_params uri 0 example_text); means = refl; reported = opened_note; fits = refl }, tt),
   refl,
 )
 
-held_is : document_at session₁.held uri ≡ Some (InStep (pos 0) worked_text)
-held_is = get_put map_of.empty uri (InStep (pos 0) worked_text) uri
+held_is : document_at session₁.held uri ≡ Some (InStep (pos 0) example_text)
+held_is = get_put map_of.empty uri (InStep (pos 0) example_text) uri
 
-module_is : IsWellTypedModule (utf8 worked_text)
-module_is = is_module (utf8 worked_text) worked_names worked_in_bytes
+module_is : IsWellTypedModule (utf8 example_text)
+module_is = is_module (utf8 example_text) worked_names worked_in_bytes
 
 published_so : AreContentsOfReply (publication_reply Utf16 uri (document_at session₁.held uri)) (content_of shows_none ∷ [])
 published_so =
@@ -228,7 +228,7 @@ turn₅ = (Some (number_id 1), content_of hover_request, (hover_request, reads_s
 abbrev hover_place : DocumentPlace
 hover_place = record { uri = uri; position = line_position 0 0 }
 
-no_name : null ≡ value_or_null (option_map (hover_with_range Utf16 worked_text) (hover_at_offset worked_names (offset_in Utf16 worked_text hover_place)))
+no_name : null ≡ value_or_null (option_map (hover_value_with_range Utf16 example_text) (hover_at_offset worked_names (offset_in Utf16 example_text hover_place)))
 unfolding text_before fitting_prefix lines line_body ends_line starts_with_lf texts.text_of_lines
 no_name = refl
 
@@ -245,7 +245,7 @@ turn₆ = (x₆.wire, (session₁, content_of no_hover ∷ [], hovered_so, refl)
 
 -- ---- the actions
 
-open_is : open_at editor₁ uri ≡ Some document₀
+open_is : open_document_at editor₁ uri ≡ Some document₀
 open_is = get_put map_of.empty uri document₀ uri
 
 asks_so : IsActionsRequest (number (unsigned 2)) uri (line_position 6 7) (content_of actions_request)
@@ -274,18 +274,18 @@ turn₇ = (
   refl,
 )
 
-place_is : 56 ≡ actions_offset Utf16 worked_text (record { start = line_position 6 7; end = line_position 6 8 })
+place_is : 56 ≡ actions_offset Utf16 example_text (record { start = line_position 6 7; end = line_position 6 8 })
 unfolding text_before fitting_prefix lines line_body ends_line starts_with_lf texts.text_of_lines lib.Utf8.encode
 place_is = refl
 
 module _ (alone : ConstantUsesAreFactors) (keeps : InliningKeepsTypingAndRuns) (keeps_all : InliningEverywhereKeepsTypingAndRuns) where
-  lists_so : ListsInlinings Utf16 requested_actions worked_text (actions_array requested_actions (Some here_edits) (Some everywhere_edits))
+  lists_so : ListsInlinings Utf16 requested_actions example_text (actions_array requested_actions (Some here_edits) (Some everywhere_edits))
   lists_so = record {
     here = Some here_edits;
     everywhere = Some everywhere_edits;
     wanted = refl;
-    offers_here = subst (λ n. InlinesIn OneUse Utf16 worked_text n here_edits) place_is (inlines_here_in alone keeps);
-    offers_everywhere = subst (λ n. InlinesIn Everywhere Utf16 worked_text n everywhere_edits) place_is (inlines_everywhere_in alone keeps_all);
+    offers_here = subst (λ n. InlinesInText OneUse Utf16 example_text n here_edits) place_is (inlines_here_in alone keeps);
+    offers_everywhere = subst (λ n. InlinesInText Everywhere Utf16 example_text n everywhere_edits) place_is (inlines_everywhere_in alone keeps_all);
     listed = refl;
   }
 
@@ -302,46 +302,46 @@ module _ (alone : ConstantUsesAreFactors) (keeps : InliningKeepsTypingAndRuns) (
 
 -- ---- the editor takes what was sent
 
-abbrev ids₂ : List SentRequest
+abbrev ids₂ : List SentRequestId
 ids₂ = hover_id ∷ ask_id ∷ []
 
 reads_none : message_to_editor_by_ids ids₂ (the_ask ∷ []) (content_of shows_none) ≡ Some (publishes uri (Some (pos 0)) true)
 reads_none = editor_reads (ask_number_by_id ids₂) (the_ask ∷ []) shows_none none_read refl ∙ refl
 
 turn₉ : Exchanges x₈ editor_takes x₉
-turn₉ = ap (λ (m : Option MessageToEditor). record x₉ { editor = after_reading_if_any editor₂ m }) (sym reads_none)
+turn₉ = ap (λ (m : Option MessageToEditor). record x₉ { editor = editor_after_reading_if_any editor₂ m }) (sym reads_none)
 
 reads_hover : message_to_editor_by_ids ids₂ (the_ask ∷ []) (content_of no_hover) ≡ None
 reads_hover = editor_reads (ask_number_by_id ids₂) (the_ask ∷ []) no_hover no_hover_read refl ∙ refl
 
 turn₁₀ : Exchanges x₉ editor_takes x₁₀
-turn₁₀ = ap (λ (m : Option MessageToEditor). record x₁₀ { editor = after_reading_if_any editor₂ m }) (sym reads_hover)
+turn₁₀ = ap (λ (m : Option MessageToEditor). record x₁₀ { editor = editor_after_reading_if_any editor₂ m }) (sym reads_hover)
 
 reads_actions : message_to_editor_by_ids ids₂ (the_ask ∷ []) (content_of two_actions) ≡ Some (answers 1 the_edits)
 unfolding chars
 reads_actions = editor_reads (ask_number_by_id ids₂) (the_ask ∷ []) two_actions two_actions_read refl ∙ refl
 
 turn₁₁ : Exchanges x₁₀ editor_takes x₁₁
-turn₁₁ = ap (λ (m : Option MessageToEditor). record x₁₁ { editor = after_reading_if_any editor₂ m }) (sym reads_actions)
+turn₁₁ = ap (λ (m : Option MessageToEditor). record x₁₁ { editor = editor_after_reading_if_any editor₂ m }) (sym reads_actions)
 
 -- ---- the edits are made
 
-edits_make : text_after_edits Utf16 worked_text the_edits ≡ Some inlined_text
-unfolding text_after_edits patched_by_cuts cut_at char_count_before are_all_disjoint in_text_order text_with_cuts text_before fitting_prefix lines line_body ends_line starts_with_lf texts.text_of_lines
+edits_make : text_after_edits Utf16 example_text the_edits ≡ Some inlined_text
+unfolding text_after_edits patched_by_cuts cut_at char_count_before are_all_disjoint cuts_in_text_order text_with_cuts text_before fitting_prefix lines line_body ends_line starts_with_lf texts.text_of_lines
 edits_make = refl
 
-changes_make : text_after_changes Utf16 (Some worked_text) law.worked_changes ≡ Some inlined_text
-unfolding changed_text patched_by_cuts cut_at char_count_before are_all_disjoint in_text_order text_with_cuts text_before fitting_prefix lines line_body ends_line starts_with_lf texts.text_of_lines
+changes_make : text_after_changes Utf16 (Some example_text) law.example_changes ≡ Some inlined_text
+unfolding changed_text patched_by_cuts cut_at char_count_before are_all_disjoint cuts_in_text_order text_with_cuts text_before fitting_prefix lines line_body ends_line starts_with_lf texts.text_of_lines
 changes_make = refl
 
 abbrev the_change : Data
 the_change = change_params uri 1 (change_object (Some (range_on_line 6 7 8)) (codes "2") ∷ change_object (Some (range_on_line 2 2 8)) [] ∷ [])
 
-changed_note : notification_by_method (codes "textDocument/didChange") the_change ≡ changes uri (pos 1) law.worked_changes
+changed_note : notification_by_method (codes "textDocument/didChange") the_change ≡ changes uri (pos 1) law.example_changes
 unfolding chars
 changed_note = refl
 
-applies_so : AppliesAnswer editor₃ 1 (worked_revision ∷ []) (record { editor = editor₄; sent = notifications_of uri (worked_revision ∷ []); applied = record { uri = uri; before = worked_text; after = inlined_text } ∷ [] }) (announced₁ ∷ [])
+applies_so : AppliesAnswer editor₃ 1 (inlining_revision ∷ []) (record { editor = editor₄; sent = notifications_of uri (inlining_revision ∷ []); applied = record { uri = uri; before = example_text; after = inlined_text } ∷ [] }) (announced₁ ∷ [])
 applies_so = record {
   edits = the_edits;
   answered = refl;
@@ -354,16 +354,16 @@ applies_so = record {
   makes = edits_make;
   new = editor₄;
   revises = (document₀, [], open_is, changes_make, (refl, refl), refl);
-  first = law.worked_changes;
+  first = law.example_changes;
   next = [];
   cut = refl;
   first_changes_make_text = changes_make;
   is = refl;
 }
 
-turn₁₂ : Exchanges x₁₁ (editor_moves (to_apply 1 (worked_revision ∷ []))) x₁₂
+turn₁₂ : Exchanges x₁₁ (editor_moves (to_apply 1 (inlining_revision ∷ []))) x₁₂
 turn₁₂ = (
-  record { editor = editor₄; sent = notifications_of uri (worked_revision ∷ []); applied = record { uri = uri; before = worked_text; after = inlined_text } ∷ [] },
+  record { editor = editor₄; sent = notifications_of uri (inlining_revision ∷ []); applied = record { uri = uri; before = example_text; after = inlined_text } ∷ [] },
   announced₁ ∷ [],
   ids₂,
   content_of change_notification ∷ [],
@@ -373,9 +373,9 @@ turn₁₂ = (
   refl,
 )
 
-pub worked_exchange_exists : ConstantUsesAreFactors → InliningKeepsTypingAndRuns → InliningEverywhereKeepsTypingAndRuns → WorkedExchangeExists
+pub example_exchange_exists : ConstantUsesAreFactors → InliningKeepsTypingAndRuns → InliningEverywhereKeepsTypingAndRuns → ExampleExchangeExists
 unfolding content_of
-worked_exchange_exists alone keeps keeps_all = record {
+example_exchange_exists alone keeps keeps_all = record {
   first = x₀;
   last = x₁₂;
   begins = begins_so;

@@ -11,9 +11,9 @@ use Rattle.ob0_rpc.specs.Appending.{ReadsBack}
 use Rattle.ob0_rpc.specs.Shapes.{edit_value, position_value, range_value, result_message}
 use Rattle.ob0_rpc.proofs.Appending.{position_read, range_read}
 use Rattle.ob0_session_json.specs.Shapes.{capabilities, publication}
-use Rattle.ob0_session_answers.specs.Actions.{RequestedActions, code_action_of, actions_array}
-use Rattle.ob0_session_server.specs.Answers.{Sends}
-use Rattle.ob0_world_editor.specs.InitializeRequest.{text_document_capabilities, client_for, initialize_message, workspace_capabilities}
+use Rattle.ob0_session_answers.specs.Actions.{VersionedActionsRequest, code_action_of, actions_array}
+use Rattle.ob0_session_server.specs.Answers.{SendsMessage}
+use Rattle.ob0_world_editor.specs.InitializeRequest.{text_document_capabilities, client_features_for, initialize_message, workspace_capabilities}
 use Rattle.ob0_world_worked.specs.WorkedText.{line_position}
 use Rattle.ob0_world_editor.specs.Shapes.{change_object}
 use Rattle.ob0_edits.specs.declared.inlinings.Inlining.TheVariants.{OneUse, Everywhere}
@@ -27,7 +27,7 @@ use Rattle.ob0_world_worked.proofs.Json.{array_read, content_of, count_read, emp
 -- ---- the contents
 
 abbrev pub initialized_with : Data
-initialized_with = result_message (string (codes "initialize")) (capabilities (client_for Utf16))
+initialized_with = result_message (string (codes "initialize")) (capabilities (client_features_for Utf16))
 
 abbrev pub shows_none : Data
 shows_none = publication uri (Some (pos 0)) []
@@ -35,10 +35,10 @@ shows_none = publication uri (Some (pos 0)) []
 abbrev pub no_hover : Data
 no_hover = result_message (number (unsigned 1)) null
 
-abbrev pub requested_actions : RequestedActions
+abbrev pub requested_actions : VersionedActionsRequest
 requested_actions = record {
   id = number (unsigned 2);
-  client = client_for Utf16;
+  client = client_features_for Utf16;
   uri = uri;
   version = pos 0;
   range = record { start = line_position 6 7; end = line_position 6 8 };
@@ -245,5 +245,5 @@ two_actions_read =
       ),
     )
 
-pub sends : (d : Data) → ReadsBack d → nat_lt (depth d) 128 ≡ true → Sends d (content_of d ∷ [])
+pub sends : (d : Data) → ReadsBack d → nat_lt (depth d) 128 ≡ true → SendsMessage d (content_of d ∷ [])
 sends d r shallow = (content_of d, refl, written_so d r shallow)

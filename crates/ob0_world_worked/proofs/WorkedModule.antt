@@ -12,7 +12,7 @@ use Rattle.ob0_tree.specs.declared.tree.Block.{Block, Block', end_of-Procedure}
 use Rattle.ob0_tree.specs.ParsedModule.{IsParsed, ParsedModule, named_tree_of}
 use Rattle.ob0_tree.specs.Module.{ModuleOf}
 use Rattle.ob0_tree.specs.Tree.{nesting}
-use Rattle.ob0_scope_table.specs.Resolution.{AreNameFaultsOf, IsResolution, OnlyNamesHaveOrdinals, Resolution, is_identifier_token}
+use Rattle.ob0_scope_table.specs.Resolution.{AreNameFaultsOf, IsResolution, OnlyIdentifiersHaveOrdinals, Resolution, is_identifier_token}
 use Rattle.ob0_language_types.specs.WellTyped.{WellTyped}
 use Rattle.ob0_world_worked.proofs.WorkedValues.{boxed, none_of, one_of, two_of}
 use Rattle.ob0_world_worked.proofs.WorkedTexts.{scanned_of, worked_lexemes, worked_short}
@@ -75,7 +75,7 @@ elsewhere p k (Some o ∷ xs) h (suc i) e =
 worked_faults : AreNameFaultsOf worked_module []
 worked_faults = record { by_kind = refl; declared_twice = refl; undeclared = refl }
 
-worked_alone : OnlyNamesHaveOrdinals worked_module worked_ordinals
+worked_alone : OnlyIdentifiersHaveOrdinals worked_module worked_ordinals
 worked_alone token e =
     let same : token ≡ 0 + token = omega (arith) in
     elsewhere (is_identifier_token worked_module) 0 worked_ordinals refl token (subst (λ n. is_identifier_token worked_module n ≡ false) same e)

@@ -14,7 +14,7 @@ use Rattle.ob0_scan.specs.declared.lexeme.LexemeKind.TheVariants as lexeme
 use Rattle.ob0_scan.specs.Classes.{reserved_text, symbol_text}
 use Rattle.ob0_scan.specs.Lexed.{Lexeme, text_of_lexemes}
 use Rattle.ob0_scan.specs.TextWithTokens.{TextWithTokens, IsScan, comments_from, tokens_from}
-use Rattle.ob0_world_worked.specs.WorkedText.{worked_text}
+use Rattle.ob0_world_worked.specs.WorkedText.{example_text}
 use Rattle.ob0_world_worked.proofs.LexemeTests.{are_disjoint, lexed_so}
 
 -- ---- ASCII
@@ -96,11 +96,11 @@ pub scan_so : (ls : List Lexeme) → is_ascii_text (text_of_lexemes ls) ≡ true
 scan_so ls ascii short apart =
     record { utf8 = utf8_so (text_of_lexemes ls) ascii; short = short; lexemes = ls; lexed = lexed_so (text_of_lexemes ls) ls refl apart; tokens = refl; comments = refl }
 
-pub worked_is : text_of_lexemes worked_lexemes ≡ worked_text
+pub worked_is : text_of_lexemes worked_lexemes ≡ example_text
 worked_is = refl
 
-pub worked_short : length worked_text ≤ 1048576
-worked_short = let l : length worked_text ≡ 77 = refl in omega (arith, l)
+pub worked_short : length example_text ≤ 1048576
+worked_short = let l : length example_text ≡ 77 = refl in omega (arith, l)
 
 pub worked_scan : IsScan (scanned_of worked_lexemes)
 worked_scan = scan_so worked_lexemes refl worked_short refl

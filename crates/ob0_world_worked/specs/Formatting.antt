@@ -2,8 +2,9 @@
 -- Rule: docs/PROTOCOL.md, Requests on documents 8.
 use Rattle.ob0_text.specs.declared.edits.Indent.{Indent}
 use Rattle.ob0_world_rules.specs.Asks.{format}
-use Rattle.ob0_world_rules.specs.Laws.{HasAnswers}
+use Rattle.ob0_world_rules.specs.Laws.{AlwaysHasAnswer}
 
--- States that a request for formatting has an answer for each text, unit and indent (`HasAnswers`).
+-- States that a request for formatting has an answer for each text, unit and indent
+-- (`AlwaysHasAnswer`).
 abbrev pub FormattingHasAnswers : Type 0
-FormattingHasAnswers = (indent : Indent) → HasAnswers (format indent)
+FormattingHasAnswers = (indent : Indent) → AlwaysHasAnswer (format indent)

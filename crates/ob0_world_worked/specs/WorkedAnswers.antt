@@ -1,28 +1,28 @@
--- States the answers to four requests (`Ask`) about the example text `worked_text`.
+-- States the answers to four requests (`Ask`) about the example text `example_text`.
 -- Rule: docs/PROTOCOL.md, Requests on documents 6, 9; worked examples.
 use Rattle.std.specs.Prelude.{◌≡◌, ◌↔◌, ℕ, List, [], ◌∷◌, codes}
 use Rattle.ob0_text.specs.declared.position_types.Range.{Range}
 use Rattle.ob0_text.specs.declared.position_types.Unit.TheVariants.{Utf16}
 use Rattle.ob0_text.specs.declared.refusals.EditRefusal.TheVariants.{Captures}
-use Rattle.ob0_edits.specs.Renamings.{IsRenameRefusedIn}
+use Rattle.ob0_edits.specs.Renamings.{IsRenameRefusedInText}
 use Rattle.ob0_world_rules.specs.Asks.{Ask, rename, inline_here, inline_all}
 use Rattle.ob0_world_rules.specs.Answers.{IsAnswerForText}
 use Rattle.ob0_world_rules.specs.Edited.{Replacement}
-use Rattle.ob0_world_worked.specs.WorkedText.{line_position, worked_text}
+use Rattle.ob0_world_worked.specs.WorkedText.{line_position, example_text}
 
--- returns the range of a line from the character `from` up to, but not including, the character
--- `to`; lines and characters are counted from 0
+-- returns the range on this line from the character `from` to the character `to`, which is
+-- excluded; lines and characters are counted from 0
 abbrev pub range_on_line : ℕ → ℕ → ℕ → Range
 range_on_line line from to = record { start = line_position line from; end = line_position line to }
 
--- returns the replacement of a part of a line (`range_on_line`) by this text
+-- returns the replacement of a range on a line (`range_on_line`) by this text
 abbrev pub replacement_on_line : ℕ → ℕ → ℕ → List ℕ → Replacement
 replacement_on_line line from to new = record { range = range_on_line line from to; text = new }
 
--- states that the request `ask` about `worked_text` is answered by these edits, and by no others
+-- states that the request `ask` about `example_text` is answered by these edits, and by no others
 abbrev pub IsAnsweredBy : Ask → List Replacement → Type 0
 IsAnsweredBy ask edits =
-    (given : List Replacement) → IsAnswerForText Utf16 worked_text ask given ↔ (given ≡ edits)
+    (given : List Replacement) → IsAnswerForText Utf16 example_text ask given ↔ (given ≡ edits)
 
 -- states that renaming `x` to `y` is answered by three edits: at the declaration and at both uses
 abbrev pub RenameIsAnswered : Type 0
@@ -33,7 +33,7 @@ RenameIsAnswered =
 -- States that renaming `x` to `Write` is refused, because the renamed variable would capture the
 -- call of `Write`. The answer has no edits.
 pub record CaptureIsRefused : Type 0 where
-  pub refused : IsRenameRefusedIn Utf16 worked_text (line_position 4 2) (codes "Write") (Captures (range_on_line 7 2 7))
+  pub refused : IsRenameRefusedInText Utf16 example_text (line_position 4 2) (codes "Write") (Captures (range_on_line 7 2 7))
   pub no_edits : IsAnsweredBy (rename (line_position 4 2) (codes "Write")) []
 
 -- states that inlining `n` at its use is answered by one edit, which replaces the use by the value

@@ -7,18 +7,18 @@ use Rattle.ob0_text.specs.declared.position_types.Unit.TheVariants.{Utf16}
 use Rattle.ob0_text.specs.OpenDocuments.{TextChange}
 use Rattle.ob0_rpc.specs.Shapes.{notification_message, position_value, range_value}
 use Rattle.ob0_world_editor.specs.InitializeRequest.{initialize_message}
-use Rattle.ob0_world_editor.specs.Shapes.{change_object, change_params, document_value, open_params, request_message}
+use Rattle.ob0_world_editor.specs.Shapes.{change_object, change_params, document_id_value, open_params, request_message}
 use Rattle.ob0_world_rules.specs.Asks.{inline_all}
 use Rattle.ob0_world_rules.specs.Editors.{Revision, to_apply, to_ask, to_open}
 use Rattle.ob0_world_rules.specs.EveryEditor.{Turn, editor_moves, editor_sends_unmodeled, editor_takes, server_takes}
-use Rattle.ob0_world.specs.Exchanges.{BeginsExchange, Exchange, ExchangeCourse}
-use Rattle.ob0_world_worked.specs.WorkedText.{line_position, with_line_feed, worked_text}
+use Rattle.ob0_world.specs.Exchanges.{IsInitialExchange, Exchange, IsExchangeCourse}
+use Rattle.ob0_world_worked.specs.WorkedText.{line_position, with_line_feed, example_text}
 use Rattle.ob0_world_worked.specs.WorkedAnswers.{range_on_line}
 
 abbrev pub uri : List ℕ
 uri = codes "file:///m.mod"
 
--- the text that `worked_text` becomes if the constant `n` is inlined everywhere
+-- the text that `example_text` becomes if the constant `n` is inlined everywhere
 abbrev pub inlined_text : List ℕ
 inlined_text =
     with_line_feed (codes "MODULE M;")
@@ -31,24 +31,24 @@ inlined_text =
     ++ (with_line_feed (codes "  Write(x)")
     ++ with_line_feed (codes "END M."))))))))
 
--- The edits of the inlining as changes of ranges. The change later in the text is made first, so
--- that it doesn't move the range of the other change.
-abbrev pub worked_changes : List TextChange
-worked_changes =
+-- The edits of the inlining, as changes of ranges. The change that is later in the text is made
+-- first, so that it doesn't move the range of the other change.
+abbrev pub example_changes : List TextChange
+example_changes =
     record { range = Some (range_on_line 6 7 8); text = codes "2" }
     ∷ record { range = Some (range_on_line 2 2 8); text = [] }
     ∷ []
 
-abbrev pub worked_revision : Revision
-worked_revision = record { version = pos 1; text = inlined_text; sent_changes = worked_changes }
+abbrev pub inlining_revision : Revision
+inlining_revision = record { version = pos 1; text = inlined_text; sent_changes = example_changes }
 
-abbrev pub worked_turns : List Turn
-worked_turns =
+abbrev pub example_turns : List Turn
+example_turns =
     -- the editor sends the notification `initialized`
     editor_sends_unmodeled
     ∷ server_takes
     -- the editor opens the document with version 0
-    ∷ editor_moves (to_open uri (pos 0) worked_text)
+    ∷ editor_moves (to_open uri (pos 0) example_text)
     ∷ server_takes
     -- the editor sends a hover request
     ∷ editor_sends_unmodeled
@@ -60,8 +60,8 @@ worked_turns =
     ∷ editor_takes
     ∷ editor_takes
     ∷ editor_takes
-    -- the editor applies the answer by two changes in one notification
-    ∷ editor_moves (to_apply 1 (worked_revision ∷ []))
+    -- the editor applies the answer as two changes in one notification
+    ∷ editor_moves (to_apply 1 (inlining_revision ∷ []))
     ∷ []
 
 -- ---- the editor's messages
@@ -70,12 +70,12 @@ abbrev pub initialized_notification : Data
 initialized_notification = notification_message (codes "initialized") (object no_members)
 
 abbrev pub open_notification : Data
-open_notification = notification_message (codes "textDocument/didOpen") (open_params uri 0 worked_text)
+open_notification = notification_message (codes "textDocument/didOpen") (open_params uri 0 example_text)
 
 abbrev pub hover_params : Data
 hover_params =
     object (member (codes "position") (position_value (line_position 0 0))
-    (member (codes "textDocument") (document_value uri) no_members))
+    (member (codes "textDocument") (document_id_value uri) no_members))
 
 abbrev pub hover_request : Data
 hover_request = request_message 1 (codes "textDocument/hover") hover_params
@@ -88,7 +88,7 @@ inlining_context =
 abbrev pub actions_params : Data
 actions_params =
     object (member (codes "context") inlining_context (member (codes "range") (range_value (line_position 6 7) (line_position 6 8))
-    (member (codes "textDocument") (document_value uri) no_members)))
+    (member (codes "textDocument") (document_id_value uri) no_members)))
 
 abbrev pub actions_request : Data
 actions_request = request_message 2 (codes "textDocument/codeAction") actions_params
@@ -102,15 +102,15 @@ change_notification =
 
 -- ---- the law
 
--- States that `worked_turns` lead from the beginning to an exchange in which the session has taken
--- five messages, `initialize` included. The notification of the change still waits for the session.
--- The editor has applied one answer, which replaces `worked_text` by `inlined_text`.
-pub record WorkedExchangeExists : Type 0 where
+-- States that `example_turns` lead from an initial exchange to one in which the session has taken
+-- five messages, including `initialize`. The notification of the change still waits for the
+-- session. The editor has applied one answer, which replaces `example_text` by `inlined_text`.
+pub record ExampleExchangeExists : Type 0 where
   pub first : Exchange
   pub last : Exchange
-  pub begins : BeginsExchange Utf16 first
-  pub leads : ExchangeCourse first worked_turns last
+  pub begins : IsInitialExchange Utf16 first
+  pub leads : IsExchangeCourse first example_turns last
   pub taken : last.wire.taken
       ≡ map compact_text (initialize_message Utf16 ∷ initialized_notification ∷ open_notification ∷ hover_request ∷ actions_request ∷ [])
   pub waits : last.wire.to_server ≡ compact_text change_notification ∷ []
-  pub applied : last.applied ≡ record { uri = uri; before = worked_text; after = inlined_text } ∷ []
+  pub applied : last.applied ≡ record { uri = uri; before = example_text; after = inlined_text } ∷ []

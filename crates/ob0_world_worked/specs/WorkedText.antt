@@ -8,8 +8,8 @@ abbrev pub with_line_feed : List ℕ → List ℕ
 with_line_feed text = text ++ 10 ∷ []
 
 -- the example text, as characters
-abbrev pub worked_text : List ℕ
-worked_text =
+abbrev pub example_text : List ℕ
+example_text =
     with_line_feed (codes "MODULE M;")
     ++ (with_line_feed (codes "CONST")
     ++ (with_line_feed (codes "  n = 2;")

@@ -1,7 +1,7 @@
-//! Proves the answers to four requests about an example text (`worked_text`), and that an example
+//! Proves the answers to four requests about an example text (`example_text`), and that an example
 //! exchange exists. Also proves that a request for formatting has an answer for each text.
 ghost use Rattle.ob0_world_worked.specs.Formatting.{FormattingHasAnswers};
-ghost use Rattle.ob0_world_worked.specs.WorkedExchange.{WorkedExchangeExists};
+ghost use Rattle.ob0_world_worked.specs.WorkedExchange.{ExampleExchangeExists};
 ghost use Rattle.ob0_world_worked.specs.WorkedAnswers.{CaptureIsRefused, RenameIsAnswered, InliningIsAnswered, InliningEverywhereIsAnswered};
 
 use ob0_language_runs::laws::{
@@ -10,12 +10,12 @@ use ob0_language_runs::laws::{
 };
 use ob0_language_types::laws::constant_uses_are_factors;
 use ob0_layout::laws::{
-    formatting_keeps_lexemes, formatting_keeps_module, gaps_give_formatted_text,
+    formatting_keeps_module, formatting_keeps_tokens_and_comments, gaps_give_formatted_text,
 };
 use ob0_world_rules::laws::answers_are_unique;
 
-/// Proves that renaming the variable `x` of `worked_text` to `y` is answered by three edits, and by
-/// no others.
+/// Proves that renaming the variable `x` of `example_text` to `y` is answered by three edits, and
+/// by no others.
 pub fn rename_is_answered()
     ensures { RenameIsAnswered }
 {
@@ -31,7 +31,7 @@ pub fn capture_is_refused()
     answers_are_unique();
 }
 
-/// Proves that inlining the constant `n` of `worked_text` at its use is answered by one edit, and
+/// Proves that inlining the constant `n` of `example_text` at its use is answered by one edit, and
 /// by no other.
 pub fn inlining_is_answered()
     ensures { InliningIsAnswered }
@@ -41,7 +41,7 @@ pub fn inlining_is_answered()
     answers_are_unique();
 }
 
-/// Proves that inlining the constant `n` of `worked_text` everywhere is answered by two edits, and
+/// Proves that inlining the constant `n` of `example_text` everywhere is answered by two edits, and
 /// by no others.
 pub fn inlining_everywhere_is_answered()
     ensures { InliningEverywhereIsAnswered }
@@ -56,15 +56,15 @@ pub fn formatting_has_answers()
     ensures { FormattingHasAnswers }
 {
     formatting_keeps_module();
-    formatting_keeps_lexemes();
+    formatting_keeps_tokens_and_comments();
     gaps_give_formatted_text();
 }
 
 /// Proves that the example exchange exists. An editor initializes a session and opens a document
 /// with version 0. It sends a hover request, and a request for the code actions of one kind in a
-/// range. It applies the answer to the second request by two changes in one notification.
-pub fn worked_exchange_exists()
-    ensures { WorkedExchangeExists }
+/// range. It applies the answer to the second request as two changes in one notification.
+pub fn example_exchange_exists()
+    ensures { ExampleExchangeExists }
 {
     constant_uses_are_factors();
     inlining_keeps_typing_and_runs();

@@ -14,7 +14,7 @@ use ob0_language_values::Scalar;
 use ob0_scan::{Fault, FaultCode, Span};
 use ob0_scope_table::{Resolved, token_span};
 use ob0_tree::token_text_at;
-use ob0_types_table::{FormalParameter, MAX_DEPTH, MAX_SCALARS, TypeEntry, TypeId, add_entry};
+use ob0_types_table::{FormalParameter, MAX_SCALARS, MAX_TYPE_DEPTH, TypeEntry, TypeId, add_entry};
 use std::alloc::{AllocError, Global};
 
 /// The meaning of a declared name, with its type, value or parameters.
@@ -113,18 +113,18 @@ impl Size {
         }
     }
 
-    /// Returns whether a type of this size is within the limits `MAX_SCALARS` and `MAX_DEPTH`.
+    /// Returns whether a type of this size is within the limits `MAX_SCALARS` and `MAX_TYPE_DEPTH`.
     fn is_within_limits(self) -> bool
         ensures { result ≡ is_within_limits (size_of self) }
     {
         if self.scalars > MAX_SCALARS {
             return false;
         }
-        self.depth <= MAX_DEPTH
+        self.depth <= MAX_TYPE_DEPTH
     }
 }
 
-/// Returns the sum of two numbers, or an error if the sum doesn't fit 64 bits. The callers add
+/// Returns the sum of two numbers, or an error if the sum doesn't fit in 64 bits. The callers add
 /// numbers of types in a text. No text is long enough to cause this error.
 pub(crate) fn sum_or_error(a: usize, b: usize) -> Result<usize, AllocError>
     ensures { MatchResult result (λ n. n ≡ a + b) (λ _. 2 ^ 64 ≤ a + b) }
@@ -308,7 +308,7 @@ impl<'t> CheckerState<'t> {
     /// Returns the number of array and record types found so far plus `around`, the number of types
     /// that enclose the next word ARRAY or RECORD. If no fault is reported, this sum is the ordinal
     /// of that word: the number of words ARRAY and RECORD before it in the text. Returns an error
-    /// if the sum doesn't fit 64 bits.
+    /// if the sum doesn't fit in 64 bits.
     pub(crate) fn next_type_ordinal(&self, around: usize) -> Result<usize, AllocError>
         ensures { MatchResult result (λ n. n ≡ next_type_ordinal around (declarations_in_state self.now))
             (λ _. 2 ^ 64 ≤ next_type_ordinal around (declarations_in_state self.now)) }

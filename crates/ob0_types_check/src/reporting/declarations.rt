@@ -3,12 +3,12 @@
 
 ghost use Rattle.std.specs.Prelude.{◌≡◌, ◌∷◌, ◌++◌, [], map, IfOk, OnOk};
 ghost use Rattle.ob0_language_names.specs.Parts.{formal_sections, section_constants, section_types, section_variables};
-ghost use Rattle.ob0_tree.specs.View.{block_of, body_of, constant_of, constants_of, formals_of, further_section_of, items_of, procedure_of, type_declaration_of, types_of, variable_of, variables_of};
-ghost use Rattle.ob0_types_check.specs.DeclarationFaults.{reported_constant_declaration, reported_body, reported_constants, reported_section, reported_sections, reported_types, reported_variables, reported_type_declaration, reported_variable_group};
+ghost use Rattle.ob0_tree.specs.View.{block_of, body_of, constant_of, constants_of, formals_of, further_parameter_section_of, items_of, procedure_of, type_declaration_of, types_of, variable_of, variables_of};
+ghost use Rattle.ob0_types_check.specs.DeclarationFaults.{report_on_constant_declaration, report_on_body, report_on_constant_declarations, report_on_parameter_section, report_on_parameter_sections, report_on_type_declarations, report_on_variable_declarations, report_on_type_declaration, report_on_variable_group};
 ghost use Rattle.ob0_types_check.specs.Known.{a_variable};
 ghost use Rattle.ob0_types_check.specs.Operations.{ReturnsAndReports};
 ghost use Rattle.ob0_types_check.specs.KnownDeclarations.{define_all};
-ghost use Rattle.ob0_types_check.specs.SomeBodies.{reported_block_with_bodies, report_body_if_wanted, reported_procedure_with_bodies, reported_procedures_with_bodies, walk_progress_of, includes_body};
+ghost use Rattle.ob0_types_check.specs.SomeBodies.{report_on_block_with_wanted_bodies, report_body_if_wanted, report_on_procedure_with_wanted_bodies, report_on_procedures_with_wanted_bodies, walk_progress_of, includes_body};
 ghost use Rattle.ob0_types_check.specs.CheckerViews.{heading_in_state, declarations_in_state};
 
 use crate::reporting::checker_state::{CheckerState, Meaning};
@@ -64,7 +64,7 @@ impl<'t> Reporter<'t> {
         own: usize,
     ) -> Result<(), AllocError>
         ensures { OnOk result (ReturnsAndReports self.old.faults.items self.new.faults.items
-            (walk_progress_of self.new.checker_state bodies_with_faults.new.items) (reported_block_with_bodies (includes_body wanted.now) own
+            (walk_progress_of self.new.checker_state bodies_with_faults.new.items) (report_on_block_with_wanted_bodies (includes_body wanted.now) own
             (walk_progress_of self.old.checker_state bodies_with_faults.old.items) (block_of b.now))) }
     {
         self.report_constant_section(&b.constants)?;
@@ -82,7 +82,7 @@ impl<'t> Reporter<'t> {
         procedures: &Vec<Procedure>,
     ) -> Result<(), AllocError>
         ensures { OnOk result (ReturnsAndReports self.old.faults.items self.new.faults.items
-            (walk_progress_of self.new.checker_state bodies_with_faults.new.items) (reported_procedures_with_bodies (includes_body wanted.now)
+            (walk_progress_of self.new.checker_state bodies_with_faults.new.items) (report_on_procedures_with_wanted_bodies (includes_body wanted.now)
             (walk_progress_of self.old.checker_state bodies_with_faults.old.items)
             (items_of procedure_of procedures.now.items))) }
     {
@@ -102,7 +102,7 @@ impl<'t> Reporter<'t> {
         p: &Procedure,
     ) -> Result<(), AllocError>
         ensures { OnOk result (ReturnsAndReports self.old.faults.items self.new.faults.items
-            (walk_progress_of self.new.checker_state bodies_with_faults.new.items) (reported_procedure_with_bodies (includes_body wanted.now)
+            (walk_progress_of self.new.checker_state bodies_with_faults.new.items) (report_on_procedure_with_wanted_bodies (includes_body wanted.now)
             (walk_progress_of self.old.checker_state bodies_with_faults.old.items) (procedure_of p.now))) }
     {
         let formals = self.report_heading(&p.formals)?;
@@ -140,7 +140,7 @@ impl<'t> Reporter<'t> {
     fn report_body_statements(&mut self, body: &Option<Vec<Statement>>) -> Result<(), AllocError>
         ensures { OnOk result (ReturnsAndReports self.old.faults.items self.new.faults.items
             (declarations_in_state self.new.checker_state)
-            (reported_body (declarations_in_state self.old.checker_state) (body_of body.now))) }
+            (report_on_body (declarations_in_state self.old.checker_state) (body_of body.now))) }
     {
         match body {
             None => Ok(()),
@@ -157,61 +157,61 @@ impl<'t> Reporter<'t> {
         sections: &Option<Vec<ParameterSection>>,
     ) -> Result<Vec<FormalParameter>, AllocError>
         ensures { IfOk result (λ formals. ReturnsAndReports self.old.faults.items self.new.faults.items
-            (heading_in_state self.new.checker_state formals.items) (reported_sections
+            (heading_in_state self.new.checker_state formals.items) (report_on_parameter_sections
             (record { formals = []; following = declarations_in_state self.old.checker_state })
             (formal_sections (formals_of sections.now)))) }
     {
         let mut formals = Vec::new(self.alloc);
-        self.report_sections_if_any(sections, &mut formals)?;
+        self.report_parameter_sections_if_any(sections, &mut formals)?;
         Ok(formals)
     }
 
     /// Reports the faults of a heading's sections and appends their parameters to `formals`. Does
     /// nothing if the heading has no sections (None).
-    fn report_sections_if_any(
+    fn report_parameter_sections_if_any(
         &mut self,
         sections: &Option<Vec<ParameterSection>>,
         formals: &mut Vec<FormalParameter>,
     ) -> Result<(), AllocError>
         ensures { OnOk result (ReturnsAndReports self.old.faults.items self.new.faults.items
-            (heading_in_state self.new.checker_state formals.new.items) (reported_sections
+            (heading_in_state self.new.checker_state formals.new.items) (report_on_parameter_sections
             (heading_in_state self.old.checker_state formals.old.items)
             (formal_sections (formals_of sections.now)))) }
     {
         match sections {
             None => Ok(()),
-            Some(sections) => self.report_sections(sections.as_slice(), formals),
+            Some(sections) => self.report_parameter_sections(sections.as_slice(), formals),
         }
     }
 
     /// Reports the faults of a heading's sections, one after another, and appends their parameters
     /// to `formals`.
-    fn report_sections(
+    fn report_parameter_sections(
         &mut self,
         sections: &[ParameterSection],
         formals: &mut Vec<FormalParameter>,
     ) -> Result<(), AllocError>
         ensures { OnOk result (ReturnsAndReports self.old.faults.items self.new.faults.items
-            (heading_in_state self.new.checker_state formals.new.items) (reported_sections
+            (heading_in_state self.new.checker_state formals.new.items) (report_on_parameter_sections
             (heading_in_state self.old.checker_state formals.old.items)
-            (items_of further_section_of sections.now))) }
+            (items_of further_parameter_section_of sections.now))) }
     {
         for s in sections {
-            self.report_section(s, formals)?;
+            self.report_parameter_section(s, formals)?;
         }
         Ok(())
     }
 
     /// Reports the faults of the type of one section of a heading. For each of the section's names,
     /// appends a parameter of this type to `formals` and declares a variable.
-    fn report_section(
+    fn report_parameter_section(
         &mut self,
         s: &ParameterSection,
         formals: &mut Vec<FormalParameter>,
     ) -> Result<(), AllocError>
         ensures { OnOk result (ReturnsAndReports self.old.faults.items self.new.faults.items
-            (heading_in_state self.new.checker_state formals.new.items) (reported_section
-            (heading_in_state self.old.checker_state formals.old.items) (further_section_of s.now))) }
+            (heading_in_state self.new.checker_state formals.new.items) (report_on_parameter_section
+            (heading_in_state self.old.checker_state formals.old.items) (further_parameter_section_of s.now))) }
     {
         let of = self.check_written_type(&s.written)?;
         let formal = FormalParameter {
@@ -225,7 +225,7 @@ impl<'t> Reporter<'t> {
 
     fn report_constant_section(&mut self, section: &Option<Vec<Constant>>) -> Result<(), AllocError>
         ensures { OnOk result (ReturnsAndReports self.old.faults.items self.new.faults.items
-            (declarations_in_state self.new.checker_state) (reported_constants (declarations_in_state self.old.checker_state)
+            (declarations_in_state self.new.checker_state) (report_on_constant_declarations (declarations_in_state self.old.checker_state)
             (section_constants (constants_of section.now)))) }
     {
         match section {
@@ -236,7 +236,7 @@ impl<'t> Reporter<'t> {
 
     fn report_constants(&mut self, constants: &[Constant]) -> Result<(), AllocError>
         ensures { OnOk result (ReturnsAndReports self.old.faults.items self.new.faults.items
-            (declarations_in_state self.new.checker_state) (reported_constants (declarations_in_state self.old.checker_state)
+            (declarations_in_state self.new.checker_state) (report_on_constant_declarations (declarations_in_state self.old.checker_state)
             (items_of constant_of constants.now))) }
     {
         for c in constants {
@@ -248,7 +248,7 @@ impl<'t> Reporter<'t> {
     fn report_constant(&mut self, c: &Constant) -> Result<(), AllocError>
         ensures { OnOk result (ReturnsAndReports self.old.faults.items self.new.faults.items
             (declarations_in_state self.new.checker_state)
-            (reported_constant_declaration (declarations_in_state self.old.checker_state) (constant_of c.now))) }
+            (report_on_constant_declaration (declarations_in_state self.old.checker_state) (constant_of c.now))) }
     {
         let value = self
             .checker_state
@@ -263,7 +263,7 @@ impl<'t> Reporter<'t> {
     ) -> Result<(), AllocError>
         ensures { OnOk result (ReturnsAndReports self.old.faults.items self.new.faults.items
             (declarations_in_state self.new.checker_state)
-            (reported_types (declarations_in_state self.old.checker_state) (section_types (types_of section.now)))) }
+            (report_on_type_declarations (declarations_in_state self.old.checker_state) (section_types (types_of section.now)))) }
     {
         match section {
             None => Ok(()),
@@ -273,7 +273,7 @@ impl<'t> Reporter<'t> {
 
     fn report_types(&mut self, types: &[TypeDeclaration]) -> Result<(), AllocError>
         ensures { OnOk result (ReturnsAndReports self.old.faults.items self.new.faults.items
-            (declarations_in_state self.new.checker_state) (reported_types (declarations_in_state self.old.checker_state)
+            (declarations_in_state self.new.checker_state) (report_on_type_declarations (declarations_in_state self.old.checker_state)
             (items_of type_declaration_of types.now))) }
     {
         for d in types {
@@ -285,7 +285,7 @@ impl<'t> Reporter<'t> {
     fn report_type_declaration(&mut self, d: &TypeDeclaration) -> Result<(), AllocError>
         ensures { OnOk result (ReturnsAndReports self.old.faults.items self.new.faults.items
             (declarations_in_state self.new.checker_state)
-            (reported_type_declaration (declarations_in_state self.old.checker_state) (type_declaration_of d.now))) }
+            (report_on_type_declaration (declarations_in_state self.old.checker_state) (type_declaration_of d.now))) }
     {
         let of = self.check_written_type(&d.written)?;
         self.checker_state.define(d.name, Meaning::Named(of));
@@ -297,7 +297,7 @@ impl<'t> Reporter<'t> {
         section: &Option<Vec<VariableDeclaration>>,
     ) -> Result<(), AllocError>
         ensures { OnOk result (ReturnsAndReports self.old.faults.items self.new.faults.items
-            (declarations_in_state self.new.checker_state) (reported_variables (declarations_in_state self.old.checker_state)
+            (declarations_in_state self.new.checker_state) (report_on_variable_declarations (declarations_in_state self.old.checker_state)
             (section_variables (variables_of section.now)))) }
     {
         match section {
@@ -308,7 +308,7 @@ impl<'t> Reporter<'t> {
 
     fn report_variables(&mut self, variables: &[VariableDeclaration]) -> Result<(), AllocError>
         ensures { OnOk result (ReturnsAndReports self.old.faults.items self.new.faults.items
-            (declarations_in_state self.new.checker_state) (reported_variables (declarations_in_state self.old.checker_state)
+            (declarations_in_state self.new.checker_state) (report_on_variable_declarations (declarations_in_state self.old.checker_state)
             (items_of variable_of variables.now))) }
     {
         for v in variables {
@@ -320,7 +320,7 @@ impl<'t> Reporter<'t> {
     fn report_variable_group(&mut self, v: &VariableDeclaration) -> Result<(), AllocError>
         ensures { OnOk result (ReturnsAndReports self.old.faults.items self.new.faults.items
             (declarations_in_state self.new.checker_state)
-            (reported_variable_group (declarations_in_state self.old.checker_state) (variable_of v.now))) }
+            (report_on_variable_group (declarations_in_state self.old.checker_state) (variable_of v.now))) }
     {
         let of = self.check_written_type(&v.written)?;
         self.checker_state.define_all(&v.names, of);

@@ -4,13 +4,13 @@
 ghost use Rattle.std.specs.Prelude.{◌≡◌, ◌++◌, [], false, true, if◌then◌else◌, IfOk, OnOk, option_map};
 ghost use Rattle.ob0_language_values.specs.Scalars.{scalar_value};
 ghost use Rattle.ob0_types_table.specs.declared.types.TypeId.TheVariants as type;
-ghost use Rattle.ob0_tree.specs.View.{compound_of, expression_of, factor_of, selector_of, simple_of, term_of};
+ghost use Rattle.ob0_tree.specs.View.{compound_expression_of, expression_of, factor_of, selector_of, simple_expression_of, term_of};
 ghost use Rattle.ob0_language_types.specs.Selected.{selectors_in};
-ghost use Rattle.ob0_types_check.specs.ExpressionFaults.{reported_expression, reported_factor, reported_selector, reported_selectors, reported_simple, reported_term};
-ghost use Rattle.ob0_types_check.specs.Operations.{ReturnsAndReports, constant_name_operand, number_operand, add_operands, required_type, required_type_of_both, fault_at_operand, prefixed_operand, complement_operand, element_type_in_form, element_operand, operand_in_parentheses, field_type_in_form, field_operand, may_be_same_type, operand_of_operation, multiply_operands, name_operand, extended_operand, relate_operands, sign_operand, comparison_type, operand_type_of_addition, operand_type_of_equality, operand_type_of_multiplication, operand_type_of_relation, value_type};
-ghost use Rattle.ob0_types_check.specs.TypeFaults.{operand_value, reported_constant};
+ghost use Rattle.ob0_types_check.specs.ExpressionFaults.{report_on_expression, report_on_factor, report_on_selector, report_on_selectors, report_on_simple_expression, report_on_term};
+ghost use Rattle.ob0_types_check.specs.Operations.{ReturnsAndReports, constant_name_operand, number_operand, add_operands, required_type, required_type_of_both, fault_at_operand, prefixed_operand, negated_operand, element_type_in_form, element_operand, operand_in_parentheses, field_type_in_form, field_operand, may_be_same_type, operand_of_operation, multiply_operands, name_operand, extended_operand, relate_operands, signed_operand, comparison_type, operand_type_of_addition, operand_type_of_equality, operand_type_of_multiplication, operand_type_of_relation, value_type};
+ghost use Rattle.ob0_types_check.specs.TypeFaults.{operand_value, report_on_constant_expression};
 ghost use Rattle.ob0_types_check.specs.KnownDeclarations.{same_type};
-ghost use Rattle.ob0_types_check.specs.CheckerViews.{facts_in, form_of_type_in, operand_of, known_types};
+ghost use Rattle.ob0_types_check.specs.CheckerViews.{facts_in, form_of_type_in, operand_of, type_id_representation};
 
 use crate::reporting::checker_state::{CheckerState, Meaning};
 use ob0_language_values::Scalar;
@@ -38,7 +38,7 @@ pub(crate) struct Operand {
 
 /// Returns the type that `+`, `-` or OR requires of both operands.
 fn operand_type_of_addition(operator: AddOperator) -> TypeId
-    ensures { result ≡ operand_type_of_addition (known_types []) operator }
+    ensures { result ≡ operand_type_of_addition (type_id_representation []) operator }
 {
     match operator {
         AddOperator::Add => TypeId::Integer,
@@ -49,7 +49,7 @@ fn operand_type_of_addition(operator: AddOperator) -> TypeId
 
 /// Returns the type that `*`, DIV, MOD or `&` requires of both operands.
 fn operand_type_of_multiplication(operator: MultiplyOperator) -> TypeId
-    ensures { result ≡ operand_type_of_multiplication (known_types []) operator }
+    ensures { result ≡ operand_type_of_multiplication (type_id_representation []) operator }
 {
     match operator {
         MultiplyOperator::And => TypeId::Boolean,
@@ -63,7 +63,7 @@ fn operand_type_of_multiplication(operator: MultiplyOperator) -> TypeId
 /// BOOLEAN, depending on the left operand's type. If `left` is the unknown type, the result is
 /// also the unknown type, and nothing is required. All other relations require INTEGER.
 fn operand_type_of_relation(relation: Relation, left: TypeId) -> TypeId
-    ensures { result ≡ operand_type_of_relation (known_types []) relation left }
+    ensures { result ≡ operand_type_of_relation (type_id_representation []) relation left }
 {
     match relation {
         Relation::Equal => operand_type_of_equality(left),
@@ -78,7 +78,7 @@ fn operand_type_of_relation(relation: Relation, left: TypeId) -> TypeId
 /// Returns the type that `=` or `#` requires of both operands. The result is the left operand's
 /// type if this is INTEGER or unknown, otherwise BOOLEAN.
 fn operand_type_of_equality(left: TypeId) -> TypeId
-    ensures { result ≡ operand_type_of_equality (known_types []) left }
+    ensures { result ≡ operand_type_of_equality (type_id_representation []) left }
 {
     match left {
         TypeId::Integer => TypeId::Integer,
@@ -92,7 +92,7 @@ fn operand_type_of_equality(left: TypeId) -> TypeId
 /// Returns the type of a comparison whose operands have this type: BOOLEAN, or unknown if the type
 /// of the operands is unknown.
 fn type_of_comparison(operands: TypeId) -> TypeId
-    ensures { result ≡ comparison_type (known_types []) operands }
+    ensures { result ≡ comparison_type (type_id_representation []) operands }
 {
     match operands {
         TypeId::Integer => TypeId::Boolean,
@@ -114,7 +114,7 @@ pub(crate) fn same_type(a: TypeId, b: TypeId) -> bool
 /// Returns whether the two types are equal, or one of them is the unknown type. If not, an
 /// expression of the type `of` is a mismatch for the required type `wanted`.
 fn may_be_same_type(of: TypeId, wanted: TypeId) -> bool
-    ensures { result ≡ may_be_same_type (known_types []) of wanted }
+    ensures { result ≡ may_be_same_type (type_id_representation []) of wanted }
 {
     same_type(of, wanted) || same_type(of, TypeId::Unknown) || same_type(wanted, TypeId::Unknown)
 }
@@ -209,9 +209,9 @@ impl<'t> CheckerState<'t> {
     }
 
     /// Requires the type `wanted` of both operands of an operation. Reports a mismatch at the left
-    /// operand, or at the right operand if the left operand has none. Returns `wanted` if both
-    /// operands have this type, otherwise the unknown type.
-    fn require_both(
+    /// operand or, if the left operand has no mismatch, at the right operand. Returns `wanted` if
+    /// both operands have this type, otherwise the unknown type.
+    fn require_type_of_both(
         &self,
         faults: &mut Vec<Fault>,
         wanted: TypeId,
@@ -243,7 +243,7 @@ impl<'t> CheckerState<'t> {
         only_constants: bool,
     ) -> Result<Operand, AllocError>
         ensures { IfOk result (λ o. ReturnsAndReports faults.old.items faults.new.items (operand_of o)
-            (reported_expression (facts_in self.now only_constants) (expression_of e.now))) }
+            (report_on_expression (facts_in self.now only_constants) (expression_of e.now))) }
     {
         match e {
             Expression::Factor(f) => self.check_factor(faults, f, only_constants),
@@ -259,7 +259,7 @@ impl<'t> CheckerState<'t> {
         only_constants: bool,
     ) -> Result<Operand, AllocError>
         ensures { IfOk result (λ o. ReturnsAndReports faults.old.items faults.new.items (operand_of o)
-            (reported_expression (facts_in self.now only_constants) (compound_of c.now))) }
+            (report_on_expression (facts_in self.now only_constants) (compound_expression_of c.now))) }
     {
         let left = self.check_simple_expression(faults, &c.left, only_constants)?;
         match &c.compared {
@@ -286,7 +286,7 @@ impl<'t> CheckerState<'t> {
             (operand_of right))) }
     {
         let wanted = operand_type_of_relation(relation, left.of);
-        let of = self.require_both(faults, wanted, left, right)?;
+        let of = self.require_type_of_both(faults, wanted, left, right)?;
         let value = operators::value_of_relation(relation, left.value, right.value);
         Ok(left.joined_operand(right, type_of_comparison(of), value))
     }
@@ -299,7 +299,7 @@ impl<'t> CheckerState<'t> {
         only_constants: bool,
     ) -> Result<Operand, AllocError>
         ensures { IfOk result (λ o. ReturnsAndReports faults.old.items faults.new.items (operand_of o)
-            (reported_simple (facts_in self.now only_constants) (simple_of s.now))) }
+            (report_on_simple_expression (facts_in self.now only_constants) (simple_expression_of s.now))) }
     {
         let first = self.check_term(faults, &s.first, only_constants)?;
         let mut so_far = self.check_sign(faults, s.sign, first)?;
@@ -323,13 +323,18 @@ impl<'t> CheckerState<'t> {
             (add_operands (facts_in self.now false) operator (operand_of left)
             (operand_of right))) }
     {
-        let of = self.require_both(faults, operand_type_of_addition(operator), left, right)?;
+        let of = self.require_type_of_both(
+            faults,
+            operand_type_of_addition(operator),
+            left,
+            right,
+        )?;
         let value = operators::value_of_sum(operator, left.value, right.value);
         Ok(left.joined_operand(right, of, value))
     }
 
-    /// Returns the operand for a sign and the operand after it. A sign requires INTEGER, and a
-    /// mismatch is reported. Without a sign (None), the operand is returned unchanged.
+    /// Returns the operand for an expression that consists of a sign and `operand`. A sign requires
+    /// INTEGER, and a mismatch is reported. Without a sign (None), `operand` is returned unchanged.
     fn check_sign(
         &self,
         faults: &mut Vec<Fault>,
@@ -337,7 +342,7 @@ impl<'t> CheckerState<'t> {
         operand: Operand,
     ) -> Result<Operand, AllocError>
         ensures { IfOk result (λ o. ReturnsAndReports faults.old.items faults.new.items (operand_of o)
-            (sign_operand (facts_in self.now false) sign (operand_of operand))) }
+            (signed_operand (facts_in self.now false) sign (operand_of operand))) }
     {
         match sign {
             None => Ok(operand),
@@ -357,7 +362,7 @@ impl<'t> CheckerState<'t> {
         only_constants: bool,
     ) -> Result<Operand, AllocError>
         ensures { IfOk result (λ o. ReturnsAndReports faults.old.items faults.new.items (operand_of o)
-            (reported_term (facts_in self.now only_constants) (term_of t.now))) }
+            (report_on_term (facts_in self.now only_constants) (term_of t.now))) }
     {
         let mut so_far = self.check_factor(faults, &t.first, only_constants)?;
         for multiplier in &t.more {
@@ -380,7 +385,7 @@ impl<'t> CheckerState<'t> {
             (multiply_operands (facts_in self.now false) operator (operand_of left)
             (operand_of right))) }
     {
-        let of = self.require_both(
+        let of = self.require_type_of_both(
             faults,
             operand_type_of_multiplication(operator),
             left,
@@ -398,7 +403,7 @@ impl<'t> CheckerState<'t> {
         only_constants: bool,
     ) -> Result<Operand, AllocError>
         ensures { IfOk result (λ o. ReturnsAndReports faults.old.items faults.new.items (operand_of o)
-            (reported_factor (facts_in self.now only_constants) (factor_of f.now))) }
+            (report_on_factor (facts_in self.now only_constants) (factor_of f.now))) }
     {
         match f {
             Factor::Designator(d) => {
@@ -457,10 +462,10 @@ impl<'t> CheckerState<'t> {
         operand: Operand,
     ) -> Result<Operand, AllocError>
         ensures { IfOk result (λ o. ReturnsAndReports faults.old.items faults.new.items (operand_of o)
-            (complement_operand (facts_in self.now false) (operand_of operand))) }
+            (negated_operand (facts_in self.now false) (operand_of operand))) }
     {
         let of = self.require_type(faults, TypeId::Boolean, operand)?;
-        Ok(operand.prefixed_operand(of, operators::complement(operand.value)))
+        Ok(operand.prefixed_operand(of, operators::value_of_negation(operand.value)))
     }
 
     /// Returns the operand for the name at a token. The name must be a constant's or a variable's,
@@ -516,7 +521,7 @@ impl<'t> CheckerState<'t> {
         only_constants: bool,
     ) -> Result<Operand, AllocError>
         ensures { IfOk result (λ o. ReturnsAndReports faults.old.items faults.new.items (operand_of o)
-            (reported_selectors (facts_in self.now only_constants) (operand_of base)
+            (report_on_selectors (facts_in self.now only_constants) (operand_of base)
             (selectors_in d.now))) }
     {
         let mut so_far = base;
@@ -537,7 +542,7 @@ impl<'t> CheckerState<'t> {
         only_constants: bool,
     ) -> Result<Operand, AllocError>
         ensures { IfOk result (λ o. ReturnsAndReports faults.old.items faults.new.items (operand_of o)
-            (reported_selector (facts_in self.now only_constants) (operand_of base)
+            (report_on_selector (facts_in self.now only_constants) (operand_of base)
             (selector_of selector.now))) }
     {
         match selector {
@@ -672,7 +677,7 @@ impl<'t> CheckerState<'t> {
     ) -> Result<Option<Scalar>, AllocError>
         ensures { IfOk result (λ v. ReturnsAndReports faults.old.items faults.new.items
             (option_map scalar_value v)
-            (reported_constant (facts_in self.now true) (expression_of e.now))) }
+            (report_on_constant_expression (facts_in self.now true) (expression_of e.now))) }
     {
         let constant_operand = self.check_expression(faults, e, true)?;
         self.operand_value(faults, constant_operand)
@@ -704,7 +709,7 @@ impl<'t> CheckerState<'t> {
 /// if the constant's declaration has a fault.
 fn constant_operand(value: Option<Scalar>, token: usize) -> Operand
     ensures { operand_of result
-        ≡ constant_name_operand (known_types []) (option_map scalar_value value) token }
+        ≡ constant_name_operand (type_id_representation []) (option_map scalar_value value) token }
 {
     Operand {
         of: constant_type(value),
@@ -717,7 +722,7 @@ fn constant_operand(value: Option<Scalar>, token: usize) -> Operand
 
 /// Returns the type of a constant with this value, or the unknown type for None.
 fn constant_type(value: Option<Scalar>) -> TypeId
-    ensures { result ≡ value_type (known_types []) (option_map scalar_value value) }
+    ensures { result ≡ value_type (type_id_representation []) (option_map scalar_value value) }
 {
     match value {
         None => TypeId::Unknown,

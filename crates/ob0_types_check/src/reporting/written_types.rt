@@ -4,15 +4,15 @@
 ghost use Rattle.std.specs.Prelude.{◌≡◌, ◌∷◌, ◌++◌, [], false, IfOk, OnOk, Some};
 ghost use Rattle.ob0_types_table.specs.declared.types.TypeId.TheVariants as type;
 ghost use Rattle.ob0_tree.specs.Tree.{array_type, some_fields};
-ghost use Rattle.ob0_tree.specs.View.{expression_of, fields_of, further_fields_of_group, items_of, names_of, record_type_of, type_of};
+ghost use Rattle.ob0_tree.specs.View.{expression_of, optional_field_group_of, further_field_group_of, items_of, names_of, record_type_of, type_of};
 ghost use Rattle.ob0_language_types.specs.Typing.{array_length};
 ghost use Rattle.ob0_language_values.specs.Scalars.{scalar_value};
 ghost use Rattle.ob0_types_check.specs.Known.{a_variable};
 ghost use Rattle.ob0_types_check.specs.Operations.{ReturnsAndReports};
 ghost use Rattle.ob0_types_check.specs.KnownDeclarations.{zero_size};
-ghost use Rattle.ob0_types_check.specs.CheckerViews.{AddsKnownFields, HasKnownFields, facts_in, fields_in, operand_of, size_of, declarations_in_state};
-ghost use Rattle.ob0_types_check.specs.TypeFaults.{length_of, type_by_meaning, type_named_at};
-ghost use Rattle.ob0_types_check.specs.WrittenTypeFaults.{made_array_type, no_known_fields, made_record_type, record_keyword, reported_fields, reported_groups, reported_type, with_known_field, with_known_fields};
+ghost use Rattle.ob0_types_check.specs.CheckerViews.{AddsKnownFields, HasKnownFields, facts_in, known_fields_of, operand_of, size_of, declarations_in_state};
+ghost use Rattle.ob0_types_check.specs.TypeFaults.{length_by_operand, type_by_meaning, type_named_at};
+ghost use Rattle.ob0_types_check.specs.WrittenTypeFaults.{made_array_type, no_known_fields, made_record_type, record_keyword_token, report_on_field_group, report_on_further_field_groups, report_on_written_type, with_known_field, with_known_fields};
 ghost use Rattle.ob0_types_check.specs.WrittenTypeFaults as spec;
 
 use crate::reporting::Reporter;
@@ -20,7 +20,7 @@ use crate::reporting::checker_state::{CheckerState, Meaning, Size, ZERO_SIZE, su
 use crate::reporting::expressions::{Operand, same_type};
 use ob0_language_values::Scalar;
 use ob0_scan::{Fault, FaultCode};
-use ob0_tree::{ArrayType, FieldGroup, Fields, Names, RecordType, WrittenType};
+use ob0_tree::{ArrayType, FieldGroup, Names, OptionalFieldGroup, RecordType, WrittenType};
 use ob0_types_table::{ArrayShape, Field, FieldTable, MAX_SCALARS, RecordShape, TypeEntry, TypeId};
 use std::alloc::{AllocError, Global};
 
@@ -55,7 +55,7 @@ pub(crate) struct KnownFields {
 impl KnownFields {
     /// Returns an empty list of fields, with no scalars and depth 0.
     fn new(alloc: Global) -> KnownFields
-        ensures fields { fields_in result.fields.items ≡ [] }
+        ensures fields { known_fields_of result.fields.items ≡ [] }
         ensures size { size_of result.size ≡ zero_size }
     {
         KnownFields {
@@ -67,8 +67,8 @@ impl KnownFields {
     /// Appends a field with this name and the type `of`. The total size isn't changed, because
     /// `add_known_field` adds the field's size.
     fn add(&mut self, alloc: Global, name: &str, of: TypeId) -> Result<(), AllocError>
-        ensures fields { OnOk result (fields_in self.new.fields.items
-            ≡ fields_in self.old.fields.items ++ record { name = name.now; of = of } ∷ []) }
+        ensures fields { OnOk result (known_fields_of self.new.fields.items
+            ≡ known_fields_of self.old.fields.items ++ record { name = name.now; of = of } ∷ []) }
         ensures size { OnOk result (self.new.size ≡ self.old.size) }
     {
         let name = String::from_str(alloc, name)?;
@@ -80,13 +80,13 @@ impl KnownFields {
 /// Returns the token index of the word RECORD, given the record's groups of fields. Between RECORD
 /// and the first field's name there are only semicolons, one for each empty group before this name.
 /// Returns 0 if the record has no fields.
-fn record_keyword(groups: &[Fields]) -> usize
-    ensures { result ≡ record_keyword (items_of further_fields_of_group groups.now) }
+fn record_keyword_token(groups: &[OptionalFieldGroup]) -> usize
+    ensures { result ≡ record_keyword_token (items_of further_field_group_of groups.now) }
 {
     for (before, group) in groups.iter().enumerate() {
         match group {
-            Fields::Empty => {}
-            Fields::Listed(list) => {
+            OptionalFieldGroup::Empty => {}
+            OptionalFieldGroup::Listed(list) => {
                 let first = list.names.first;
                 return first.saturating_sub(1).saturating_sub(before);
             }
@@ -132,7 +132,7 @@ impl<'t> CheckerState<'t> {
         operand: Operand,
     ) -> Result<Option<usize>, AllocError>
         ensures { IfOk result (λ n. ReturnsAndReports faults.old.items faults.new.items n
-            (length_of (facts_in self.now false) (operand_of operand))) }
+            (length_by_operand (facts_in self.now false) (operand_of operand))) }
     {
         let of = self.require_type(faults, TypeId::Integer, operand)?;
         if !same_type(of, TypeId::Integer) {
@@ -156,7 +156,7 @@ impl<'t> Reporter<'t> {
     pub(crate) fn check_written_type(&mut self, t: &WrittenType) -> Result<TypeId, AllocError>
         ensures { IfOk result (λ of. ReturnsAndReports self.old.faults.items self.new.faults.items
             (record { of = of; following = declarations_in_state self.new.checker_state })
-            (reported_type 0 (declarations_in_state self.old.checker_state) (type_of t.now))) }
+            (report_on_written_type 0 (declarations_in_state self.old.checker_state) (type_of t.now))) }
     {
         self.check_nested_type(t, 0)
     }
@@ -168,7 +168,7 @@ impl<'t> Reporter<'t> {
         ensures { IfOk result
             (λ of. ReturnsAndReports self.old.faults.items self.new.faults.items
             (record { of = of; following = declarations_in_state self.new.checker_state })
-            (reported_type around (declarations_in_state self.old.checker_state)
+            (report_on_written_type around (declarations_in_state self.old.checker_state)
             (type_of t.now))) }
     {
         match t {
@@ -184,7 +184,7 @@ impl<'t> Reporter<'t> {
     fn check_array_type(&mut self, a: &ArrayType, around: usize) -> Result<TypeId, AllocError>
         ensures { IfOk result
             (λ of. ReturnsAndReports self.old.faults.items self.new.faults.items
-            (record { of = of; following = declarations_in_state self.new.checker_state }) (reported_type
+            (record { of = of; following = declarations_in_state self.new.checker_state }) (report_on_written_type
             around (declarations_in_state self.old.checker_state)
             (array_type (expression_of a.now.size) (type_of a.now.element.value)))) }
     {
@@ -195,14 +195,14 @@ impl<'t> Reporter<'t> {
         let length = self.checker_state.check_length(&mut self.faults, size)?;
         let inside = sum_or_error(around, 1)?;
         let element = self.check_nested_type(&a.element, inside)?;
-        self.make_array(ordinal, size, length, element)
+        self.make_array_type(ordinal, size, length, element)
     }
 
     /// Makes an array type and returns it. `size` is the result of checking the length's
     /// expression. If the length has a fault (`length` is None), the result is the unknown type,
     /// although the element type has been checked. An array type that is too large is reported at
     /// its word ARRAY, the token before the length.
-    fn make_array(
+    fn make_array_type(
         &mut self,
         ordinal: usize,
         size: Operand,
@@ -239,14 +239,14 @@ impl<'t> Reporter<'t> {
         ensures { IfOk result
             (λ of. ReturnsAndReports self.old.faults.items self.new.faults.items
             (record { of = of; following = declarations_in_state self.new.checker_state })
-            (reported_type around (declarations_in_state self.old.checker_state)
+            (report_on_written_type around (declarations_in_state self.old.checker_state)
             (record_type_of r.now))) }
     {
         let ordinal = self.checker_state.next_type_ordinal(around)?;
-        let word = record_keyword(&r.groups);
+        let word = record_keyword_token(&r.groups);
         let inside = sum_or_error(around, 1)?;
         let gathered = self.check_field_groups(r.groups.as_slice(), inside)?;
-        self.make_record(word, ordinal, gathered)
+        self.make_record_type(word, ordinal, gathered)
     }
 
     /// Reports the faults of all groups of fields of a record, and returns the fields. `around` is
@@ -254,14 +254,14 @@ impl<'t> Reporter<'t> {
     #[cycle(types)]
     fn check_field_groups(
         &mut self,
-        groups: &[Fields],
+        groups: &[OptionalFieldGroup],
         around: usize,
     ) -> Result<KnownFields, AllocError>
         ensures { IfOk result (λ gathered.
             AddsKnownFields self.old.faults.items self.new.faults.items self.new.checker_state gathered
-            (reported_groups around (no_known_fields
+            (report_on_further_field_groups around (no_known_fields
             (declarations_in_state self.old.checker_state))
-            (items_of further_fields_of_group groups.now))) }
+            (items_of further_field_group_of groups.now))) }
     {
         let mut gathered = KnownFields::new(self.alloc);
         for group in groups {
@@ -273,7 +273,7 @@ impl<'t> Reporter<'t> {
     /// Makes a record type of the gathered fields and returns it. `word` is the token of its word
     /// RECORD, and `ordinal` is the number of words ARRAY and RECORD before this token in the text.
     /// A record type that is too large is reported at `word`.
-    fn make_record(
+    fn make_record_type(
         &mut self,
         word: usize,
         ordinal: usize,
@@ -303,18 +303,18 @@ impl<'t> Reporter<'t> {
     #[cycle(types)]
     fn check_optional_field_group(
         &mut self,
-        group: &Fields,
+        group: &OptionalFieldGroup,
         gathered: &mut KnownFields,
         around: usize,
     ) -> Result<(), AllocError>
         ensures { OnOk result ((g : spec.KnownFields)
             → HasKnownFields g self.old.checker_state gathered.old
             → AddsKnownFields self.old.faults.items self.new.faults.items self.new.checker_state gathered.new
-            (reported_fields around g (fields_of group.now))) }
+            (report_on_field_group around g (optional_field_group_of group.now))) }
     {
         match group {
-            Fields::Empty => Ok(()),
-            Fields::Listed(list) => self.check_field_group(list, gathered, around),
+            OptionalFieldGroup::Empty => Ok(()),
+            OptionalFieldGroup::Listed(list) => self.check_field_group(list, gathered, around),
         }
     }
 
@@ -330,7 +330,7 @@ impl<'t> Reporter<'t> {
         ensures { OnOk result ((g : spec.KnownFields)
             → HasKnownFields g self.old.checker_state gathered.old
             → AddsKnownFields self.old.faults.items self.new.faults.items self.new.checker_state gathered.new
-            (reported_fields around g
+            (report_on_field_group around g
             (some_fields (names_of list.now.names) (type_of list.now.written)))) }
     {
         let of = self.check_nested_type(&list.written, around)?;

@@ -1,7 +1,7 @@
 use Rattle.std.proofs.Common.{◌∙◌, ℕ, List, Option, inl, refl, ap, subst, arith}
 use Rattle.std.proofs.lemmas.Result.{IfOk-weaker}
 use Rattle.ob0_commands.specs.Outputs.{IsFlushedOrUnchanged}
-use Rattle.ob0_commands.specs.Renamed.{PrintsErrorsOrRefusal, PrintsRenamed}
+use Rattle.ob0_commands.specs.Renamed.{PrintsErrorsOrRefusal, PrintsRenamedText}
 use Rattle.ob0_commands.specs.StderrLines.{PrintsLine}
 use Rattle.ob0_commands.proofs.renaming.rename_in_file.Goals as goal
 
@@ -22,8 +22,8 @@ returns-clause-ends g c =
     IfOk-weaker c.rename_utf8_text.result _ _ (λ status h. record {
       status_at_most_one = h.status_at_most_one;
       good = λ zero. (
-        subst (λ (t : List ℕ). PrintsRenamed t c.args.position c.args.new.now before (g.O.Write.contents after)) here.0
-            (subst (λ (b : Option (List ℕ)). PrintsRenamed c.in-Some.text.now c.args.position c.args.new.now b (g.O.Write.contents after)) (ap g.O.Write.contents here.1) (h.good zero).0),
+        subst (λ (t : List ℕ). PrintsRenamedText t c.args.position c.args.new.now before (g.O.Write.contents after)) here.0
+            (subst (λ (b : Option (List ℕ)). PrintsRenamedText c.in-Some.text.now c.args.position c.args.new.now b (g.O.Write.contents after)) (ap g.O.Write.contents here.1) (h.good zero).0),
         (h.good zero).1,
         (h.good zero).2,
       );

@@ -4,7 +4,7 @@ use Rattle.ob0_tree.specs.ParsedModule.{named_tree_of}
 use Rattle.ob0_scope_table.specs.Resolution.{Resolution}
 use Rattle.ob0_edits_tokens.specs.Removed.{span_of_tokens}
 use Rattle.ob0_inline.specs.Declarations.{contains_span}
-use Rattle.ob0_inline.specs.Everywhere.{any_use_shadowed}
+use Rattle.ob0_inline.specs.Everywhere.{has_shadowed_use}
 use Rattle.std.specs.List.{list_any}
 use Rattle.ob0_inline.proofs.AtConstants.{IsRefused, Made, answer_comment, answer_hidden, answer_made, answer_not_made}
 use Rattle.ob0_inline.proofs.Ended.{is_taken}
@@ -21,7 +21,7 @@ returns-then-branch g c =
     let there : Made c.resolved-names.result.now k unit content edits =
     record { edits_are = c.in-Ok.ensures.edits; make_text = record { leaves = c.in-Ok.ensures.inlined; short = c.in-Ok.ensures.short } } in
     let made = subst (λ (r : Resolution). Made r k unit content edits) back there in
-    let hidden = ap (λ (r : Resolution). any_use_shadowed (named_tree_of r.module_read) k) (sym back) ∙ (sym c.in_ok-any_use_shadowed-in-Ok.ensures ∙ c.if-branch.true) in
+    let hidden = ap (λ (r : Resolution). has_shadowed_use (named_tree_of r.module_read) k) (sym back) ∙ (sym c.in_ok-has_shadowed_use-in-Ok.ensures ∙ c.if-branch.true) in
     inl (answer_hidden c.args.«module».now well k c.requires.is_constant c.constant_uses_are_factors.ensures c.value_is_scalar.ensures unit content edits made hidden)
 
 pub declaration_has_comment-requires-clause-inside : goal.declaration_has_comment-requires-clause-inside
@@ -43,7 +43,7 @@ returns-then-declaration_has_comment g c =
     let there : Made c.resolved-names.result.now k unit content edits =
     record { edits_are = c.in-Ok.ensures.edits; make_text = record { leaves = c.in-Ok.ensures.inlined; short = c.in-Ok.ensures.short } } in
     let made = subst (λ (r : Resolution). Made r k unit content edits) back there in
-    let shown = ap (λ (r : Resolution). any_use_shadowed (named_tree_of r.module_read) k) (sym back) ∙ (sym c.in_ok-any_use_shadowed-in-Ok.ensures ∙ c.if-branch.false) in
+    let shown = ap (λ (r : Resolution). has_shadowed_use (named_tree_of r.module_read) k) (sym back) ∙ (sym c.in_ok-has_shadowed_use-in-Ok.ensures ∙ c.if-branch.false) in
     let source = c.tokens.ensures ∙ ap (λ (r : Resolution). r.module_read.source) back in
     let comment = ap (λ (s : TextWithTokens). list_any (contains_span (span_of_tokens s.tokens k.first k.last)) s.comments) (sym source) ∙ (sym c.declaration_has_comment.ensures ∙ c.if-declaration_has_comment.true) in
     inl (answer_comment c.args.«module».now well k c.requires.is_constant c.constant_uses_are_factors.ensures c.value_is_scalar.ensures unit content edits made shown comment)
@@ -59,7 +59,7 @@ returns-else-declaration_has_comment g c =
     let there : Made c.resolved-names.result.now k unit content edits =
     record { edits_are = c.in-Ok.ensures.edits; make_text = record { leaves = c.in-Ok.ensures.inlined; short = c.in-Ok.ensures.short } } in
     let made = subst (λ (r : Resolution). Made r k unit content edits) back there in
-    let shown = ap (λ (r : Resolution). any_use_shadowed (named_tree_of r.module_read) k) (sym back) ∙ (sym c.in_ok-any_use_shadowed-in-Ok.ensures ∙ c.if-branch.false) in
+    let shown = ap (λ (r : Resolution). has_shadowed_use (named_tree_of r.module_read) k) (sym back) ∙ (sym c.in_ok-has_shadowed_use-in-Ok.ensures ∙ c.if-branch.false) in
     let source = c.tokens.ensures ∙ ap (λ (r : Resolution). r.module_read.source) back in
     let bare = ap (λ (s : TextWithTokens). list_any (contains_span (span_of_tokens s.tokens k.first k.last)) s.comments) (sym source) ∙ (sym c.declaration_has_comment.ensures ∙ c.if-declaration_has_comment.false) in
     answer_made c.args.«module».now well k c.requires.is_constant c.constant_uses_are_factors.ensures c.value_is_scalar.ensures c.inlining_everywhere_keeps_typing_and_runs.ensures unit content edits made shown bare

@@ -5,8 +5,8 @@ use Rattle.ob0_inline.specs.Uses.{IsUse, value_text_keeps_meaning}
 use Rattle.ob0_inline.proofs.AtUses.{IsRefused, Made, answer_ok, answer_refused, answer_shadowed}
 use Rattle.ob0_inline.proofs.one_use.inline_use.Goals as goal
 
-pub use_edits-requires-clause-is_use : goal.use_edits-requires-clause-is_use
-use_edits-requires-clause-is_use g c = subst (λ (r : Resolution). IsUse r.module_read c.args.found) (sym c.resolved-names.ensures.value) c.requires.is_use
+pub edits_inlining_here-requires-clause-is_use : goal.edits_inlining_here-requires-clause-is_use
+edits_inlining_here-requires-clause-is_use g c = subst (λ (r : Resolution). IsUse r.module_read c.args.found) (sym c.resolved-names.ensures.value) c.requires.is_use
 
 pub returns-in-Err : goal.returns-in-Err
 returns-in-Err g c =

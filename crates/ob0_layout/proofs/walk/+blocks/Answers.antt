@@ -17,10 +17,10 @@ add_block_roles-returns t c =
     let types = line_roles k (types_of b.types) in
     let variables = line_roles k (variables_of b.variables) in
     let procedures = line_roles k (items_of procedure_of b.procedures.items) in
-    let d = step start constants types c.in_ok-add_constant_roles.ensures c.in_ok-add_type_declaration_roles.ensures in
-    let e = step start (constants ++ types) variables d c.in_ok-add_variable_roles.ensures in
+    let d = step start constants types c.in_ok-add_constant_section_roles.ensures c.in_ok-add_type_section_roles.ensures in
+    let e = step start (constants ++ types) variables d c.in_ok-add_variable_section_roles.ensures in
     let f = step start ((constants ++ types) ++ variables) procedures e
-    (walk_ends c.loop-p.invariant c.loop-p-test.false ∙ ap (λ xs. c.add_variable_roles.new.out.items ++ line_roles k (items_of procedure_of xs)) c.deref-p-items.ensures.value) in
+    (walk_ends c.loop-p.invariant c.loop-p-test.false ∙ ap (λ xs. c.add_variable_section_roles.new.out.items ++ line_roles k (items_of procedure_of xs)) c.deref-p-items.ensures.value) in
     subst (λ z. IfOk c.add_body_roles.result (λ _. c.add_body_roles.new.out.items ≡ z))
     (closing start (((constants ++ types) ++ variables) ++ procedures) (line_roles k (body_of b.body)) _ f (block_shape constants types variables procedures (line_roles k (body_of b.body)))
     ∙ ap (λ s. start ++ line_roles k s) (sym (block_parts c.args.b.now))) c.add_body_roles.ensures
@@ -34,7 +34,7 @@ add_procedure_roles-returns t c =
     let inner = line_roles k (block_of p.block) in
     let same = c.deeper_level-inner.ensures in
     let a = step start (Begins k ∷ []) (Plain ∷ []) (c.in_ok-add_line_start_role.ensures ∙ ap (λ j. start ++ (Begins j ∷ [])) same) c.in_ok-add_plain_role.ensures in
-    let b = step start ((Begins k ∷ []) ++ (Plain ∷ [])) formals a c.in_ok-add_formal_roles.ensures in
+    let b = step start ((Begins k ∷ []) ++ (Plain ∷ [])) formals a c.in_ok-add_formal_parameter_roles.ensures in
     let d = step start (((Begins k ∷ []) ++ (Plain ∷ [])) ++ formals) (Plain ∷ []) b c.in_ok-add_plain_role-2.ensures in
     let e = step start ((((Begins k ∷ []) ++ (Plain ∷ [])) ++ formals) ++ (Plain ∷ [])) inner d (c.in_ok-add_block_roles.ensures ∙ ap (λ j. c.add_plain_role-2.new.out.items ++ line_roles j (block_of p.block)) same) in
     let f = step start (((((Begins k ∷ []) ++ (Plain ∷ [])) ++ formals) ++ (Plain ∷ [])) ++ inner) (Begins k ∷ []) e (c.in_ok-add_line_start_role-2.ensures ∙ ap (λ j. c.add_block_roles.new.out.items ++ (Begins j ∷ [])) same) in

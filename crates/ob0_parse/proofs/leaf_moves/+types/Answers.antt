@@ -1,22 +1,22 @@
 use Rattle.std.proofs.Common.{◌≡◌, ◌∙◌, ap, sym, rules, arith}
 use Rattle.ob0_tree.specs.declared.tree.RecordType.{RecordType}
-use Rattle.ob0_tree.specs.View.{record_of_list, type_of}
+use Rattle.ob0_tree.specs.View.{record_type_of_list, type_of}
 use Rattle.ob0_tree.specs.declared.tree.WrittenType.{Record, the_lemmas}
 use Rattle.ob0_parse.specs.MovedTrees.{moved_tree}
 use Rattle.ob0_parse.proofs.Moved.{next_down, ends, record_moved}
 use Rattle.ob0_parse.proofs.MovedParts.{record_type_moved}
 use Rattle.ob0_parse.proofs.leaf_moves.+types.Goals as goal
 
-pub move_groups-loop-i-preserved : goal.move_groups-loop-i-preserved
-move_groups-loop-i-preserved t c = next_down c.loop-i.invariant (search (rules, arith)) c.index_mut.ensures.value c.move_fields.ensures
+pub move_field_groups-loop-i-preserved : goal.move_field_groups-loop-i-preserved
+move_field_groups-loop-i-preserved t c = next_down c.loop-i.invariant (search (rules, arith)) c.index_mut.ensures.value c.move_optional_field_group.ensures
 
-pub move_groups-returns : goal.move_groups-returns
-move_groups-returns t c = record_moved c.args.by _ _ (ends c.loop-i.invariant.1 (search (rules, arith)))
+pub move_field_groups-returns : goal.move_field_groups-returns
+move_field_groups-returns t c = record_moved c.args.by _ _ (ends c.loop-i.invariant.1 (search (rules, arith)))
 
 pub move_type-returns-in-Record : goal.move_type-returns-in-Record
 move_type-returns-in-Record t c =
-    let h : record_of_list c.move_groups.new.parts.items ≡ moved_tree c.args.by (record_of_list c.in-Record.r.groups.items) =
-    c.move_groups.ensures ∙ ap (λ (r : RecordType). moved_tree c.args.by (record_of_list r.groups.items)) c.in-Record.r-is in
-    let all : type_of (Record record { groups = c.move_groups.new.parts }) ≡ moved_tree c.args.by (type_of c.args.t.now) =
-    record_type_moved c.args.by c.in-Record.r record { groups = c.move_groups.new.parts } h ∙ ap (λ t. moved_tree c.args.by (type_of t)) (sym c.in-Record.is) in
+    let h : record_type_of_list c.move_field_groups.new.parts.items ≡ moved_tree c.args.by (record_type_of_list c.in-Record.r.groups.items) =
+    c.move_field_groups.ensures ∙ ap (λ (r : RecordType). moved_tree c.args.by (record_type_of_list r.groups.items)) c.in-Record.r-is in
+    let all : type_of (Record record { groups = c.move_field_groups.new.parts }) ≡ moved_tree c.args.by (type_of c.args.t.now) =
+    record_type_moved c.args.by c.in-Record.r record { groups = c.move_field_groups.new.parts } h ∙ ap (λ t. moved_tree c.args.by (type_of t)) (sym c.in-Record.is) in
     search (rules, the_lemmas, all)

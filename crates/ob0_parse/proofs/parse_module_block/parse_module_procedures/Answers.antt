@@ -22,9 +22,9 @@ loop-procedure-preserved c =
     let ps = c.loop-procedure.kept.made.items in
     let item = rw c.in-Some.is at c.in_ok-procedure.ensures.read in
     record {
-      taking = rw c.in_ok-push_doubling.ensures.added (taking_more procedure_of ps c.in-Some.procedure _ _ _ _ _ c.loop-procedure.invariant.taking item.0);
+      taking = rw c.in_ok-push_with_doubling.ensures.added (taking_more procedure_of ps c.in-Some.procedure _ _ _ _ _ c.loop-procedure.invariant.taking item.0);
       kept = record {
-        made = rw c.in_ok-push_doubling.ensures.added (more_made ts c.loop-procedure.next c.in-Some.end ps c.in-Some.procedure c.loop-procedure.invariant.kept.made item.0 item.1);
+        made = rw c.in_ok-push_with_doubling.ensures.added (more_made ts c.loop-procedure.next c.in-Some.end ps c.in-Some.procedure c.loop-procedure.invariant.kept.made item.0 item.1);
         waiting = c.in_ok-procedure.ensures.waiting;
         body = c.loop-procedure.invariant.kept.body;
       };

@@ -6,4 +6,4 @@ use Rattle.ob0_refs.proofs.declaration_spans.reference_spans_of.Goals as goal
 pub returns : goal.returns
 returns c =
     let found = c.deref.ensures.value ∙ c.in_ok-found.ensures in
-    MatchResult-weaker c.spans_of.result c.spans_of.ensures (λ spans e. e ∙ (λ i. map (span_at (c.tokens.ensures i)) (found i))) (λ y h. h)
+    MatchResult-weaker c.token_spans.result c.token_spans.ensures (λ spans e. e ∙ (λ i. map (span_at (c.tokens.ensures i)) (found i))) (λ y h. h)

@@ -9,7 +9,7 @@ use Rattle.ob0_refs.proofs.type_texts.+types.Goals as goal
 
 pub array_type_text-returns : goal.array_type_text-returns
 array_type_text-returns t c =
-    IfOk-weaker c.array_text.result _ _ (λ text h. h c.args.array.ordinal (type_shape (shapes_of c.args.known.now) c.args.array.element) (c.as_str.ensures.value ∙ c.in_ok-element.ensures)) c.array_text.ensures
+    IfOk-weaker c.array_text_from_element_text.result _ _ (λ text h. h c.args.array.ordinal (type_shape (shapes_of c.args.known.now) c.args.array.element) (c.as_str.ensures.value ∙ c.in_ok-element.ensures)) c.array_text_from_element_text.ensures
 
 pub type_text-returns-in-Record : goal.type_text-returns-in-Record
 type_text-returns-in-Record t c =

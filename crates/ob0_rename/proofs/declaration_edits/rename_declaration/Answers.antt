@@ -1,11 +1,11 @@
 use Rattle.std.proofs.Common.{◌≡◌, ◌∙◌, option_map, sym, ap, subst, inr, true}
 use Rattle.ob0_scan.specs.TextWithTokens.{IsScan, TextWithTokens}
 use Rattle.ob0_tree.specs.ParsedModule.{named_tree_of}
-use Rattle.ob0_scope.specs.Renames.{other_declaration, conflict_of}
+use Rattle.ob0_scope.specs.Renames.{other_declaration_in_conflict, conflict_of}
 use Rattle.ob0_scope_table.specs.Resolution.{Resolution}
 use Rattle.ob0_types.specs.CheckedModules.{IsWellTyped}
 use Rattle.ob0_edits_tokens.specs.Replaced.{AreIdentifierIndexes}
-use Rattle.ob0_rename.specs.Answers.{AnswersForDeclaration, IsDeclarationRefusal}
+use Rattle.ob0_rename.specs.Answers.{AnswersRenamingOfDeclaration, IsFirstRefusalForDeclaration}
 use Rattle.ob0_rename.specs.Renaming.{is_declared_as}
 use Rattle.ob0_rename.proofs.Outcomes.{Edited, answered, requested, captured, once_of, own_answered}
 use Rattle.ob0_rename.proofs.Owned.{own_free}
@@ -30,11 +30,11 @@ returns-in-Some g c =
     let well = subst IsWellTyped (sym c.resolved-names.ensures.value) c.resolved-names.ensures.well_typed in
     let id = c.is_identifier.ensures.0 c.if-not-is_identifier.false in
     let first = sym (ap (option_map conflict_of) c.in-Some.is) ∙ c.in_ok-capture.ensures.first in
-    let other = sym (ap other_declaration c.in-Some.is) ∙ c.in_ok-capture.ensures.other in
+    let other = sym (ap other_declaration_in_conflict c.in-Some.is) ∙ c.in_ok-capture.ensures.other in
     let some = c.in-Some.is in
     record {
-      answers = λ place. inr (subst (λ (x : Resolution). IsDeclarationRefusal (requested unit text place c.args.new.now c.args.declaration x) c.args.declaration c.refusal_of.result) c.resolved-names.ensures.value
-          (captured unit text place c.args.new.now c.args.declaration names well.resolved id c.in-Some.capture c.refusal_of.result first other c.refusal_of.ensures.duplicate c.refusal_of.ensures.occurrence));
+      answers = λ place. inr (subst (λ (x : Resolution). IsFirstRefusalForDeclaration (requested unit text place c.args.new.now c.args.declaration x) c.args.declaration c.refusal_of_conflict.result) c.resolved-names.ensures.value
+          (captured unit text place c.args.new.now c.args.declaration names well.resolved id c.in-Some.capture c.refusal_of_conflict.result first other c.refusal_of_conflict.ensures.duplicate c.refusal_of_conflict.ensures.occurrence));
       memory = λ refused. id;
       own_name = λ own.
           let same = subst (λ (x : Resolution). is_declared_as x.module_read c.args.declaration c.args.new.now ≡ true) (sym c.resolved-names.ensures.value) own in
@@ -59,8 +59,8 @@ returns-in_ok-tokens-in-None g c =
     (subst (λ (s : TextWithTokens). Edited unit text new s c.deref.result.now c.replacement_edits.result) c.tokens-in-None.ensures made) in
     let are = subst (AreIdentifierIndexes names.module_read.source.tokens 0) c.in_ok-tokens-in-None.ensures.value c.in_ok-tokens-in-None.ensures.names in
     record {
-      answers = λ place. subst (λ (x : Resolution). AnswersForDeclaration (requested unit text place new d x) d c.replacement_edits.result) c.resolved-names.ensures.value
-          (answered unit text place new d names well id free c.free_renaming_keeps_typing_and_runs.ensures c.renaming_keeps_spelling.ensures c.names_replace_names.ensures are c.replacement_edits.result there);
+      answers = λ place. subst (λ (x : Resolution). AnswersRenamingOfDeclaration (requested unit text place new d x) d c.replacement_edits.result) c.resolved-names.ensures.value
+          (answered unit text place new d names well id free c.free_renaming_keeps_typing_and_runs.ensures c.renaming_keeps_spelling.ensures c.identifier_may_replace_identifier.ensures are c.replacement_edits.result there);
       memory = λ refused. id;
       own_name = λ own.
           let same = subst (λ (x : Resolution). is_declared_as x.module_read d new ≡ true) (sym c.resolved-names.ensures.value) own in

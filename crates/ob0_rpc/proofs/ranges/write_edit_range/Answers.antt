@@ -7,8 +7,8 @@ use Rattle.ob0_rpc.proofs.ranges.write_edit_range.Goals as goal
 
 pub returns-clause-text : goal.returns-clause-text
 returns-clause-text c =
-    let buffer = c.write_piece_before-at.new.buffer in
-    let at = c.write_piece_before-at.result in
+    let buffer = c.write_piece_ending_at-at.new.buffer in
+    let at = c.write_piece_ending_at-at.result in
     let whole = take_all (176 - at) (drop at buffer) (omega (arith, length-drop at buffer)) in
-    let range = c.write_range_before-at_range.ensures.text ∙ ap (λ t. compact_text (range_value c.args.start c.args.end) ++ t) c.write_piece_before-following.ensures.text in
-    on_ok_weaker c.write_piece.result (λ is. is ∙ ap (λ t. c.args.out.now.items ++ t) (whole ∙ c.write_piece_before-at.ensures.text ∙ ap (λ t. codes "\",\"range\":" ++ t) range)) c.write_piece.ensures
+    let range = c.write_range_ending_at-at_range.ensures.text ∙ ap (λ t. compact_text (range_value c.args.start c.args.end) ++ t) c.write_piece_ending_at-following.ensures.text in
+    on_ok_weaker c.write_piece.result (λ is. is ∙ ap (λ t. c.args.out.now.items ++ t) (whole ∙ c.write_piece_ending_at-at.ensures.text ∙ ap (λ t. codes "\",\"range\":" ++ t) range)) c.write_piece.ensures

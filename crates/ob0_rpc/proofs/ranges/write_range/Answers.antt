@@ -6,8 +6,8 @@ use Rattle.ob0_rpc.proofs.ranges.write_range.Goals as goal
 
 pub returns : goal.returns
 returns c =
-    let buffer = c.write_range_before-at.new.buffer in
-    let at = c.write_range_before-at.result in
+    let buffer = c.write_range_ending_at-at.new.buffer in
+    let at = c.write_range_ending_at-at.result in
     let whole = take_all (176 - at) (drop at buffer) (omega (arith, length-drop at buffer)) in
     on_ok_weaker c.write_piece.result (λ is.
-    put_down _ _ _ _ _ refl c.write_range_before-at.ensures.text (is ∙ ap (λ t. c.args.out.now.items ++ t) whole) c.write_range_before-at.ensures.reads) c.write_piece.ensures
+    put_down _ _ _ _ _ refl c.write_range_ending_at-at.ensures.text (is ∙ ap (λ t. c.args.out.now.items ++ t) whole) c.write_range_ending_at-at.ensures.reads) c.write_piece.ensures

@@ -1,6 +1,6 @@
 use Rattle.std.proofs.Common.{suc, ap, ◌∙◌}
 use Rattle.ob0_run_machine.specs.declared.code.TruthList.{out-TruthList}
-use Rattle.ob0_run_machine.specs.View.{conjunction_from, conjunction_of, truth_of}
+use Rattle.ob0_run_machine.specs.View.{conjunction_with_list, conjunction_of, truth_of}
 use Rattle.ob0_run_machine.proofs.TruthList.{all_made}
 use Rattle.ob0_run_lowering.specs.TruthDepths.{and_depth}
 use Rattle.ob0_run_lowering.proofs.TruthDepths.{all_deep}
@@ -10,7 +10,7 @@ use Rattle.ob0_run_lowering.proofs.chains.extended_conjunction.Goals as goal
 pub returns-clause-meaning : goal.returns-clause-meaning
 returns-clause-meaning c =
     let several = out-TruthList c.args.several in
-    all_made c.in_ok-several.several ∙ ap conjunction_of c.in_ok-several.ensures.ok ∙ ap (conjunction_from (truth_of several.first)) c.in_ok-push.ensures.items ∙ all_more (truth_of several.first) several.rest.items _
+    all_made c.in_ok-several.several ∙ ap conjunction_of c.in_ok-several.ensures.ok ∙ ap (conjunction_with_list (truth_of several.first)) c.in_ok-push.ensures.items ∙ all_more (truth_of several.first) several.rest.items _
 
 pub returns-clause-depth : goal.returns-clause-depth
 returns-clause-depth c =

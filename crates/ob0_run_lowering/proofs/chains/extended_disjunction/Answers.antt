@@ -1,6 +1,6 @@
 use Rattle.std.proofs.Common.{suc, ap, ◌∙◌}
 use Rattle.ob0_run_machine.specs.declared.code.TruthList.{out-TruthList}
-use Rattle.ob0_run_machine.specs.View.{disjunction_from, disjunction_of, truth_of}
+use Rattle.ob0_run_machine.specs.View.{disjunction_with_list, disjunction_of, truth_of}
 use Rattle.ob0_run_machine.proofs.TruthList.{any_made}
 use Rattle.ob0_run_lowering.specs.TruthDepths.{or_depth}
 use Rattle.ob0_run_lowering.proofs.TruthDepths.{any_deep}
@@ -10,7 +10,7 @@ use Rattle.ob0_run_lowering.proofs.chains.extended_disjunction.Goals as goal
 pub returns-clause-meaning : goal.returns-clause-meaning
 returns-clause-meaning c =
     let several = out-TruthList c.args.several in
-    any_made c.in_ok-several.several ∙ ap disjunction_of c.in_ok-several.ensures.ok ∙ ap (disjunction_from (truth_of several.first)) c.in_ok-push.ensures.items ∙ any_more (truth_of several.first) several.rest.items _
+    any_made c.in_ok-several.several ∙ ap disjunction_of c.in_ok-several.ensures.ok ∙ ap (disjunction_with_list (truth_of several.first)) c.in_ok-push.ensures.items ∙ any_more (truth_of several.first) several.rest.items _
 
 pub returns-clause-depth : goal.returns-clause-depth
 returns-clause-depth c =

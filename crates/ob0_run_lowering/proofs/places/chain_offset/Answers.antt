@@ -1,5 +1,5 @@
 use Rattle.std.proofs.Common.{sym, ◌∙◌}
-use Rattle.ob0_run_machine.specs.View.{first_of}
+use Rattle.ob0_run_machine.specs.View.{first_operand_of}
 use Rattle.ob0_run_machine.specs.declared.code.Chain.{out-Chain}
 use Rattle.ob0_run_lowering.proofs.KnownOffsets.{chain-unknown, first-alone}
 use Rattle.ob0_run_lowering.proofs.places.chain_offset.Goals as goal
@@ -7,7 +7,7 @@ use Rattle.ob0_run_lowering.proofs.places.chain_offset.Goals as goal
 pub returns-then-count-eq0 : goal.returns-then-count-eq0
 returns-then-count-eq0 c =
     c.first_operand_offset.ensures
-    ∙ sym (first-alone (first_of (out-Chain c.args.chain.now).first) (out-Chain c.args.chain.now).rest.items c.args.length c.args.stride (sym c.count_links-count.ensures ∙ c.if-count-eq0.true))
+    ∙ sym (first-alone (first_operand_of (out-Chain c.args.chain.now).first) (out-Chain c.args.chain.now).rest.items c.args.length c.args.stride (sym c.count_links-count.ensures ∙ c.if-count-eq0.true))
 
 pub returns : goal.returns
-returns c = sym (chain-unknown (first_of (out-Chain c.args.chain.now).first) (out-Chain c.args.chain.now).rest.items c.args.length c.args.stride (λ e. c.if-count-eq0.false (c.count_links-count.ensures ∙ e)))
+returns c = sym (chain-unknown (first_operand_of (out-Chain c.args.chain.now).first) (out-Chain c.args.chain.now).rest.items c.args.length c.args.stride (λ e. c.if-count-eq0.false (c.count_links-count.ensures ∙ e)))

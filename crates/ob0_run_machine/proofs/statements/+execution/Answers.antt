@@ -4,7 +4,7 @@ use Rattle.ob0_run_machine.specs.declared.code.Comparator.TheVariants.{Less}
 use Rattle.ob0_run_machine.specs.declared.code.Instruction.{Increase}
 use Rattle.std.proofs.lemmas.Result.{err_from_is_err_and}
 use Rattle.ob0_run_machine.specs.Levels.{levels_of}
-use Rattle.ob0_run_machine.specs.View.{statement_of, variable_relation}
+use Rattle.ob0_run_machine.specs.View.{statement_of, variable_comparison}
 use Rattle.ob0_run_machine.proofs.Executing.{before_last, branch_taken, branches_begin, does_statement, ending_by, branches_end, branches_fail, branches_on, if_fails, if_passed, if_taken, leaving, loop_as, repeat_begins, repeat_body_fails, repeat_bound, repeat_ends, repeat_fails, repeat_on, sequence_begins, sequence_ends, sequence_fails, sequence_on, settled, steps_as, then_last, turn_made, while_begins, while_body_fails, while_bound, while_ends, while_fails, while_on}
 use Rattle.ob0_run_machine.proofs.Viewed.{if_made, repeat_made, while_made}
 use Rattle.ob0_run_machine.proofs.statements.+execution.Goals as goal
@@ -17,8 +17,8 @@ pub run_conditional-returns-then-branch : goal.run_conditional-returns-then-bran
 run_conditional-returns-then-branch g t c = if_taken c.args.turns (levels_of c.args.level.now) c.args.i.now c.run_sequence.result _ (settled c.in_ok-evaluate_condition.ensures c.if-branch.true) c.deref.ensures.value c.run_sequence.ensures
 
 pub run_conditional-returns-then-count-eq0 : goal.run_conditional-returns-then-count-eq0
-run_conditional-returns-then-count-eq0 g t c = if_passed c.args.turns (levels_of c.args.level.now) c.args.i.now c.run_unless_empty.result (settled c.in_ok-evaluate_condition.ensures c.if-branch.false)
-    (branches_end {t = c.args.turns} {ls = levels_of c.args.level.now} c.run_unless_empty.result _ (branches_begin c.as_slice-others.ensures.value) (omega (arith, c.if-count-eq0.true)) c.deref-then-count-eq0.ensures.value c.run_unless_empty.ensures)
+run_conditional-returns-then-count-eq0 g t c = if_passed c.args.turns (levels_of c.args.level.now) c.args.i.now c.run_sequence_unless_empty.result (settled c.in_ok-evaluate_condition.ensures c.if-branch.false)
+    (branches_end {t = c.args.turns} {ls = levels_of c.args.level.now} c.run_sequence_unless_empty.result _ (branches_begin c.as_slice-others.ensures.value) (omega (arith, c.if-count-eq0.true)) c.deref-then-count-eq0.ensures.value c.run_sequence_unless_empty.ensures)
 
 pub run_conditional-returns : goal.run_conditional-returns
 run_conditional-returns g t c = if_passed c.args.turns (levels_of c.args.level.now) c.args.i.now c.run_elsifs.result (settled c.in_ok-evaluate_condition.ensures c.if-branch.false) c.run_elsifs.ensures
@@ -39,7 +39,7 @@ run_elsifs-loop-branch-preserved g t c =
     branches_on c.branch-item.result c.loop-branch.invariant c.loop-branch-test.true c.branch-item.is (settled c.in_ok-evaluate_condition.ensures c.if-branch.false)
 
 pub run_elsifs-returns : goal.run_elsifs-returns
-run_elsifs-returns g t c = branches_end c.run_unless_empty.result _ c.loop-branch.invariant c.loop-branch-test.false c.deref-2.ensures.value c.run_unless_empty.ensures
+run_elsifs-returns g t c = branches_end c.run_sequence_unless_empty.result _ c.loop-branch.invariant c.loop-branch-test.false c.deref-2.ensures.value c.run_sequence_unless_empty.ensures
 
 pub run_general_while-loop-left-init : goal.run_general_while-loop-left-init
 run_general_while-loop-left-init g t c = while_begins
@@ -74,8 +74,8 @@ run_sequence_inline-loop-s-preserved g t c = sequence_on c.in_ok-run_statement.f
 pub run_sequence_inline-returns : goal.run_sequence_inline-returns
 run_sequence_inline-returns g t c = sequence_ends tt c.loop-s.invariant c.loop-s-test.false
 
-pub run_unless_empty-returns-then-count-eq0 : goal.run_unless_empty-returns-then-count-eq0
-run_unless_empty-returns-then-count-eq0 g t c = sequence_ends {t = c.args.turns} {ls = levels_of c.args.level.now} {xs = c.args.statements.now} tt sequence_begins (omega (arith, c.if-count-eq0.true))
+pub run_sequence_unless_empty-returns-then-count-eq0 : goal.run_sequence_unless_empty-returns-then-count-eq0
+run_sequence_unless_empty-returns-then-count-eq0 g t c = sequence_ends {t = c.args.turns} {ls = levels_of c.args.level.now} {xs = c.args.statements.now} tt sequence_begins (omega (arith, c.if-count-eq0.true))
 
 pub run_statement-returns-in-If : goal.run_statement-returns-in-If
 run_statement-returns-in-If g t c = does_statement c.args.turns (levels_of c.args.level.now) (sym (ap statement_of c.in-If.is ∙ if_made c.in-If.i)) c.run_conditional.ensures
@@ -109,32 +109,32 @@ pub run_repeat-loop-machine-preserved : goal.run_repeat-loop-machine-preserved
 run_repeat-loop-machine-preserved g t c =
     repeat_on (turn_made c.in_ok-run_sequence_inline.field-0 _ c.loop-machine.invariant c.deref.ensures.value c.in_ok-run_sequence_inline.ensures) (settled c.in_ok-evaluate_condition.ensures c.if-branch.false) c.if-further-eq0.false
 
-pub run_counted_body-returns-in_err-run_sequence_inline : goal.run_counted_body-returns-in_err-run_sequence_inline
-run_counted_body-returns-in_err-run_sequence_inline g t c = λ v found. leaving (err_from_is_err_and c.from_residual.result c.from_residual.ensures.1)
+pub run_counting_loop_body-returns-in_err-run_sequence_inline : goal.run_counting_loop_body-returns-in_err-run_sequence_inline
+run_counting_loop_body-returns-in_err-run_sequence_inline g t c = λ v found. leaving (err_from_is_err_and c.from_residual.result c.from_residual.ensures.1)
     (before_last c.args.turns (levels_of c.args.level.now) c.args.statements.now c.in_err-run_sequence_inline.field-0.0 (Increase v c.args.by) c.in_err-run_sequence_inline.ensures)
 
-pub run_counted_body-returns : goal.run_counted_body-returns
-run_counted_body-returns g t c = λ v found. then_last c.args.turns (levels_of c.args.level.now) c.args.statements.now c.in_ok-run_sequence_inline.field-0 (Increase v c.args.by) c.in_ok-run_sequence_inline.ensures
+pub run_counting_loop_body-returns : goal.run_counting_loop_body-returns
+run_counting_loop_body-returns g t c = λ v found. then_last c.args.turns (levels_of c.args.level.now) c.args.statements.now c.in_ok-run_sequence_inline.field-0 (Increase v c.args.by) c.in_ok-run_sequence_inline.ensures
     (record { has_effect = λ enters p. steps_as enters c.args.turns (levels_of c.args.level.now) v c.increase_or_stop.result _ _ (to_z-of_z c.ranges.by) (c.increase_or_stop.ensures enters c.args.turns (levels_of c.args.level.now) v (found _)) })
 
 pub run_counting_loop-again-init : goal.run_counting_loop-again-init
 run_counting_loop-again-init g t c = λ n known. while_begins
 
-pub run_counting_loop-returns-then-not-is_below : goal.run_counting_loop-returns-then-not-is_below
-run_counting_loop-returns-then-not-is_below g t c = λ n known. loop_as c.args.turns (levels_of c.args.level.now) (variable_relation Less c.args.condition.variable n) c.args.increased c.args.statements.now (to_z-of_z c.ranges.by)
-    (while_ends tt (c.again.invariant n known) (settled (c.is_below.ensures (levels_of c.args.level.now) c.args.condition.variable n (c.variable_address-compared.ensures _) (known _)) c.if-not-is_below.true))
+pub run_counting_loop-returns-then-not-is_below_limit : goal.run_counting_loop-returns-then-not-is_below_limit
+run_counting_loop-returns-then-not-is_below_limit g t c = λ n known. loop_as c.args.turns (levels_of c.args.level.now) (variable_comparison Less c.args.condition.variable n) c.args.increased c.args.statements.now (to_z-of_z c.ranges.by)
+    (while_ends tt (c.again.invariant n known) (settled (c.is_below_limit.ensures (levels_of c.args.level.now) c.args.condition.variable n (c.variable_address-compared.ensures _) (known _)) c.if-not-is_below_limit.true))
 
 pub run_counting_loop-returns-then-left-eq0 : goal.run_counting_loop-returns-then-left-eq0
-run_counting_loop-returns-then-left-eq0 g t c = λ n known. loop_as c.args.turns (levels_of c.args.level.now) (variable_relation Less c.args.condition.variable n) c.args.increased c.args.statements.now (to_z-of_z c.ranges.by)
-    (while_bound (c.again.invariant n known) (settled (c.is_below.ensures (levels_of c.args.level.now) c.args.condition.variable n (c.variable_address-compared.ensures _) (known _)) c.if-not-is_below.false) c.if-left-eq0.true)
+run_counting_loop-returns-then-left-eq0 g t c = λ n known. loop_as c.args.turns (levels_of c.args.level.now) (variable_comparison Less c.args.condition.variable n) c.args.increased c.args.statements.now (to_z-of_z c.ranges.by)
+    (while_bound (c.again.invariant n known) (settled (c.is_below_limit.ensures (levels_of c.args.level.now) c.args.condition.variable n (c.variable_address-compared.ensures _) (known _)) c.if-not-is_below_limit.false) c.if-left-eq0.true)
 
 pub run_counting_loop-again-preserved : goal.run_counting_loop-again-preserved
-run_counting_loop-again-preserved g t c = λ n known. while_on c.in_ok-run_counted_body.field-0 _ (c.again.invariant n known)
-    (settled (c.is_below.ensures (levels_of c.args.level.now) c.args.condition.variable n (c.variable_address-compared.ensures _) (known _)) c.if-not-is_below.false) c.if-left-eq0.false refl
-    (c.in_ok-run_counted_body.ensures c.args.increased (λ cells. c.variable_address-changed.ensures cells))
+run_counting_loop-again-preserved g t c = λ n known. while_on c.in_ok-run_counting_loop_body.field-0 _ (c.again.invariant n known)
+    (settled (c.is_below_limit.ensures (levels_of c.args.level.now) c.args.condition.variable n (c.variable_address-compared.ensures _) (known _)) c.if-not-is_below_limit.false) c.if-left-eq0.false refl
+    (c.in_ok-run_counting_loop_body.ensures c.args.increased (λ cells. c.variable_address-changed.ensures cells))
 
-pub run_counting_loop-returns-in_err-run_counted_body : goal.run_counting_loop-returns-in_err-run_counted_body
-run_counting_loop-returns-in_err-run_counted_body g t c = λ n known. leaving (err_from_is_err_and c.from_residual.result c.from_residual.ensures.1)
-    (loop_as c.args.turns (levels_of c.args.level.now) (variable_relation Less c.args.condition.variable n) c.args.increased c.args.statements.now (to_z-of_z c.ranges.by) (while_body_fails c.in_err-run_counted_body.field-0.0 _ (c.again.invariant n known)
-    (settled (c.is_below.ensures (levels_of c.args.level.now) c.args.condition.variable n (c.variable_address-compared.ensures _) (known _)) c.if-not-is_below.false) c.if-left-eq0.false refl
-    (c.in_err-run_counted_body.ensures c.args.increased (λ cells. c.variable_address-changed.ensures cells))))
+pub run_counting_loop-returns-in_err-run_counting_loop_body : goal.run_counting_loop-returns-in_err-run_counting_loop_body
+run_counting_loop-returns-in_err-run_counting_loop_body g t c = λ n known. leaving (err_from_is_err_and c.from_residual.result c.from_residual.ensures.1)
+    (loop_as c.args.turns (levels_of c.args.level.now) (variable_comparison Less c.args.condition.variable n) c.args.increased c.args.statements.now (to_z-of_z c.ranges.by) (while_body_fails c.in_err-run_counting_loop_body.field-0.0 _ (c.again.invariant n known)
+    (settled (c.is_below_limit.ensures (levels_of c.args.level.now) c.args.condition.variable n (c.variable_address-compared.ensures _) (known _)) c.if-not-is_below_limit.false) c.if-left-eq0.false refl
+    (c.in_err-run_counting_loop_body.ensures c.args.increased (λ cells. c.variable_address-changed.ensures cells))))

@@ -1,8 +1,8 @@
 use Rattle.ob0_run_machine.specs.Levels.{levels_of}
 use Rattle.std.proofs.Common.{[], ◌∷◌, ◌++◌}
-use Rattle.ob0_run_machine.specs.CountingLoops.{HasLimit}
+use Rattle.ob0_run_machine.specs.CountingLoops.{IsCountingLimit}
 use Rattle.ob0_run_machine.specs.Lowered as lowered
-use Rattle.ob0_run_machine.specs.View.{variable_relation, truth_of}
+use Rattle.ob0_run_machine.specs.View.{variable_comparison, truth_of}
 use Rattle.ob0_run_machine.specs.declared.code.Comparator.TheVariants.{Less}
 use Rattle.ob0_run_machine.specs.declared.code.Instruction.{Increase}
 use Rattle.ob0_run_machine.proofs.Executing.{InBranches, InRepeat, InSequence, InWhile}
@@ -18,7 +18,7 @@ abbrev pub decreases-run_general_while-loop-left : goal.decreases-run_general_wh
 decreases-run_general_while-loop-left g l = l.left
 
 abbrev pub invariant-run_counting_loop-again : goal.invariant-run_counting_loop-again
-invariant-run_counting_loop-again g l = (n : lowered.Number) → HasLimit (levels_of l.level) n l.fn.condition.limit → InWhile (goal.F-post g l.enter) l.fn.machine l.machine l.turns (levels_of l.level) (variable_relation Less l.fn.condition.variable n) (l.statements ++ Increase l.fn.increased l.fn.by ∷ []) l.left
+invariant-run_counting_loop-again g l = (n : lowered.Number) → IsCountingLimit (levels_of l.level) n l.fn.condition.limit → InWhile (goal.F-post g l.enter) l.fn.machine l.machine l.turns (levels_of l.level) (variable_comparison Less l.fn.condition.variable n) (l.statements ++ Increase l.fn.increased l.fn.by ∷ []) l.left
 
 abbrev pub decreases-run_counting_loop-again : goal.decreases-run_counting_loop-again
 decreases-run_counting_loop-again g l = l.left

@@ -6,8 +6,8 @@ use Rattle.ob0_scan.specs.RescanState.{scan_with_new_middle}
 use Rattle.ob0_scan.proofs.Alike.{kinds_stay}
 use Rattle.ob0_scan.proofs.Named.{back_written, front_written, names_stay, words_stay}
 use Rattle.ob0_scan.proofs.SameKinds.{joined_length, joined_tokens, same_tokens}
-use Rattle.ob0_scan.specs.SameKinds.{HasSameKinds, HasSameWords}
-use Rattle.ob0_scan.specs.declared.tokens.SameParts.{SameParts}
+use Rattle.ob0_scan.specs.SameKinds.{PrefixAndSuffixHaveSameKinds, PrefixAndSuffixHaveSameWords}
+use Rattle.ob0_scan.specs.declared.tokens.CommonPrefixAndSuffix.{CommonPrefixAndSuffix}
 use Rattle.ob0_scan.proofs.incremental_scan.rescan_in_place.Goals as goal
 
 pub replace_middle-requires-clause-between : goal.replace_middle-requires-clause-between
@@ -29,7 +29,7 @@ returns-in_ok-tokens-in-Ok-clause-alike c =
     let b = c.in-Ok.between in
     λ alike. ap (λ (s : TextWithTokens). kinds s.tokens) c.in_ok-tokens-in-Ok.ensures
     ∙ kinds_stay c.args.old.tokens b.tokens.items b.old_start.tokens b.old_end.tokens c.args.removed c.args.added c.in-Ok.ensures.ok.tokens_ordered
-    (c.has_kinds_of_replaced-same_kinds.ensures alike
+    (c.has_same_kinds_as_replaced-same_kinds.ensures alike
     ∙ ap (λ (l : List Token). kinds (take (b.old_end.tokens - b.old_start.tokens) (drop b.old_start.tokens l))) c.tokens.ensures)
 
 pub returns-in_ok-tokens-in-Ok-clause-same_names : goal.returns-in_ok-tokens-in-Ok-clause-same_names
@@ -37,14 +37,14 @@ returns-in_ok-tokens-in-Ok-clause-same_names c =
     let b = c.in-Ok.between in
     λ same. ap (λ (s : TextWithTokens). names_in s.text s.tokens) c.in_ok-tokens-in-Ok.ensures
     ∙ names_stay c.args.old c.args.new_text.now c.args.from c.args.removed c.args.added b c.requires c.in-Ok.ensures.ok
-    (c.has_names_of_replaced-same_names.ensures same)
+    (c.has_same_names_as_replaced-same_names.ensures same)
 
 pub returns-in_ok-tokens-in-Ok-clause-same_words : goal.returns-in_ok-tokens-in-Ok-clause-same_words
 returns-in_ok-tokens-in-Ok-clause-same_words c =
     let b = c.in-Ok.between in
     λ same. ap (λ (s : TextWithTokens). words_of_tokens s.text s.tokens) c.in_ok-tokens-in-Ok.ensures
     ∙ words_stay c.args.old c.args.new_text.now c.args.from c.args.removed c.args.added b c.requires c.in-Ok.ensures.ok
-    (c.has_words_of_replaced-same_words.ensures same)
+    (c.has_same_words_as_replaced-same_words.ensures same)
 
 pub returns-in_ok-tokens-in-Ok-clause-same : goal.returns-in_ok-tokens-in-Ok-clause-same
 returns-in_ok-tokens-in-Ok-clause-same c =
@@ -52,11 +52,11 @@ returns-in_ok-tokens-in-Ok-clause-same c =
     let old : List Token = c.args.old.tokens in
     let new : TextWithTokens = c.in_ok-tokens-in-Ok.tokens in
     let last : ℕ = b.old_end.tokens in
-    let s : SameParts = record { prefix = b.old_start.tokens; old_suffix = last; new_suffix = length c.tokens-in-Ok-2.result.now - (length c.tokens-in-Ok.result.now - last) } in
+    let s : CommonPrefixAndSuffix = record { prefix = b.old_start.tokens; old_suffix = last; new_suffix = length c.tokens-in-Ok-2.result.now - (length c.tokens-in-Ok.result.now - last) } in
     let is : new.tokens ≡ joined_tokens old b.tokens.items b.old_start.tokens last c.args.removed c.args.added = ap (λ (s : TextWithTokens). s.tokens) c.in_ok-tokens-in-Ok.ensures in
     let counts : s.new_suffix ≡ length (joined_tokens old b.tokens.items b.old_start.tokens last c.args.removed c.args.added) - (length old - last) =
     ap₂ (λ (x y : List Token). length x - (length y - last)) (c.tokens-in-Ok-2.ensures ∙ is) c.tokens-in-Ok.ensures in
-    subst (λ (l : List Token). HasSameKinds s old l) (sym is)
+    subst (λ (l : List Token). PrefixAndSuffixHaveSameKinds s old l) (sym is)
     (same_tokens old b.tokens.items b.old_start.tokens last c.args.removed c.args.added s c.in-Ok.ensures.ok.tokens_ordered c.in-Ok.ensures.ok.tokens_inside refl refl counts)
 
 pub returns-in_ok-tokens-in-Ok-clause-written : goal.returns-in_ok-tokens-in-Ok-clause-written
@@ -67,12 +67,12 @@ returns-in_ok-tokens-in-Ok-clause-written c =
     let whole = scan_with_new_middle old c.args.new_text.now c.args.removed c.args.added b in
     let w = c.in-Ok.ensures.ok in
     let last : ℕ = b.old_end.tokens in
-    let s : SameParts = record { prefix = b.old_start.tokens; old_suffix = last; new_suffix = length c.tokens-in-Ok-2.result.now - (length c.tokens-in-Ok.result.now - last) } in
+    let s : CommonPrefixAndSuffix = record { prefix = b.old_start.tokens; old_suffix = last; new_suffix = length c.tokens-in-Ok-2.result.now - (length c.tokens-in-Ok.result.now - last) } in
     let counts : s.new_suffix ≡ length whole.tokens - (length old.tokens - last) =
     ap₂ (λ (x y : List Token). length x - (length y - last)) (c.tokens-in-Ok-2.ensures ∙ ap (λ (s : TextWithTokens). s.tokens) c.in_ok-tokens-in-Ok.ensures) c.tokens-in-Ok.ensures in
     let inside : b.old_start.tokens ≤ length old.tokens = omega (arith, w.tokens_ordered, w.tokens_inside) in
     let at : s.new_suffix ≡ b.old_start.tokens + length b.tokens.items = omega (arith, counts, joined_length old.tokens b.tokens.items b.old_start.tokens last c.args.removed c.args.added inside, w.tokens_inside) in
-    subst (λ (n : TextWithTokens). HasSameWords s old n) (sym c.in_ok-tokens-in-Ok.ensures)
+    subst (λ (n : TextWithTokens). PrefixAndSuffixHaveSameWords s old n) (sym c.in_ok-tokens-in-Ok.ensures)
     (record {
       front = front_written old c.args.new_text.now c.args.from c.args.removed c.args.added b c.requires w;
       back = back_written old c.args.new_text.now c.args.from c.args.removed c.args.added s.new_suffix b c.requires w at;

@@ -17,7 +17,7 @@ returns-then-is_space c =
     let text = c.args.text.now in
     let same = c.as_bytes-bytes.ensures.value in
     let head = subst (λ t. is_space (get_or t 0 0) ≡ true) same (sym c.if-is_space.ensures) in
-    subst (StartsWithLexeme text lexeme.Space) (sym (c.space_len.ensures ∙ ap (prefix_len is_space) same)) (space_first text head c.requires)
+    subst (StartsWithLexeme text lexeme.Space) (sym (c.leading_space_len.ensures ∙ ap (prefix_len is_space) same)) (space_first text head c.requires)
 
 -- If `starts_with` is false, the text doesn't begin with the pair `(*`
 no_pair : (text : List ℕ) → false ≡ starts_with eqb text (40 ∷ 42 ∷ []) → take 2 text ≢ 40 ∷ 42 ∷ []

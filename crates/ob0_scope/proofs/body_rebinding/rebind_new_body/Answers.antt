@@ -12,8 +12,8 @@ use Rattle.ob0_scope.specs.Carried.{NamesInBody, with_identifier}
 use Rattle.ob0_scope.proofs.NewBody.{names_walked}
 use Rattle.ob0_scope.proofs.body_rebinding.rebind_new_body.Goals as goal
 
-pub carry_unchanged_bindings-requires : goal.carry_unchanged_bindings-requires
-carry_unchanged_bindings-requires c =
+pub rebind_body_range-requires : goal.rebind_body_range-requires
+rebind_body_range-requires c =
     let t = tree_of c.args.read.now in
     let low = c.args.same.prefix in
     let found = body_of c.find_body_in_block-found.result.statements.now in

@@ -12,7 +12,7 @@ returns-in-Some c =
     let table = c.in_ok-ordinals in
     let changed = ap (λ (os : List (Option ℕ)). position_from (λ token. not (have_same_binding (ordinal_in os token) (ordinal_in r.ordinals token))) 0 r.uses) c.deref.ensures.value
     ∙ first_changed_is r c.args.declaration c.args.new.now table.ordinals.items table.ensures.resolved table.ensures.renumbered in
-    ap (option_map Occurrence) (sym c.in-Some.is ∙ (c.first_changed_occurrence.ensures ∙ changed))
+    ap (option_map Occurrence) (sym c.in-Some.is ∙ (c.first_rebound_occurrence.ensures ∙ changed))
 
 pub returns : goal.returns
 returns c =
@@ -20,4 +20,4 @@ returns c =
     let table = c.in_ok-ordinals in
     let changed = ap (λ (os : List (Option ℕ)). position_from (λ token. not (have_same_binding (ordinal_in os token) (ordinal_in r.ordinals token))) 0 r.uses) c.deref.ensures.value
     ∙ first_changed_is r c.args.declaration c.args.new.now table.ordinals.items table.ensures.resolved table.ensures.renumbered in
-    ap (option_map Occurrence) (sym c.in-None.is ∙ (c.first_changed_occurrence.ensures ∙ changed))
+    ap (option_map Occurrence) (sym c.in-None.is ∙ (c.first_rebound_occurrence.ensures ∙ changed))

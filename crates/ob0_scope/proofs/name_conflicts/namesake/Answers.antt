@@ -12,4 +12,4 @@ returns c =
     let block = c.block.ensures ∙ (λ i. (c.module.ensures.value i).block) in
     let searched = (λ i. namesake_in_block (record { source = c.tokens.ensures i; ordinals = ordinals i; declaration = c.args.declaration; new = c.args.new.now }) (c.new.ensures.items i) (block_of (block i)))
     ∙ namesake_found r c.args.declaration c.args.new.now c.module.ensures.resolved in
-    MatchResult-weaker c.find_in_block.result c.find_in_block.ensures (λ other e. e ∙ searched) (λ y h. h)
+    MatchResult-weaker c.find_namesake_in_block.result c.find_namesake_in_block.ensures (λ other e. e ∙ searched) (λ y h. h)

@@ -8,7 +8,7 @@ use Rattle.ob0_edits_tokens.specs.Ranges.{range_of}
 use Rattle.ob0_rpc.specs.MessageViews.{id_data}
 use Rattle.ob0_rpc.specs.Shapes.{result_message}
 use Rattle.ob0_rpc.specs.Writing.{FitsInMessage, Writes}
-use Rattle.ob0_session_json.specs.Shapes.{range_location}
+use Rattle.ob0_session_json.specs.Shapes.{range_location_value}
 use Rattle.ob0_session_answers.proofs.Naming.{locations_can_be_sent}
 use Rattle.ob0_session_answers.proofs.questions.locations_answer.Goals as goal
 
@@ -16,7 +16,7 @@ pub returns : goal.returns
 returns g c =
     let unit = g.T.TextStore.unit_of c.args.store.now in
     let text = g.T.TextStore.content c.args.store.now in
-    let shown = range_location c.args.uri.now in
+    let shown = range_location_value c.args.uri.now in
     let placed = range_of (width_of unit) text in
     let found = c.as_slice-ranges.ensures.value ∙ c.in_ok-ranges.ensures in
     let same = ap (λ rs. array (items_of (map shown rs))) found ∙ ap (λ ds. array (items_of ds)) (map-map shown placed c.args.spans.now) in

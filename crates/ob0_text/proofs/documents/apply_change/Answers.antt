@@ -1,7 +1,7 @@
 use Rattle.std.proofs.Common.{◌≡◌, sym, ap, ◌∙◌, refl, Some}
 use Rattle.std.specs.Str.{chars}
 use Rattle.ob0_text.specs.declared.position_types.Unit.{Unit}
-use Rattle.ob0_text.specs.Patches.{with_range_replaced}
+use Rattle.ob0_text.specs.Patches.{text_with_range_replaced}
 use Rattle.ob0_text.specs.Units.{width_of}
 use Rattle.ob0_text.specs.OpenDocuments.{changed_text}
 use Rattle.ob0_text.proofs.documents.apply_change.Goals as goal
@@ -15,7 +15,7 @@ unfolding changed_text
 returns-in_ok-replace_at-in-Some-text-clause-ok g c =
     let same : g.T.TextStore.unit_of c.in-Some-text.text ≡ c.args.unit = c.requires _ c.in-Some-text.is in
     rw (c.in-Some.is, c.in-Some-text.is, ← c.as_str-in-Some-text.ensures.value)
-    (sym (ap (λ (u : Unit). with_range_replaced (width_of u) (g.T.TextStore.content c.in-Some-text.text) c.in-Some.range (chars c.as_str-in-Some-text.result.now)) (sym same)
+    (sym (ap (λ (u : Unit). text_with_range_replaced (width_of u) (g.T.TextStore.content c.in-Some-text.text) c.in-Some.range (chars c.as_str-in-Some-text.result.now)) (sym same)
     ∙ c.in_ok-replace_at-in-Some-text.ensures.ok))
 
 pub returns-in-None-text-clause-ok : goal.returns-in-None-text-clause-ok

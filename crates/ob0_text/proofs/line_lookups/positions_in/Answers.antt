@@ -8,7 +8,7 @@ use Rattle.ob0_text.proofs.line_lookups.positions_in.Goals as goal
 
 pub advance_to_offset-place-requires-clause-place : goal.advance_to_offset-place-requires-clause-place
 advance_to_offset-place-requires-clause-place c =
-    c.nearest_place_before-from.ensures.place c.args.unit c.loop-offset.invariant.place
+    c.pass_start_for_offset-from.ensures.place c.args.unit c.loop-offset.invariant.place
 
 pub loop-offset-preserved : goal.loop-offset-preserved
 loop-offset-preserved c = record {

@@ -1,5 +1,5 @@
 use Rattle.std.proofs.Common.{◌≡◌, ◌+◌, ◌<◌, ◌∷◌, ◌++◌, [], length, refl, sym, ap, ◌∙◌, arith, length-append}
-use Rattle.ob0_text.specs.LineStarts.{stored_starts}
+use Rattle.ob0_text.specs.LineStarts.{starts_in_front_and_back}
 use Rattle.ob0_text.proofs.LineTables.{last_within, moved_left}
 use Rattle.ob0_text.proofs.line_table.move_starts_to_back.Goals as goal
 
@@ -12,7 +12,7 @@ loop-front-init c = record {
 }
 
 pub returns-in_err-reserve-clause-same : goal.returns-in_err-reserve-clause-same
-returns-in_err-reserve-clause-same c = ap (stored_starts c.args.len c.args.front.now.items) c.reserve.ensures.items
+returns-in_err-reserve-clause-same c = ap (starts_in_front_and_back c.args.len c.args.front.now.items) c.reserve.ensures.items
 
 pub push_reserved-requires : goal.push_reserved-requires
 push_reserved-requires c = omega (arith, c.loop-front.invariant.room, c.loop-front-test.true, c.len-in-loop-front.ensures, c.loop-front.front.ok.0)
@@ -25,19 +25,19 @@ loop-front-preserved c =
     let d = c.saturating_sub.result in
     let popped : v.front.items ≡ front ++ (s ∷ []) = c.in-Some.ensures.items in
     let long : length v.front.items ≡ length front + 1 = ap length popped ∙ length-append front (s ∷ []) in
-    let before : stored_starts c.args.len (front ++ (s ∷ [])) v.back.items ≡ stored_starts c.args.len c.args.front.now.items c.reserve.new.self.items =
-    ap (λ f. stored_starts c.args.len f v.back.items) (sym popped) ∙ v.invariant.same in
-    let low : s < c.args.len + 1 = last_within c.args.len (c.args.len + 1) _ front v.back.items s c.requires (before ∙ ap (stored_starts c.args.len c.args.front.now.items) c.reserve.ensures.items) in
+    let before : starts_in_front_and_back c.args.len (front ++ (s ∷ [])) v.back.items ≡ starts_in_front_and_back c.args.len c.args.front.now.items c.reserve.new.self.items =
+    ap (λ f. starts_in_front_and_back c.args.len f v.back.items) (sym popped) ∙ v.invariant.same in
+    let low : s < c.args.len + 1 = last_within c.args.len (c.args.len + 1) _ front v.back.items s c.requires (before ∙ ap (starts_in_front_and_back c.args.len c.args.front.now.items) c.reserve.ensures.items) in
     let pushed : c.push_reserved.new.self.items ≡ v.back.items ++ (d ∷ []) = c.push_reserved.ensures.items in
     record {
-      same = ap (stored_starts c.args.len front) pushed ∙ moved_left c.args.len front v.back.items s d c.saturating_sub.ensures (omega (arith, low)) ∙ before;
+      same = ap (starts_in_front_and_back c.args.len front) pushed ∙ moved_left c.args.len front v.back.items s d c.saturating_sub.ensures (omega (arith, low)) ∙ before;
       least = omega (arith, long, v.invariant.least, c.loop-front-test.true, c.len-in-loop-front.ensures, v.front.ok.0);
       most = omega (arith, long, v.invariant.most);
       room = omega (arith, long, v.invariant.room, c.push_reserved.ensures.len, c.push_reserved.ensures.capacity, c.loop-front-test.true, c.len-in-loop-front.ensures, v.front.ok.0);
     }
 
 pub returns-clause-same : goal.returns-clause-same
-returns-clause-same c = c.loop-front.invariant.same ∙ ap (stored_starts c.args.len c.args.front.now.items) c.reserve.ensures.items
+returns-clause-same c = c.loop-front.invariant.same ∙ ap (starts_in_front_and_back c.args.len c.args.front.now.items) c.reserve.ensures.items
 
 pub returns-clause-left : goal.returns-clause-left
 returns-clause-left c =

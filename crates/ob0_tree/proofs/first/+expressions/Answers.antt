@@ -6,7 +6,7 @@ use Rattle.ob0_tree.specs.declared.tree.Term.{Term, out-Term}
 use Rattle.ob0_tree.specs.declared.tree.Role.TheVariants as role
 use Rattle.ob0_tree.specs.FirstIdentifier.{first_identifier}
 use Rattle.ob0_tree.specs.Tree.{identifiers}
-use Rattle.ob0_tree.specs.View.{addend_of, factor_of, items_of, multiplier_of, simple_of, term_of}
+use Rattle.ob0_tree.specs.View.{addend_of, factor_of, items_of, multiplier_of, simple_expression_of, term_of}
 use Rattle.ob0_tree.proofs.Firsts.{found_first, found_here, found_later, none_found, seeks_on}
 use Rattle.ob0_tree.proofs.Viewed.{addend_parts, simple_parts, term_parts}
 use Rattle.ob0_tree.proofs.first.+expressions.Goals as goal
@@ -14,7 +14,7 @@ use Rattle.ob0_tree.proofs.first.+expressions.Goals as goal
 -- If the first term has no identifier, the first identifier of the further terms is the first one
 -- of the simple expression.
 further_terms : (s : SimpleExpression) (xs : List Addend) {found : Option ℕ} → found ≡ first_identifier (term_of (out-SimpleExpression s).first) → is_some found ≡ false → xs ≡ (out-SimpleExpression s).more.items
-    → first_identifier (items_of addend_of xs) ≡ first_identifier (simple_of s)
+    → first_identifier (items_of addend_of xs) ≡ first_identifier (simple_expression_of s)
 further_terms s xs e none same =
     ap (λ ys. first_identifier (items_of addend_of ys)) same
     ∙ (found_later (identifiers role.Declaring (term_of (out-SimpleExpression s).first)) (identifiers role.Declaring (items_of addend_of (out-SimpleExpression s).more.items)) e none

@@ -9,24 +9,24 @@ use Rattle.ob0_tree.specs.declared.tree.SimpleExpression.{out-SimpleExpression}
 use Rattle.ob0_tree.specs.declared.tree.Term.{out-Term}
 use Rattle.ob0_tree.specs.declared.tree.Role.TheVariants as role
 use Rattle.ob0_tree.specs.Tree.{compares, identifiers, one, relates}
-use Rattle.ob0_tree.specs.View.{items_of, addend_of, maybe_comparison_of, comparison_of, multiplier_of, term_of, factor_of, simple_of, compound_of}
+use Rattle.ob0_tree.specs.View.{items_of, addend_of, maybe_comparison_of, comparison_of, multiplier_of, term_of, factor_of, simple_expression_of, compound_expression_of}
 use Rattle.ob0_tree.specs.Visited.{state_after_identifiers, state_after_visit}
 use Rattle.ob0_tree.proofs.Visits.{all_visited, then_visited, visits_on}
 use Rattle.ob0_tree.proofs.walk.+expressions.Goals as goal
 
-comparison_parts : (x : Comparison) → comparison_of x ≡ relates (out-Comparison x).relation (simple_of (out-Comparison x).right)
+comparison_parts : (x : Comparison) → comparison_of x ≡ relates (out-Comparison x).relation (simple_expression_of (out-Comparison x).right)
 comparison_parts x = sym (ap comparison_of (roll-out-Comparison x)) ∙ comparison_made (out-Comparison x)
 
-pub walk_compound-returns-in_ok-walk_simple_expression-2 : goal.walk_compound-returns-in_ok-walk_simple_expression-2
-walk_compound-returns-in_ok-walk_simple_expression-2 g t c =
+pub walk_compound_expression-returns-in_ok-walk_simple_expression-2 : goal.walk_compound_expression-returns-in_ok-walk_simple_expression-2
+walk_compound_expression-returns-in_ok-walk_simple_expression-2 g t c =
     let x = out-CompoundExpression c.args.c.now in
     let right = c.in-Some.compared.value in
-    let tree : compound_of c.args.c.now ≡ compares (simple_of x.left) (one (relates (out-Comparison right).relation (simple_of (out-Comparison right).right))) =
+    let tree : compound_expression_of c.args.c.now ≡ compares (simple_expression_of x.left) (one (relates (out-Comparison right).relation (simple_expression_of (out-Comparison right).right))) =
     compound_parts c.args.c.now
-    ∙ (ap (λ o. compares (simple_of x.left) (maybe_comparison_of (back-CompoundExpression-compared o))) c.in-Some.is ∙ ap (λ y. compares (simple_of x.left) (one y)) (comparison_parts right)) in
+    ∙ (ap (λ o. compares (simple_expression_of x.left) (maybe_comparison_of (back-CompoundExpression-compared o))) c.in-Some.is ∙ ap (λ y. compares (simple_expression_of x.left) (one y)) (comparison_parts right)) in
     c.in_ok-walk_simple_expression-2.ensures
-    ∙ (ap (λ (x : Comparison). state_after_visit g.V.Visitor.seen (simple_of (out-Comparison x).right) c.walk_simple_expression.new.visitor) c.deref.ensures
-    ∙ (then_visited g.V.Visitor.seen c.args.visitor.now (identifiers role.Declaring (simple_of x.left)) (identifiers role.Declaring (simple_of (out-Comparison right).right)) c.in_ok-walk_simple_expression.ensures
+    ∙ (ap (λ (x : Comparison). state_after_visit g.V.Visitor.seen (simple_expression_of (out-Comparison x).right) c.walk_simple_expression.new.visitor) c.deref.ensures
+    ∙ (then_visited g.V.Visitor.seen c.args.visitor.now (identifiers role.Declaring (simple_expression_of x.left)) (identifiers role.Declaring (simple_expression_of (out-Comparison right).right)) c.in_ok-walk_simple_expression.ensures
     ∙ ap (λ t. state_after_visit g.V.Visitor.seen t c.args.visitor.now) (sym tree)))
 
 pub walk_factor-returns-in-Designator : goal.walk_factor-returns-in-Designator

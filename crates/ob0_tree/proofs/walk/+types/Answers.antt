@@ -6,5 +6,5 @@ use Rattle.ob0_tree.proofs.walk.+types.Goals as goal
 
 pub walk_type-returns-in-Record : goal.walk_type-returns-in-Record
 walk_type-returns-in-Record g t c =
-    subst (λ z. OnOk c.walk_record.result (c.walk_record.new.visitor ≡ state_after_visit g.V.Visitor.seen z c.args.visitor.now))
-    (sym (made_record_type c.in-Record.r) ∙ sym (ap type_of c.in-Record.is)) c.walk_record.ensures
+    subst (λ z. OnOk c.walk_record_type.result (c.walk_record_type.new.visitor ≡ state_after_visit g.V.Visitor.seen z c.args.visitor.now))
+    (sym (made_record_type c.in-Record.r) ∙ sym (ap type_of c.in-Record.is)) c.walk_record_type.ensures

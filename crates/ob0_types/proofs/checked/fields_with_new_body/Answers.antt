@@ -1,7 +1,7 @@
 use Rattle.std.proofs.Common.{ap, sym, ◌∙◌}
 use Rattle.ob0_tree.specs.ParsedModule.{tree_of}
 use Rattle.ob0_tree.specs.View.{body_of}
-use Rattle.ob0_scope_table.specs.BodyPlaces.{body_place_of_range}
+use Rattle.ob0_scope_table.specs.BodyPlaces.{body_bounds_of_range}
 use Rattle.ob0_types.specs.OneBody.{OneBody, body_with_token_in_module}
 use Rattle.ob0_types.proofs.FieldsKept.{none_typed, table_holds}
 use Rattle.ob0_types.proofs.FieldsWithNewBody.{fields_with_new_body}
@@ -19,7 +19,7 @@ returns c =
     let s = c.args.same in
     let w = c.requires.before in
     let here = ap (λ (b : OneBody). b.statements) (c.body_containing-body.ensures ∙ ap (λ m. body_with_token_in_module s.prefix (tree_of m)) c.module.ensures.value) in
-    let at = sym (c.body_place_in_module-found.ensures ∙ ap (λ m. body_place_of_range s.prefix s.new_suffix (tree_of m)) c.module-2.ensures.value) in
+    let at = sym (c.body_bounds_in_module-found.ensures ∙ ap (λ m. body_bounds_of_range s.prefix s.new_suffix (tree_of m)) c.module-2.ensures.value) in
     fields_with_new_body w.old r before w.path s w.replaced w.types_are c.module.ensures.resolved typed c.requires.none c.in_ok-fields.fields c.in-Some-known.table
     (table_holds r c.args.known.now c.module.ensures.resolved c.requires.known c.in-Some-known.table c.in-Some-known.is) (body_of c.body_containing-body.result.statements.now) (here ∙ (found_there r before s w).1)
     c.in-Some.place (at ∙ c.in-Some.is) c.in_ok-fields.ensures.declared c.in_ok-fields.ensures.all

@@ -1,5 +1,5 @@
 use Rattle.std.proofs.Common.{List, ℕ, length, ◌∙◌, ap, sym, subst}
-use Rattle.ob0_tree.specs.Order.{AreIdentifierTokens, AreAscending}
+use Rattle.ob0_tree.specs.Order.{AreIdentifierTokens, AreAscendingWithin}
 use Rattle.ob0_scope_table.specs.Resolution.{Resolution}
 use Rattle.ob0_types_fields.specs.Identifiers.{field_identifiers, tokens_of_field}
 use Rattle.ob0_types_fields.proofs.FieldNameList.{fields_ascend, fields_are_identifiers, kept_ascend, kept_are_identifiers}
@@ -16,7 +16,7 @@ returns-clause-ascend c =
     let source = c.tokens.ensures ∙ ap (λ (r : Resolution). r.module_read.source) c.resolved-names.ensures.value in
     let value = c.in_ok-tokens.ensures ∙ (λ i. tokens_of_field (source i) c.args.owner c.args.name.now (c.fields.ensures.1 i)) in
     let n : ℕ = length r.module_read.source.tokens in
-    subst (λ (xs : List ℕ). AreAscending 0 xs n) (sym value) (kept_ascend r.module_read.source c.args.owner c.args.name.now (field_identifiers r) 0 n (fields_ascend r c.resolved-names.ensures.well_typed.resolved.parsed))
+    subst (λ (xs : List ℕ). AreAscendingWithin 0 xs n) (sym value) (kept_ascend r.module_read.source c.args.owner c.args.name.now (field_identifiers r) 0 n (fields_ascend r c.resolved-names.ensures.well_typed.resolved.parsed))
 
 pub returns-clause-are_identifiers : goal.returns-clause-are_identifiers
 returns-clause-are_identifiers c =

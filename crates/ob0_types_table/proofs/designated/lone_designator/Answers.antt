@@ -1,5 +1,5 @@
 use Rattle.std.proofs.Common.{sym, ap, ◌∙◌}
-use Rattle.ob0_tree.specs.View.{compound_of, expression_of, factor_of}
+use Rattle.ob0_tree.specs.View.{compound_expression_of, expression_of, factor_of}
 use Rattle.ob0_language_types.specs.Typing.{lone_designator}
 use Rattle.ob0_types_table.proofs.DesignatedAlone.{one_designated}
 use Rattle.ob0_types_table.proofs.designated.lone_designator.Goals as goal
@@ -10,4 +10,4 @@ returns-in-Factor c =
 
 pub returns-in-CompoundExpression : goal.returns-in-CompoundExpression
 returns-in-CompoundExpression c =
-    c.designator_of_compound.ensures ∙ (ap (λ e. lone_designator (compound_of e)) c.deref.ensures ∙ sym (ap (λ e. lone_designator (expression_of e)) c.in-CompoundExpression.is))
+    c.designator_of_compound.ensures ∙ (ap (λ e. lone_designator (compound_expression_of e)) c.deref.ensures ∙ sym (ap (λ e. lone_designator (expression_of e)) c.in-CompoundExpression.is))

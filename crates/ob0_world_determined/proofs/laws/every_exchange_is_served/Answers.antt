@@ -2,7 +2,7 @@ use Rattle.std.specs.Prelude.{[], ◌∷◌, ◌++◌}
 use Rattle.std.proofs.Common.{◌∙◌, ap, subst}
 use Rattle.std.specs.List.{flat_map}
 use Rattle.ob0_frame.specs.Frames.{frame}
-use Rattle.ob0_session_server.specs.Answers.{start, Conversation}
+use Rattle.ob0_session_server.specs.Answers.{start, IsConversation}
 use Rattle.ob0_world.proofs.Conversing.{conversation_then}
 use Rattle.ob0_world_determined.proofs.laws.every_exchange_is_served.Goals as goal
 
@@ -21,5 +21,5 @@ returns c unit begin now turns begins leads =
           part.frames
           ∙ ap (flat_map frame)
           (c.conversation_is_determined.ensures start now.wire.taken part.sent (now.wire.got ++ now.wire.to_editor) part.after now.wire.session
-          (subst (λ contents. Conversation start contents part.sent part.after) are part.conversation) holds.conversation).0;
+          (subst (λ contents. IsConversation start contents part.sent part.after) are part.conversation) holds.conversation).0;
     }

@@ -1,7 +1,7 @@
 use Rattle.std.proofs.Common.{sym, ap, ◌∙◌, Some}
 use Rattle.std.specs.Str.{chars}
 use Rattle.ob0_text.specs.declared.position_types.Unit.{Unit}
-use Rattle.ob0_text.specs.Patches.{with_range_replaced}
+use Rattle.ob0_text.specs.Patches.{text_with_range_replaced}
 use Rattle.ob0_text.specs.Units.{width_of}
 use Rattle.ob0_text.specs.OpenDocuments.{changed_text}
 use Rattle.ob0_world_editor.proofs.texts.apply_change.Goals as goal
@@ -14,5 +14,5 @@ pub returns-in_ok-replace-in-Some-clause-ok : goal.returns-in_ok-replace-in-Some
 unfolding changed_text
 returns-in_ok-replace-in-Some-clause-ok g c =
     rw (c.in-Some.is, ← c.as_str-in-Some.ensures.value)
-    (sym (ap (λ (u : Unit). with_range_replaced (width_of u) (g.T.TextStore.content c.args.store.now) c.in-Some.range (chars c.as_str-in-Some.result.now)) c.requires)
+    (sym (ap (λ (u : Unit). text_with_range_replaced (width_of u) (g.T.TextStore.content c.args.store.now) c.in-Some.range (chars c.as_str-in-Some.result.now)) c.requires)
     ∙ c.in_ok-replace-in-Some.ensures.ok)

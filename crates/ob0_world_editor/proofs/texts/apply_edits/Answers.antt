@@ -7,9 +7,9 @@ use Rattle.ob0_world_editor.proofs.texts.apply_edits.Goals as goal
 pub returns-in-Ok : goal.returns-in-Ok
 returns-in-Ok g c =
     edited_as_patched c.args.unit _ c.args.edits.now
-    ∙ sym (λ i. patches.patched (width_of (c.in_ok-store.ensures.unit i)) (c.in_ok-store.ensures.content i) c.args.edits.now) ∙ c.in-Ok.ensures.ok
+    ∙ sym (λ i. patches.patched_text (width_of (c.in_ok-store.ensures.unit i)) (c.in_ok-store.ensures.content i) c.args.edits.now) ∙ c.in-Ok.ensures.ok
 
 pub returns-in-Overlap : goal.returns-in-Overlap
 returns-in-Overlap g c =
     edited_as_patched c.args.unit _ c.args.edits.now
-    ∙ sym (λ i. patches.patched (width_of (c.in_ok-store.ensures.unit i)) (c.in_ok-store.ensures.content i) c.args.edits.now) ∙ c.in-Err.ensures.overlap (ap Err c.in-Overlap.is)
+    ∙ sym (λ i. patches.patched_text (width_of (c.in_ok-store.ensures.unit i)) (c.in_ok-store.ensures.content i) c.args.edits.now) ∙ c.in-Err.ensures.overlap (ap Err c.in-Overlap.is)

@@ -4,7 +4,7 @@ use Rattle.ob0_world_editor.proofs.writing.did_change.Goals as goal
 
 pub returns : goal.returns
 returns c =
-    if_ok c.notification_of.result (λ content sent.
+    if_ok c.notification_text.result (λ content sent.
     changing_reported content.items c.args.uri.now c.args.version c.args.changes.now c.requires
     (sent (record { shallow = shallow_change_params c.args.uri.now c.args.version c.args.changes.now })).reads)
-    c.notification_of.ensures
+    c.notification_text.ensures

@@ -5,7 +5,7 @@ use Rattle.ob0_world_editor.proofs.writing.did_change_whole_text.Goals as goal
 
 pub returns : goal.returns
 returns c =
-    let sent_all = rw c.as_slice-changes.ensures at c.notification_of.ensures in
-    if_ok c.notification_of.result (λ content sent.
+    let sent_all = rw c.as_slice-changes.ensures at c.notification_text.ensures in
+    if_ok c.notification_text.result (λ content sent.
     rewriting_reported content.items c.args.uri.now c.args.version c.args.text.now c.requires (sent (record { shallow = omega arith })).reads)
     sent_all

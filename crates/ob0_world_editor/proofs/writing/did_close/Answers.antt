@@ -5,5 +5,5 @@ use Rattle.ob0_world_editor.proofs.writing.did_close.Goals as goal
 
 pub returns : goal.returns
 returns c =
-    if_ok c.notification_of.result (λ content sent. closing_reported content.items c.args.uri.now (sent (record { shallow = omega arith })).reads)
-    c.notification_of.ensures
+    if_ok c.notification_text.result (λ content sent. closing_reported content.items c.args.uri.now (sent (record { shallow = omega arith })).reads)
+    c.notification_text.ensures

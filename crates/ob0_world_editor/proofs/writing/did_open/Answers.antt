@@ -5,6 +5,6 @@ use Rattle.ob0_world_editor.proofs.writing.did_open.Goals as goal
 
 pub returns : goal.returns
 returns c =
-    if_ok c.notification_of.result (λ content sent.
+    if_ok c.notification_text.result (λ content sent.
     opening_reported content.items c.args.uri.now c.args.version c.args.text.now c.requires (sent (record { shallow = omega arith })).reads)
-    c.notification_of.ensures
+    c.notification_text.ensures

@@ -3,7 +3,7 @@ use Rattle.std.specs.Prelude.{codes, string_bytes}
 use Rattle.serde_json.specs.Data.{Data, depth, member, no_members, object}
 use Rattle.ob0_rpc.specs.Messages.{ReadsContent}
 use Rattle.ob0_world_rules.specs.Asks.{rename, inline_here, inline_all, format}
-use Rattle.ob0_world_editor.specs.Shapes.{document_value, request_message}
+use Rattle.ob0_world_editor.specs.Shapes.{document_id_value, request_message}
 use Rattle.ob0_world_editor.proofs.Hearing.{if_ok}
 use Rattle.ob0_world_editor.proofs.Shallow.{ask_requested, shallow_request}
 use Rattle.ob0_world_editor.proofs.writing.request.Goals as goal
@@ -32,7 +32,7 @@ returns-in-InlineAll c =
 pub returns-in-Format : goal.returns-in-Format
 returns-in-Format c =
     let this_ask = format c.in-Format.indent in
-    let message : Data → Data = λ d. request_message c.args.number (codes "textDocument/formatting") (object (member (codes "options") d (member (codes "textDocument") (document_value c.args.uri.now) no_members))) in
+    let message : Data → Data = λ d. request_message c.args.number (codes "textDocument/formatting") (object (member (codes "options") d (member (codes "textDocument") (document_id_value c.args.uri.now) no_members))) in
     let is = ap message c.for_indent-options.ensures in
     rw c.in-Format.is
     (if_ok c.request_content-in-Format.result (λ content writes.

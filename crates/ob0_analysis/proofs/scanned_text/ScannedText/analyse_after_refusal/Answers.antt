@@ -3,12 +3,12 @@ use Rattle.ob0_parse.proofs.Stays.{refusal_stays}
 use Rattle.ob0_analysis.proofs.GivenBack.{refusal_given_back}
 use Rattle.ob0_analysis.proofs.scanned_text.ScannedText.analyse_after_refusal.Goals as goal
 
-pub reanalyse_refused-requires-clause-same_kinds : goal.reanalyse_refused-requires-clause-same_kinds
-reanalyse_refused-requires-clause-same_kinds c =
+pub reanalyse_refused_text-requires-clause-same_kinds : goal.reanalyse_refused_text-requires-clause-same_kinds
+reanalyse_refused_text-requires-clause-same_kinds c =
     λ same_kinds. (refusal_stays c.args.ill.tokens c.in-Ok.changed.rescan.tokens c.args.ill.refusal (c.in-Ok.ensures.same_kinds same_kinds) c.requires.0.0, c.requires.0.1)
 
-pub reanalyse_refused-requires-clause-before : goal.reanalyse_refused-requires-clause-before
-reanalyse_refused-requires-clause-before c = record {
+pub reanalyse_refused_text-requires-clause-before : goal.reanalyse_refused_text-requires-clause-before
+reanalyse_refused_text-requires-clause-before c = record {
   old = c.args.ill.tokens;
   new_scan = c.in-Ok.ensures.ok.scan;
   same = c.in-Ok.ensures.same;

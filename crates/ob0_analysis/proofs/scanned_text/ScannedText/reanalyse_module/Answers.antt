@@ -4,8 +4,8 @@ use Rattle.ob0_parse.proofs.Stays.{tree_stays}
 use Rattle.ob0_analysis.proofs.NewBody.{had_module}
 use Rattle.ob0_analysis.proofs.scanned_text.ScannedText.reanalyse_module.Goals as goal
 
-pub reanalyse_changed_kinds-requires : goal.reanalyse_changed_kinds-requires
-reanalyse_changed_kinds-requires c = had_module c.args.changed c.args.tree c.args.bindings c.args.types c.args.places c.requires
+pub reanalyse_with_changed_kinds-requires : goal.reanalyse_with_changed_kinds-requires
+reanalyse_with_changed_kinds-requires c = had_module c.args.changed c.args.tree c.args.bindings c.args.types c.args.places c.requires
 
 pub reanalyse_with_same_spellings-requires : goal.reanalyse_with_same_spellings-requires
 reanalyse_with_same_spellings-requires c =
@@ -23,21 +23,21 @@ reanalyse_with_same_spellings-requires c =
       parsed = tree_stays (parsed_module before.old tree) (parsed_module c.args.changed.rescan.tokens tree) before.was.parsed refl before.new_scan.short (before.same_kinds c.if-not-same_kinds.false);
     }
 
-pub reanalyse_same_tree-requires-clause-parsed : goal.reanalyse_same_tree-requires-clause-parsed
-reanalyse_same_tree-requires-clause-parsed c =
+pub reanalyse_with_same_tree-requires-clause-parsed : goal.reanalyse_with_same_tree-requires-clause-parsed
+reanalyse_with_same_tree-requires-clause-parsed c =
     let before = c.requires in
     let tree = c.args.tree in
     tree_stays (parsed_module before.old tree) (parsed_module c.args.changed.rescan.tokens tree) before.was.parsed refl before.new_scan.short (before.same_kinds c.if-not-same_kinds.false)
 
-pub reanalyse_same_tree-requires-clause-resolved : goal.reanalyse_same_tree-requires-clause-resolved
-reanalyse_same_tree-requires-clause-resolved c =
+pub reanalyse_with_same_tree-requires-clause-resolved : goal.reanalyse_with_same_tree-requires-clause-resolved
+reanalyse_with_same_tree-requires-clause-resolved c =
     let before = c.requires in
     let new = c.args.changed.rescan.tokens in
     let tree = c.args.tree in
     let alike = before.same_kinds c.if-not-same_kinds.false in
     let parsed = tree_stays (parsed_module before.old tree) (parsed_module new tree) before.was.parsed refl before.new_scan.short alike in
-    λ same none. c.bindings_depend_on_names.ensures before.old new tree c.args.bindings (record { same_kinds = alike; same_names = before.same_names same }) parsed before.was.resolved none
+    λ same none. c.bindings_depend_only_on_names.ensures before.old new tree c.args.bindings (record { same_kinds = alike; same_names = before.same_names same }) parsed before.was.resolved none
 
-pub reanalyse_same_tree-requires-clause-before : goal.reanalyse_same_tree-requires-clause-before
-reanalyse_same_tree-requires-clause-before c =
+pub reanalyse_with_same_tree-requires-clause-before : goal.reanalyse_with_same_tree-requires-clause-before
+reanalyse_with_same_tree-requires-clause-before c =
     record { earlier_module = had_module c.args.changed c.args.tree c.args.bindings c.args.types c.args.places c.requires; same_kinds = c.requires.same_kinds c.if-not-same_kinds.false }

@@ -17,8 +17,8 @@ returns g c =
     let text = g.T.TextStore.content store in
     let P : Result (Vec Edit Global) EditRefusal → Type 0 = λ r. IsFormatResult unit indent text r in
     let Q : Result (Vec Edit Global) EditRefusal → Type 0 = λ r. IfErr r (λ refusal. refusal ≡ Memory → ⊥) in
-    IfOk-weaker c.memory_as_error.result _ _ (λ kept both h same.
+    IfOk-weaker c.memory_refusal_as_error.result _ _ (λ kept both h same.
     subst P (sym both.0)
     (formats_or_not unit indent text c.args.module.now c.module-module.result.now c.format.result is h same
-    c.format.ensures.edits c.format.ensures.fits c.format.ensures.patched c.format.ensures.too_long c.format.ensures.refusals (subst Q both.0 both.1)
-    c.gaps_give_formatted_text.ensures.utf8 c.formatting_keeps_lexemes.ensures.lexed c.formatting_keeps_module.ensures)) c.memory_as_error.ensures
+    c.format.ensures.edits c.format.ensures.fits c.format.ensures.patched_text c.format.ensures.too_long c.format.ensures.refusals (subst Q both.0 both.1)
+    c.gaps_give_formatted_text.ensures.utf8 c.formatting_keeps_tokens_and_comments.ensures.lexed c.formatting_keeps_module.ensures)) c.memory_refusal_as_error.ensures

@@ -7,4 +7,4 @@ pub returns : goal.returns
 returns g c =
     let q = c.args.self.now in
     let r = renaming_of (g.T.TextStore.unit_of q.store.now) (g.T.TextStore.content q.store.now) c.args.module.now q.place q.new.now in
-    IfOk-weaker c.memory_as_error.result _ _ (λ kept both. settled r c.rename.result kept c.rename.ensures.answers both.0 both.1) c.memory_as_error.ensures
+    IfOk-weaker c.memory_refusal_as_error.result _ _ (λ kept both. settled r c.rename.result kept c.rename.ensures.answers both.0 both.1) c.memory_refusal_as_error.ensures

@@ -50,7 +50,7 @@ parse_procedures-returns-in_err-procedure t c =
 pub parse_procedures-loop-procedures-preserved : goal.parse_procedures-loop-procedures-preserved
 parse_procedures-loop-procedures-preserved t c =
     let item = rw c.in-Some.is at c.in_ok-procedure.ensures in
-    rw c.in_ok-push_doubling.ensures.added (taking_more procedure_of c.loop-procedures.procedures.items _ _ _ _ _ _ c.loop-procedures.invariant item.0)
+    rw c.in_ok-push_with_doubling.ensures.added (taking_more procedure_of c.loop-procedures.procedures.items _ _ _ _ _ _ c.loop-procedures.invariant item.0)
 
 pub parse_procedures-returns : goal.parse_procedures-returns
 parse_procedures-returns t c =

@@ -1,7 +1,7 @@
 use Rattle.std.proofs.Common.{arith, refl, Some}
 use Rattle.std.proofs.lemmas.Result.{err_from_is_err_and}
 use Rattle.ob0_tree.specs.Tree.{selector, multiplier, addend, comparison}
-use Rattle.ob0_tree.specs.View.{items_of, simple_of, addend_of, term_of, multiplier_of, factor_of, selector_of, expression_of}
+use Rattle.ob0_tree.specs.View.{items_of, simple_expression_of, addend_of, term_of, multiplier_of, factor_of, selector_of, expression_of}
 use Rattle.ob0_tree.proofs.Viewed.{compound_made, comparison_made, addend_made, simple_made, term_made, designator_made}
 use Rattle.ob0_parse_descent.proofs.Leads.{fails_in_token, fails_in_name}
 use Rattle.ob0_parse_descent.proofs.Items.{taking_none, taking_more, taking_done}
@@ -20,7 +20,7 @@ parse_expression_parts-returns-in_err-left t c =
 pub parse_expression_parts-returns-in_err-comparison : goal.parse_expression_parts-returns-in_err-comparison
 parse_expression_parts-returns-in_err-comparison t c =
     let p = err_from_is_err_and c.from_residual-in_err-comparison.result c.from_residual-in_err-comparison.ensures.1 in
-    rw (p.1, p.2) (expression_fails_comparison (simple_of c.in_ok-left.left) c.in_ok-left.ensures c.in_err-comparison.ensures)
+    rw (p.1, p.2) (expression_fails_comparison (simple_expression_of c.in_ok-left.left) c.in_ok-left.ensures c.in_err-comparison.ensures)
 
 pub parse_comparison-returns-in_err-right : goal.parse_comparison-returns-in_err-right
 parse_comparison-returns-in_err-right t c =
@@ -60,7 +60,7 @@ parse_simple_expression-returns-in_err-addend t c =
 pub parse_simple_expression-loop-more-preserved : goal.parse_simple_expression-loop-more-preserved
 parse_simple_expression-loop-more-preserved t c =
     let item = rw c.in-Some.is at c.in_ok-addend.ensures in
-    rw c.in_ok-push_doubling.ensures.added (taking_more addend_of c.loop-more.more.items _ _ _ _ _ _ c.loop-more.invariant item.0)
+    rw c.in_ok-push_with_doubling.ensures.added (taking_more addend_of c.loop-more.more.items _ _ _ _ _ _ c.loop-more.invariant item.0)
 
 pub parse_simple_expression-returns : goal.parse_simple_expression-returns
 parse_simple_expression-returns t c =
@@ -81,7 +81,7 @@ parse_term-returns-in_err-multiplier t c =
 pub parse_term-loop-more-preserved : goal.parse_term-loop-more-preserved
 parse_term-loop-more-preserved t c =
     let item = rw c.in-Some.is at c.in_ok-multiplier.ensures in
-    (rw c.in_ok-push_doubling.ensures.added (taking_more multiplier_of c.loop-more.more.items _ _ _ _ _ _ c.loop-more.invariant.0 item.0), c.loop-more.invariant.1)
+    (rw c.in_ok-push_with_doubling.ensures.added (taking_more multiplier_of c.loop-more.more.items _ _ _ _ _ _ c.loop-more.invariant.0 item.0), c.loop-more.invariant.1)
 
 pub parse_term-returns : goal.parse_term-returns
 parse_term-returns t c =
@@ -126,7 +126,7 @@ parse_designator-loop-selectors-init t c = rw c.new-selectors.ensures.items (tak
 pub parse_designator-loop-selectors-preserved : goal.parse_designator-loop-selectors-preserved
 parse_designator-loop-selectors-preserved t c =
     let item = rw c.in-Some.is at c.in_ok-selector.ensures in
-    rw c.in_ok-push_doubling.ensures.added (taking_more selector_of c.loop-selectors.selectors.items _ _ _ _ _ _ c.loop-selectors.invariant item.0)
+    rw c.in_ok-push_with_doubling.ensures.added (taking_more selector_of c.loop-selectors.selectors.items _ _ _ _ _ _ c.loop-selectors.invariant item.0)
 
 pub parse_designator-returns : goal.parse_designator-returns
 parse_designator-returns t c =

@@ -33,7 +33,7 @@ parse_sequence-returns-in_err-first t c =
 
 pub parse_sequence-loop-statements-init : goal.parse_sequence-loop-statements-init
 parse_sequence-loop-statements-init t c =
-    rw (c.in_ok-push_doubling.ensures.added, c.new-statements.ensures.items) (listing_one statement_of further_statement_of c.in_ok-first.first c.in_ok-first.ensures)
+    rw (c.in_ok-push_with_doubling.ensures.added, c.new-statements.ensures.items) (listing_one statement_of further_statement_of c.in_ok-first.first c.in_ok-first.ensures)
 
 pub parse_sequence-returns-in_err-statement : goal.parse_sequence-returns-in_err-statement
 parse_sequence-returns-in_err-statement t c =
@@ -43,7 +43,7 @@ parse_sequence-returns-in_err-statement t c =
 pub parse_sequence-loop-statements-preserved : goal.parse_sequence-loop-statements-preserved
 parse_sequence-loop-statements-preserved t c =
     let item = rw c.in-Some.is at c.in_ok-statement.ensures in
-    rw c.in_ok-push_doubling-2.ensures.added (listing_more statement_of further_statement_of c.loop-statements.statements.items _ c.loop-statements.invariant item.0)
+    rw c.in_ok-push_with_doubling-2.ensures.added (listing_more statement_of further_statement_of c.loop-statements.statements.items _ c.loop-statements.invariant item.0)
 
 pub parse_sequence-returns : goal.parse_sequence-returns
 parse_sequence-returns t c =
@@ -100,7 +100,7 @@ parse_elsifs-returns-in_err-elsif t c =
 pub parse_elsifs-loop-elsifs-preserved : goal.parse_elsifs-loop-elsifs-preserved
 parse_elsifs-loop-elsifs-preserved t c =
     let item = rw c.in-Some.is at c.in_ok-elsif.ensures in
-    rw c.in_ok-push_doubling.ensures.added (taking_more elsif_of c.loop-elsifs.elsifs.items _ _ _ _ _ _ c.loop-elsifs.invariant item.0)
+    rw c.in_ok-push_with_doubling.ensures.added (taking_more elsif_of c.loop-elsifs.elsifs.items _ _ _ _ _ _ c.loop-elsifs.invariant item.0)
 
 pub parse_elsifs-returns : goal.parse_elsifs-returns
 parse_elsifs-returns t c =

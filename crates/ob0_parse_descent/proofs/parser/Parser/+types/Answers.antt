@@ -1,6 +1,6 @@
 use Rattle.std.proofs.Common.{arith}
 use Rattle.std.proofs.lemmas.Result.{err_from_is_err_and}
-use Rattle.ob0_tree.specs.View.{expression_of, type_of, fields_of, names_of, further_fields_of_group}
+use Rattle.ob0_tree.specs.View.{expression_of, type_of, optional_field_group_of, names_of, further_field_group_of}
 use Rattle.ob0_tree.proofs.Viewed.{made_record_type}
 use Rattle.ob0_parse_descent.proofs.Leads.{fails_in_token}
 use Rattle.ob0_parse_descent.proofs.Refusals.{fails_in, fails_pass, fails_pass_token}
@@ -33,37 +33,37 @@ pub parse_array_type-returns : goal.parse_array_type-returns
 parse_array_type-returns t c =
     rw c.in_ok-element-2.ensures.ok (taken_array (expression_of c.in_ok-size.size) _ c.in_ok-inner.ensures c.requires.0 c.in_ok-size.ensures c.in_ok-start.ensures c.in_ok-element.ensures)
 
-pub parse_fields-returns-then-not-has_identifier_at : goal.parse_fields-returns-then-not-has_identifier_at
-parse_fields-returns-then-not-has_identifier_at t c =
+pub parse_optional_field_group-returns-then-not-has_identifier_at : goal.parse_optional_field_group-returns-then-not-has_identifier_at
+parse_optional_field_group-returns-then-not-has_identifier_at t c =
     taken_no_fields c.if-not-has_identifier_at.ensures
 
-pub parse_fields-returns-in_err-names : goal.parse_fields-returns-in_err-names
-parse_fields-returns-in_err-names t c =
+pub parse_optional_field_group-returns-in_err-names : goal.parse_optional_field_group-returns-in_err-names
+parse_optional_field_group-returns-in_err-names t c =
     let p = err_from_is_err_and c.from_residual.result c.from_residual.ensures.1 in
     rw (p.1, p.2) (fields_fail c.if-not-has_identifier_at.ensures.0 (fails_in c.in_err-names.ensures))
 
-pub parse_fields-returns-in_err-start : goal.parse_fields-returns-in_err-start
-parse_fields-returns-in_err-start t c =
+pub parse_optional_field_group-returns-in_err-start : goal.parse_optional_field_group-returns-in_err-start
+parse_optional_field_group-returns-in_err-start t c =
     let p = err_from_is_err_and c.from_residual-in_err-start.result c.from_residual-in_err-start.ensures.1 in
     rw (p.1, p.2) (fields_fail c.if-not-has_identifier_at.ensures.0 (fails_pass (names_of c.in_ok-names.names) c.in_ok-names.ensures (fails_in_token c.in_err-start.ensures)))
 
-pub parse_fields-returns-in_err-written : goal.parse_fields-returns-in_err-written
-parse_fields-returns-in_err-written t c =
+pub parse_optional_field_group-returns-in_err-written : goal.parse_optional_field_group-returns-in_err-written
+parse_optional_field_group-returns-in_err-written t c =
     let p = err_from_is_err_and c.from_residual-in_err-written.result c.from_residual-in_err-written.ensures.1 in
     rw (p.1, p.2) (fields_fail c.if-not-has_identifier_at.ensures.0 (fails_pass (names_of c.in_ok-names.names) c.in_ok-names.ensures (fails_pass_token c.in_ok-start.ensures.0 c.in_ok-start.ensures.2 c.in_err-written.ensures)))
 
-pub parse_fields-returns : goal.parse_fields-returns
-parse_fields-returns t c =
+pub parse_optional_field_group-returns : goal.parse_optional_field_group-returns
+parse_optional_field_group-returns t c =
     rw c.in_ok-boxed.ensures.ok (taken_fields (names_of c.in_ok-names.names) (type_of c.in_ok-written.written) c.in_ok-names.ensures c.in_ok-start.ensures c.in_ok-written.ensures)
 
-pub parse_further_fields-returns-in_err-fields : goal.parse_further_fields-returns-in_err-fields
-parse_further_fields-returns-in_err-fields t c =
+pub parse_further_field_group-returns-in_err-fields : goal.parse_further_field_group-returns-in_err-fields
+parse_further_field_group-returns-in_err-fields t c =
     let p = err_from_is_err_and c.from_residual.result c.from_residual.ensures.1 in
     rw (p.1, p.2) (led_fails leads_then_fields c.if-not-has_symbol_at.ensures.0 c.in_err-fields.ensures)
 
-pub parse_further_fields-returns : goal.parse_further_fields-returns
-parse_further_fields-returns t c =
-    (taken_led leads_then_fields (fields_of c.in_ok-fields.fields) c.if-not-has_symbol_at.ensures.0 c.in_ok-fields.ensures, omega (arith, c.in_ok-fields.ensures.forward))
+pub parse_further_field_group-returns : goal.parse_further_field_group-returns
+parse_further_field_group-returns t c =
+    (taken_led leads_then_fields (optional_field_group_of c.in_ok-fields.fields) c.if-not-has_symbol_at.ensures.0 c.in_ok-fields.ensures, omega (arith, c.in_ok-fields.ensures.forward))
 
 pub parse_record_type-returns-in_err-inner : goal.parse_record_type-returns-in_err-inner
 parse_record_type-returns-in_err-inner t c =
@@ -77,7 +77,7 @@ parse_record_type-returns-in_err-first t c =
 
 pub parse_record_type-loop-groups-init : goal.parse_record_type-loop-groups-init
 parse_record_type-loop-groups-init t c =
-    rw (c.in_ok-push_doubling.ensures.added, c.new-groups.ensures.items) (listing_one fields_of further_fields_of_group c.in_ok-first.first c.in_ok-first.ensures)
+    rw (c.in_ok-push_with_doubling.ensures.added, c.new-groups.ensures.items) (listing_one optional_field_group_of further_field_group_of c.in_ok-first.first c.in_ok-first.ensures)
 
 pub parse_record_type-returns-in_err-fields : goal.parse_record_type-returns-in_err-fields
 parse_record_type-returns-in_err-fields t c =
@@ -87,7 +87,7 @@ parse_record_type-returns-in_err-fields t c =
 pub parse_record_type-loop-groups-preserved : goal.parse_record_type-loop-groups-preserved
 parse_record_type-loop-groups-preserved t c =
     let item = rw c.in-Some.is at c.in_ok-fields.ensures in
-    rw c.in_ok-push_doubling-2.ensures.added (listing_more fields_of further_fields_of_group c.loop-groups.groups.items _ c.loop-groups.invariant item.0)
+    rw c.in_ok-push_with_doubling-2.ensures.added (listing_more optional_field_group_of further_field_group_of c.loop-groups.groups.items _ c.loop-groups.invariant item.0)
 
 pub parse_record_type-returns-in_err-end : goal.parse_record_type-returns-in_err-end
 parse_record_type-returns-in_err-end t c =

@@ -16,7 +16,7 @@ returns-in_err-constant c =
 pub loop-constants-preserved : goal.loop-constants-preserved
 loop-constants-preserved c =
     let item = rw c.in-Some.is at c.in_ok-constant.ensures in
-    rw c.in_ok-push_doubling.ensures.added (taking_more constant_of c.loop-constants.constants.items _ _ _ _ _ _ c.loop-constants.invariant item.0)
+    rw c.in_ok-push_with_doubling.ensures.added (taking_more constant_of c.loop-constants.constants.items _ _ _ _ _ _ c.loop-constants.invariant item.0)
 
 pub returns : goal.returns
 returns c =

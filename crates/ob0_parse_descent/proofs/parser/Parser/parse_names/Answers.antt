@@ -22,7 +22,7 @@ loop-more-init c = rw c.new-more.ensures.items (taking_none further_name _ _ _ (
 pub loop-more-preserved : goal.loop-more-preserved
 loop-more-preserved c =
     let item = rw c.in-Some.is at c.in_ok-name.ensures.read in
-    rw c.in_ok-push_doubling.ensures.added (taking_more then_name c.loop-more.more.items _ _ _ _ _ _ c.loop-more.invariant item.0)
+    rw c.in_ok-push_with_doubling.ensures.added (taking_more then_name c.loop-more.more.items _ _ _ _ _ _ c.loop-more.invariant item.0)
 
 pub returns : goal.returns
 returns c =

@@ -16,7 +16,7 @@ returns-in_err-declaration c =
 pub loop-types-preserved : goal.loop-types-preserved
 loop-types-preserved c =
     let item = rw c.in-Some.is at c.in_ok-declaration.ensures in
-    rw c.in_ok-push_doubling.ensures.added (taking_more type_declaration_of c.loop-types.types.items _ _ _ _ _ _ c.loop-types.invariant item.0)
+    rw c.in_ok-push_with_doubling.ensures.added (taking_more type_declaration_of c.loop-types.types.items _ _ _ _ _ _ c.loop-types.invariant item.0)
 
 pub returns : goal.returns
 returns c =

@@ -16,7 +16,7 @@ returns-in_err-declared c =
 pub loop-variables-preserved : goal.loop-variables-preserved
 loop-variables-preserved c =
     let item = rw c.in-Some.is at c.in_ok-declared.ensures in
-    rw c.in_ok-push_doubling.ensures.added (taking_more variable_of c.loop-variables.variables.items _ _ _ _ _ _ c.loop-variables.invariant item.0)
+    rw c.in_ok-push_with_doubling.ensures.added (taking_more variable_of c.loop-variables.variables.items _ _ _ _ _ _ c.loop-variables.invariant item.0)
 
 pub returns : goal.returns
 returns c =

@@ -5,7 +5,7 @@ use Rattle.ob0_scope_table.specs.LabelledTrees.{tree_with_labels}
 use Rattle.ob0_run_lowering.specs.declared.scene.Scene.{Scene}
 use Rattle.ob0_run_machine.specs.declared.code.Routine.{Routine}
 use Rattle.ob0_run_lowering.specs.Blocks.{LowersBlock}
-use Rattle.ob0_run_lowering.specs.PlacedNames.{IsRestored}
+use Rattle.ob0_run_lowering.specs.PlacedNames.{HiddenLocationsAreRestored}
 use Rattle.ob0_run_lowering.specs.declared.visible_locations.Frame.{Frame}
 use Rattle.ob0_run_lowering.proofs.LoweredBlocks.{block_means, goes_itself, goes_on, procedure_means}
 use Rattle.ob0_run_lowering.proofs.FollowingSites.{follows_then}
@@ -46,7 +46,7 @@ lower_procedure-returns t c = λ rest.
       pushed = c.in_ok-index.ensures.pushed;
       first_is = ap (λ n. record { depth = n; cells = 0; var_parameter_count = 0 }) deep;
       placed = (c.place_formals.new.self, c.in_ok-frame.ensures, lowers);
-      back = subst (IsRestored c.reserve_routine.new.self.visible c.lower_block.new.self.visible) (sym c.set_routine.ensures.visible)
-          (c.restore_hidden.ensures c.reserve_routine.new.self.visible (follows_then c.reserve_routine.new.self.visible c.place_formals.new.self c.lower_block.new.self.visible c.in_ok-frame.ensures.follows lowers.follows) c.hidden_count-outside.ensures);
+      back = subst (HiddenLocationsAreRestored c.reserve_routine.new.self.visible c.lower_block.new.self.visible) (sym c.set_routine.ensures.visible)
+          (c.restore_hidden_locations.ensures c.reserve_routine.new.self.visible (follows_then c.reserve_routine.new.self.visible c.place_formals.new.self c.lower_block.new.self.visible c.in_ok-frame.ensures.follows lowers.follows) c.hidden_count-outside.ensures);
       kept = c.set_routine.ensures.procedures;
     }

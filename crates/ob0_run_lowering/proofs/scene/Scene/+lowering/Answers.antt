@@ -6,12 +6,12 @@ use Rattle.ob0_tree.specs.declared.tree.CompoundExpression.{out-CompoundExpressi
 use Rattle.ob0_tree.specs.declared.tree.SimpleExpression.{out-SimpleExpression}
 use Rattle.ob0_tree.specs.declared.tree.Term.{out-Term}
 use Rattle.ob0_tree.specs.Tree.{compares, one, relates}
-use Rattle.ob0_tree.specs.View.{items_of, compound_of, expression_of, addend_of, multiplier_of, selector_of, factor_of, simple_of}
+use Rattle.ob0_tree.specs.View.{items_of, compound_expression_of, expression_of, addend_of, multiplier_of, selector_of, factor_of, simple_expression_of}
 use Rattle.ob0_scope_table.specs.LabelledTrees.{tree_with_labels}
 use Rattle.ob0_types_table.specs.KnownTables.{shapes_of}
 use Rattle.ob0_language_types.proofs.TreeParts.{addend_parts, compound_alone, compound_related}
 use Rattle.ob0_run_lowering.specs.Codes.{addition_code, multiplication_code, relation_code, signed_code}
-use Rattle.ob0_run_lowering.specs.Trees.{addends_code, code_of, expression_code, factor_code, found_place_of, multipliers_code, selected_place, simple_code, term_code}
+use Rattle.ob0_run_lowering.specs.Trees.{addends_code, code_of, expression_code, factor_code, place_with_shape_of, multipliers_code, selected_place, simple_code, term_code}
 use Rattle.ob0_run_lowering.proofs.CodeChains.{added_fold, added_once, fold_ends, fold_goes_on, multiplied_fold, selected_fold}
 use Rattle.ob0_run_lowering.proofs.TruthDepths.{still_flat}
 use Rattle.ob0_run_lowering.proofs.scene.Scene.+lowering.Goals as goal
@@ -30,7 +30,7 @@ locate-returns t c =
     let scene = c.args.self.now in
     let r = scene.resolved.now in
     fold_ends (selected_fold scene) c.loop-selector.invariant c.loop-selector-test.false
-    ∙ ap (λ xs. selected_place scene (option_map (found_place_of (shapes_of scene.types.now)) c.in_ok-at.at) (tree_with_labels r (items_of selector_of xs))) c.deref-selector-items.ensures.value
+    ∙ ap (λ xs. selected_place scene (option_map (place_with_shape_of (shapes_of scene.types.now)) c.in_ok-at.at) (tree_with_labels r (items_of selector_of xs))) c.deref-selector-items.ensures.value
     ∙ ap (λ o. selected_place scene o (tree_with_labels r (items_of selector_of c.args.d.now.selectors.items))) c.in_ok-at.ensures
 
 pub lower_expression-returns-in-Factor-clause-code : goal.lower_expression-returns-in-Factor-clause-code
@@ -41,32 +41,32 @@ lower_expression-returns-in-Factor-clause-code t c =
 pub lower_expression-returns-in-CompoundExpression-clause-code : goal.lower_expression-returns-in-CompoundExpression-clause-code
 lower_expression-returns-in-CompoundExpression-clause-code t c =
     let scene = c.args.self.now in
-    subst (λ z. IfOk c.lower_compound.result (λ l. code_of l ≡ expression_code scene (tree_with_labels scene.resolved.now z)))
-    (ap compound_of c.deref.ensures ∙ sym (ap expression_of c.in-CompoundExpression.is)) c.lower_compound.ensures.code
+    subst (λ z. IfOk c.lower_compound_expression.result (λ l. code_of l ≡ expression_code scene (tree_with_labels scene.resolved.now z)))
+    (ap compound_expression_of c.deref.ensures ∙ sym (ap expression_of c.in-CompoundExpression.is)) c.lower_compound_expression.ensures.code
 
-pub lower_compound-returns-in-None-clause-code : goal.lower_compound-returns-in-None-clause-code
-lower_compound-returns-in-None-clause-code t c =
+pub lower_compound_expression-returns-in-None-clause-code : goal.lower_compound_expression-returns-in-None-clause-code
+lower_compound_expression-returns-in-None-clause-code t c =
     let scene = c.args.self.now in
     c.in_ok-left.ensures.code ∙ sym (ap (λ e. expression_code scene (tree_with_labels scene.resolved.now e)) (compound_alone c.args.c.now c.in-None.is))
 
-pub lower_compound-returns-in_ok-right-in-Some-clause-code : goal.lower_compound-returns-in_ok-right-in-Some-clause-code
-lower_compound-returns-in_ok-right-in-Some-clause-code t c =
+pub lower_compound_expression-returns-in_ok-right-in-Some-clause-code : goal.lower_compound_expression-returns-in_ok-right-in-Some-clause-code
+lower_compound_expression-returns-in_ok-right-in-Some-clause-code t c =
     let scene = c.args.self.now in
     let r = scene.resolved.now in
     let compared = out-Comparison c.deref-compared.result.now in
-    let left = simple_of (out-CompoundExpression c.args.c.now).left in
+    let left = simple_expression_of (out-CompoundExpression c.args.c.now).left in
     subst (λ z. IfOk c.lower_relation.result (λ l. code_of l ≡ z))
     (ap (λ a. relation_code compared.relation a (code_of c.in_ok-right-in-Some.right)) c.in_ok-left.ensures.code
     ∙ ap (relation_code compared.relation (simple_code scene (tree_with_labels r left))) c.in_ok-right-in-Some.ensures.code
-    ∙ ap (λ k. expression_code scene (tree_with_labels r (compares left (one (relates (out-Comparison k).relation (simple_of (out-Comparison k).right)))))) c.deref-compared.ensures
+    ∙ ap (λ k. expression_code scene (tree_with_labels r (compares left (one (relates (out-Comparison k).relation (simple_expression_of (out-Comparison k).right)))))) c.deref-compared.ensures
     ∙ sym (ap (λ e. expression_code scene (tree_with_labels r e)) (compound_related c.args.c.now c.in-Some.compared c.in-Some.is)))
     c.lower_relation.ensures.code
 
-pub lower_simple-loop-addend-init : goal.lower_simple-loop-addend-init
-lower_simple-loop-addend-init t c = record { made = record { so_far = refl }; flat = still_flat c.in_ok-so_far.ensures.flat c.in_ok-first.ensures.flat }
+pub lower_simple_expression-loop-addend-init : goal.lower_simple_expression-loop-addend-init
+lower_simple_expression-loop-addend-init t c = record { made = record { so_far = refl }; flat = still_flat c.in_ok-so_far.ensures.flat c.in_ok-first.ensures.flat }
 
-pub lower_simple-loop-addend-preserved : goal.lower_simple-loop-addend-preserved
-lower_simple-loop-addend-preserved t c =
+pub lower_simple_expression-loop-addend-preserved : goal.lower_simple_expression-loop-addend-preserved
+lower_simple_expression-loop-addend-preserved t c =
     let scene = c.args.self.now in
     let a = c.addend-item.result in
     record {
@@ -78,8 +78,8 @@ lower_simple-loop-addend-preserved t c =
       flat = still_flat c.in_ok-so_far-2.ensures.flat c.loop-addend.invariant.flat;
     }
 
-pub lower_simple-returns-clause-code : goal.lower_simple-returns-clause-code
-lower_simple-returns-clause-code t c =
+pub lower_simple_expression-returns-clause-code : goal.lower_simple_expression-returns-clause-code
+lower_simple_expression-returns-clause-code t c =
     let scene = c.args.self.now in
     let r = scene.resolved.now in
     let s = out-SimpleExpression c.args.s.now in

@@ -2,16 +2,16 @@ use Rattle.std.proofs.Common.{option_map}
 use Rattle.ob0_tree.specs.View.{addend_of, multiplier_of, selector_of}
 use Rattle.ob0_types_table.specs.KnownTables.{shapes_of}
 use Rattle.ob0_run_lowering.specs.TruthDepths.{IsFlat}
-use Rattle.ob0_run_lowering.specs.Trees.{addends_code, code_of, found_place_of, multipliers_code, selected_place}
+use Rattle.ob0_run_lowering.specs.Trees.{addends_code, code_of, place_with_shape_of, multipliers_code, selected_place}
 use Rattle.ob0_run_lowering.proofs.CodeChains.{Folded}
 use Rattle.ob0_run_lowering.proofs.scene.Scene.+lowering.Given as goal
 
 abbrev pub invariant-locate-loop-selector : goal.invariant-locate-loop-selector
 invariant-locate-loop-selector l =
-    Folded (selected_place l.self) l.self.resolved.now selector_of (option_map (found_place_of (shapes_of l.self.types.now)) l.initial.at) l.selector-items l.selector-index (option_map (found_place_of (shapes_of l.self.types.now)) l.at)
+    Folded (selected_place l.self) l.self.resolved.now selector_of (option_map (place_with_shape_of (shapes_of l.self.types.now)) l.initial.at) l.selector-items l.selector-index (option_map (place_with_shape_of (shapes_of l.self.types.now)) l.at)
 
-abbrev pub invariant-lower_simple-loop-addend : goal.invariant-lower_simple-loop-addend
-invariant-lower_simple-loop-addend l = record {
+abbrev pub invariant-lower_simple_expression-loop-addend : goal.invariant-lower_simple_expression-loop-addend
+invariant-lower_simple_expression-loop-addend l = record {
   made : Folded (addends_code l.self) l.self.resolved.now addend_of (code_of l.initial.so_far) l.addend-items l.addend-index (code_of l.so_far);
   flat : IsFlat l.so_far;
 }

@@ -5,11 +5,11 @@ use Rattle.ob0_scan.proofs.old_lexemes.LexemeSlices.skip_lexemes_before.Goals as
 pub returns-clause-tokens : goal.returns-clause-tokens
 returns-clause-tokens c =
     let xs = c.args.self.tokens.now in
-    let n = c.count_tokens_before_linearly-tokens.result in
-    take_all (length xs - n) (drop n xs) (omega (arith, length-drop n xs)) ∙ ap (λ k. drop k xs) c.count_tokens_before_linearly-tokens.ensures.count
+    let n = c.count_tokens_beginning_before_linearly-tokens.result in
+    take_all (length xs - n) (drop n xs) (omega (arith, length-drop n xs)) ∙ ap (λ k. drop k xs) c.count_tokens_beginning_before_linearly-tokens.ensures.count
 
 pub returns-clause-comments : goal.returns-clause-comments
 returns-clause-comments c =
     let xs = c.args.self.comments.now in
-    let n = c.count_comments_before_linearly-comments.result in
-    take_all (length xs - n) (drop n xs) (omega (arith, length-drop n xs)) ∙ ap (λ k. drop k xs) c.count_comments_before_linearly-comments.ensures.count
+    let n = c.count_comments_beginning_before_linearly-comments.result in
+    take_all (length xs - n) (drop n xs) (omega (arith, length-drop n xs)) ∙ ap (λ k. drop k xs) c.count_comments_beginning_before_linearly-comments.ensures.count

@@ -3,8 +3,8 @@ use Rattle.std.proofs.ResultArms.{chosen}
 use Rattle.ob0_scan.specs.declared.lexeme.Span.{Span}
 use Rattle.ob0_scan.specs.declared.lexeme.Token.{Token}
 use Rattle.ob0_scan.specs.declared.scanner.Scanner.{Scanner}
-use Rattle.ob0_scan.specs.TextWithTokens.{span_from, token_at, comment_at}
-use Rattle.ob0_scan.specs.Progress.{ScanProgress}
+use Rattle.ob0_scan.specs.TextWithTokens.{span_from, tokens_of_lexeme, comments_of_lexeme}
+use Rattle.ob0_scan.specs.Progress.{IsScannedUpTo}
 use Rattle.ob0_scan.proofs.Steps.{some_bytes, lexeme_step, progress_same}
 use Rattle.ob0_scan.proofs.scanner.Scanner.record_lexeme.Goals as goal
 use Rattle.ob0_scan.proofs.scanner.Scanner.record_lexeme.Goals.{in-Space, in-Comment+in_ok-push-in-Comment, in-Token+in_ok-push-in-Token}
@@ -19,22 +19,22 @@ returns-clause-consistent_scanner c =
     let front = old.front.tokens.now in
     let before = old.front.comments.now in
     let taken = lexeme_step text at kind c.args.len c.requires.first (front ++ old.tokens.items) (before ++ old.comments.items) old.faults.items c.requires.consistent_scanner in
-    let Kept = λ (s : Scanner). ScanProgress s.text.now (at + c.args.len) (s.front.tokens.now ++ s.tokens.items) (s.front.comments.now ++ s.comments.items) s.faults.items in
-    let with_found : (us : List Token) (ds : List Span) → us ≡ old.tokens.items ++ token_at kind span → ds ≡ old.comments.items ++ comment_at kind span → ScanProgress text (at + c.args.len) (front ++ us) (before ++ ds) old.faults.items = λ us ds et ec.
-    progress_same text (at + c.args.len) ((front ++ old.tokens.items) ++ token_at kind span) (front ++ us) ((before ++ old.comments.items) ++ comment_at kind span) (before ++ ds) old.faults.items old.faults.items
-    (ap (λ x. front ++ x) et ∙ sym (append_assoc front old.tokens.items (token_at kind span)))
-    (ap (λ x. before ++ x) ec ∙ sym (append_assoc before old.comments.items (comment_at kind span)))
+    let Kept = λ (s : Scanner). IsScannedUpTo s.text.now (at + c.args.len) (s.front.tokens.now ++ s.tokens.items) (s.front.comments.now ++ s.comments.items) s.faults.items in
+    let with_found : (us : List Token) (ds : List Span) → us ≡ old.tokens.items ++ tokens_of_lexeme kind span → ds ≡ old.comments.items ++ comments_of_lexeme kind span → IsScannedUpTo text (at + c.args.len) (front ++ us) (before ++ ds) old.faults.items = λ us ds et ec.
+    progress_same text (at + c.args.len) ((front ++ old.tokens.items) ++ tokens_of_lexeme kind span) (front ++ us) ((before ++ old.comments.items) ++ comments_of_lexeme kind span) (before ++ ds) old.faults.items old.faults.items
+    (ap (λ x. front ++ x) et ∙ sym (append_assoc front old.tokens.items (tokens_of_lexeme kind span)))
+    (ap (λ x. before ++ x) ec ∙ sym (append_assoc before old.comments.items (comments_of_lexeme kind span)))
     refl taken in
     elim c.match-kind.branch [
       | in-Space w ↦ subst Kept (sym w.self-is) (with_found old.tokens.items old.comments.items
-          (sym (ap (λ k. old.tokens.items ++ token_at k span) w.in-Space.is ∙ append-nil old.tokens.items))
-          (sym (ap (λ k. old.comments.items ++ comment_at k span) w.in-Space.is ∙ append-nil old.comments.items)))
+          (sym (ap (λ k. old.tokens.items ++ tokens_of_lexeme k span) w.in-Space.is ∙ append-nil old.tokens.items))
+          (sym (ap (λ k. old.comments.items ++ comments_of_lexeme k span) w.in-Space.is ∙ append-nil old.comments.items)))
       | in-Comment+in_ok-push-in-Comment w ↦ subst Kept (sym w.self-is) (with_found old.tokens.items w.push.new.self.items
-          (sym (ap (λ k. old.tokens.items ++ token_at k span) w.in-Comment.is ∙ append-nil old.tokens.items))
-          (chosen _ _ _ _ w.push.ensures.items (ap is_ok w.in_ok-push-in-Comment.was) ∙ sym (ap (λ k. old.comments.items ++ comment_at k span) w.in-Comment.is)))
+          (sym (ap (λ k. old.tokens.items ++ tokens_of_lexeme k span) w.in-Comment.is ∙ append-nil old.tokens.items))
+          (chosen _ _ _ _ w.push.ensures.items (ap is_ok w.in_ok-push-in-Comment.was) ∙ sym (ap (λ k. old.comments.items ++ comments_of_lexeme k span) w.in-Comment.is)))
       | in-Token+in_ok-push-in-Token w ↦ subst Kept (sym w.self-is) (with_found w.push-in-Token.new.self.items old.comments.items
-          (chosen _ _ _ _ w.push-in-Token.ensures.items (ap is_ok w.in_ok-push-in-Token.was) ∙ sym (ap (λ k. old.tokens.items ++ token_at k span) w.in-Token.is))
-          (sym (ap (λ k. old.comments.items ++ comment_at k span) w.in-Token.is ∙ append-nil old.comments.items)))
+          (chosen _ _ _ _ w.push-in-Token.ensures.items (ap is_ok w.in_ok-push-in-Token.was) ∙ sym (ap (λ k. old.tokens.items ++ tokens_of_lexeme k span) w.in-Token.is))
+          (sym (ap (λ k. old.comments.items ++ comments_of_lexeme k span) w.in-Token.is ∙ append-nil old.comments.items)))
     ]
 
 pub returns-clause-further : goal.returns-clause-further
@@ -45,22 +45,22 @@ returns-clause-one c =
     let old = c.args.self.now in
     let kind = c.args.kind in
     let span = span_from old.at c.args.len in
-    let Taken : Scanner → Type 0 = λ (s : Scanner). (length s.faults.items ≡ 0 → length old.faults.items ≡ 0) × (s.tokens.items ≡ old.tokens.items ++ token_at kind span) × (s.comments.items ≡ old.comments.items ++ comment_at kind span) in
+    let Taken : Scanner → Type 0 = λ (s : Scanner). (length s.faults.items ≡ 0 → length old.faults.items ≡ 0) × (s.tokens.items ≡ old.tokens.items ++ tokens_of_lexeme kind span) × (s.comments.items ≡ old.comments.items ++ comments_of_lexeme kind span) in
     let taken : Taken c.match-kind.self = elim c.match-kind.branch [
       | in-Space w ↦ subst Taken (sym w.self-is) (
         λ none. none,
-        sym (ap (λ k. old.tokens.items ++ token_at k span) w.in-Space.is ∙ append-nil old.tokens.items),
-        sym (ap (λ k. old.comments.items ++ comment_at k span) w.in-Space.is ∙ append-nil old.comments.items),
+        sym (ap (λ k. old.tokens.items ++ tokens_of_lexeme k span) w.in-Space.is ∙ append-nil old.tokens.items),
+        sym (ap (λ k. old.comments.items ++ comments_of_lexeme k span) w.in-Space.is ∙ append-nil old.comments.items),
       )
       | in-Comment+in_ok-push-in-Comment w ↦ subst Taken (sym w.self-is) (
         λ none. none,
-        sym (ap (λ k. old.tokens.items ++ token_at k span) w.in-Comment.is ∙ append-nil old.tokens.items),
-        chosen _ _ _ _ w.push.ensures.items (ap is_ok w.in_ok-push-in-Comment.was) ∙ sym (ap (λ k. old.comments.items ++ comment_at k span) w.in-Comment.is),
+        sym (ap (λ k. old.tokens.items ++ tokens_of_lexeme k span) w.in-Comment.is ∙ append-nil old.tokens.items),
+        chosen _ _ _ _ w.push.ensures.items (ap is_ok w.in_ok-push-in-Comment.was) ∙ sym (ap (λ k. old.comments.items ++ comments_of_lexeme k span) w.in-Comment.is),
       )
       | in-Token+in_ok-push-in-Token w ↦ subst Taken (sym w.self-is) (
         λ none. none,
-        chosen _ _ _ _ w.push-in-Token.ensures.items (ap is_ok w.in_ok-push-in-Token.was) ∙ sym (ap (λ k. old.tokens.items ++ token_at k span) w.in-Token.is),
-        sym (ap (λ k. old.comments.items ++ comment_at k span) w.in-Token.is ∙ append-nil old.comments.items),
+        chosen _ _ _ _ w.push-in-Token.ensures.items (ap is_ok w.in_ok-push-in-Token.was) ∙ sym (ap (λ k. old.tokens.items ++ tokens_of_lexeme k span) w.in-Token.is),
+        sym (ap (λ k. old.comments.items ++ comments_of_lexeme k span) w.in-Token.is ∙ append-nil old.comments.items),
       )
     ] in
     λ none. record { kind = kind; len = c.args.len; had_no_fault = taken.0 none; tokens = taken.1; comments = taken.2 }

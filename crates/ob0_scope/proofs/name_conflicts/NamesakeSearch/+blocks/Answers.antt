@@ -8,8 +8,8 @@ use Rattle.ob0_scope.specs.BlockSearches.{namesake_in_block, namesake_in_procedu
 use Rattle.ob0_scope.proofs.Finding.{all_found}
 use Rattle.ob0_scope.proofs.name_conflicts.NamesakeSearch.+blocks.Goals as goal
 
-pub find_in_block-returns : goal.find_in_block-returns
-find_in_block-returns t c =
+pub find_namesake_in_block-returns : goal.find_namesake_in_block-returns
+find_namesake_in_block-returns t c =
     let s = c.args.self.now in
     let own = c.args.own.items in
     let procedures = items_of procedure_of (out-Block c.args.b.now).procedures.items in

@@ -3,5 +3,5 @@ use Rattle.ob0_scope.specs.BlockSearches.{namesake_in_procedures}
 use Rattle.ob0_scope.proofs.Finding.{Finding}
 use Rattle.ob0_scope.proofs.name_conflicts.NamesakeSearch.+blocks.Given as goal
 
-abbrev pub invariant-find_in_block-loop-p : goal.invariant-find_in_block-loop-p
-invariant-find_in_block-loop-p l = Finding (λ xs. namesake_in_procedures l.self (items_of procedure_of xs)) l.p-items l.initial.found l.p-index l.found
+abbrev pub invariant-find_namesake_in_block-loop-p : goal.invariant-find_namesake_in_block-loop-p
+invariant-find_namesake_in_block-loop-p l = Finding (λ xs. namesake_in_procedures l.self (items_of procedure_of xs)) l.p-items l.initial.found l.p-index l.found

@@ -1,6 +1,6 @@
 use Rattle.std.proofs.Common.{◌≡◌, if◌then◌else◌, ◌++◌, List, [], ◌∷◌, None, Some, length, sym, ap, arith, vec_len, ◌∙◌, refl, subst}
 use Rattle.ob0_scope_numbering.specs.declared.newest.NameEntry.{NameEntry}
-use Rattle.ob0_scope_numbering.specs.Keys.{Key}
+use Rattle.ob0_scope_numbering.specs.Keys.{NameKey}
 use Rattle.ob0_language_names.specs.Names.{same_name}
 use Rattle.ob0_scope_numbering.specs.NewestNames.{AreNamePositions, newest_binding_in, position_of_name}
 use Rattle.ob0_scope_numbering.proofs.NewestNames.{Renews, none_newer, place_added, places_added}
@@ -13,8 +13,8 @@ invariant_of-self-2 c =
     let kept : c.reserve.new.self.items ≡ items = c.reserve.ensures.items in
     let absent : position_of_name items c.args.name.now ≡ None = ap (λ es. position_of_name es c.args.name.now) c.self.view_is ∙ c.requires in
     let count : vec_len c.reserve.new.self ≡ length c.reserve.new.self.items = omega (arith, c.reserve.new.self.ok) in
-    let renews = subst (λ (k : Key). Renews k c.self.inside.name_positions c.insert.new.self (Some (length items))) c.key_of.ensures
-    (subst (λ i. Renews c.key_of.result c.self.inside.name_positions c.insert.new.self (Some i)) (c.len.ensures ∙ (count ∙ ap length kept)) c.in_ok-insert.ensures.updates) in
+    let renews = subst (λ (k : NameKey). Renews k c.self.inside.name_positions c.insert.new.self (Some (length items))) c.key_of_name.ensures
+    (subst (λ i. Renews c.key_of_name.result c.self.inside.name_positions c.insert.new.self (Some i)) (c.len.ensures ∙ (count ∙ ap length kept)) c.in_ok-insert.ensures.updates) in
     subst (AreNamePositions c.insert.new.self) (sym (c.push_reserved.ensures.items ∙ ap (λ (l : List NameEntry). l ++ (r ∷ [])) kept)) (places_added c.self.inside.name_positions c.insert.new.self items r absent renews c.self.invariant)
 
 pub returns-clause-newest : goal.returns-clause-newest

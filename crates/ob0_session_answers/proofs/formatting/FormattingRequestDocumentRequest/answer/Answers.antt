@@ -8,7 +8,7 @@ use Rattle.ob0_text.specs.RefusalTexts.{refusal_text}
 use Rattle.ob0_text.specs.declared.edits.Edit.{Edit}
 use Rattle.ob0_text.specs.declared.refusals.EditRefusal.{EditRefusal}
 use Rattle.ob0_text.specs.declared.refusals.EditRefusal.TheVariants.{TooLong}
-use Rattle.ob0_edits.specs.Layouts.{FindsFormatResult, IsFormatResult}
+use Rattle.ob0_edits.specs.Layouts.{IsOptionalFormatResult, IsFormatResult}
 use Rattle.ob0_session_json.specs.Shapes.{edit_refusal, edits_value}
 use Rattle.ob0_session_json.proofs.Plain.{edits_can_be_sent}
 use Rattle.ob0_session_answers.proofs.formatting.FormattingRequestDocumentRequest.answer.Goals as goal
@@ -17,7 +17,7 @@ pub returns-in-Ok : goal.returns-in-Ok
 returns-in-Ok g c =
     let unit = g.T.TextStore.unit_of c.args.text.now in
     let text : List ℕ = g.T.TextStore.content c.args.text.now in
-    let outcome = subst (λ (o : Option (Result (Vec Edit Global) EditRefusal)). FindsFormatResult unit c.args.self.now.indent text o) c.in-Some.is c.in_ok-outcome.ensures in
+    let outcome = subst (λ (o : Option (Result (Vec Edit Global) EditRefusal)). IsOptionalFormatResult unit c.args.self.now.indent text o) c.in-Some.is c.in_ok-outcome.ensures in
     let laid = subst (λ (o : Result (Vec Edit Global) EditRefusal). IsFormatResult unit c.args.self.now.indent text o) c.in-Ok.is outcome in
     let is = ap edits_value c.as_slice.ensures.value in
     IfOk-weaker c.answer_text.result _ _ (λ bytes sent. (
@@ -30,7 +30,7 @@ pub returns-in-Err : goal.returns-in-Err
 returns-in-Err g c =
     let unit = g.T.TextStore.unit_of c.args.text.now in
     let text : List ℕ = g.T.TextStore.content c.args.text.now in
-    let outcome = subst (λ (o : Option (Result (Vec Edit Global) EditRefusal)). FindsFormatResult unit c.args.self.now.indent text o) c.in-Some.is c.in_ok-outcome.ensures in
+    let outcome = subst (λ (o : Option (Result (Vec Edit Global) EditRefusal)). IsOptionalFormatResult unit c.args.self.now.indent text o) c.in-Some.is c.in_ok-outcome.ensures in
     let long = subst (λ (o : Result (Vec Edit Global) EditRefusal). IsFormatResult unit c.args.self.now.indent text o) c.in-Err.is outcome in
     IfOk-weaker c.refusal_with_reason.result _ _ (λ bytes sent. (
       edit_refusal (id_data c.args.self.now.id.now) (refusal_text TooLong),
@@ -42,5 +42,5 @@ pub returns-in-None : goal.returns-in-None
 returns-in-None g c =
     let unit = g.T.TextStore.unit_of c.args.text.now in
     let text : List ℕ = g.T.TextStore.content c.args.text.now in
-    let ill = subst (λ (o : Option (Result (Vec Edit Global) EditRefusal)). FindsFormatResult unit c.args.self.now.indent text o) c.in-None.is c.in_ok-outcome.ensures in
+    let ill = subst (λ (o : Option (Result (Vec Edit Global) EditRefusal)). IsOptionalFormatResult unit c.args.self.now.indent text o) c.in-None.is c.in_ok-outcome.ensures in
     IfOk-weaker c.ill_typed_refusal.result _ _ (λ bytes sent. (edit_refusal (id_data c.args.self.now.id.now) (codes "ill-typed"), inr (inr (ill, refl)), sent)) c.ill_typed_refusal.ensures

@@ -6,7 +6,7 @@ use Rattle.ob0_refs.specs.declared.answers.Hover.{Hover}
 use Rattle.ob0_refs.specs.Questions.{hover_at_offset}
 use Rattle.ob0_scope_table.specs.Resolution.{Resolution}
 use Rattle.serde_json.specs.Data.{null}
-use Rattle.ob0_session_answers.specs.Questions.{hover_with_range, value_or_null}
+use Rattle.ob0_session_answers.specs.Questions.{hover_value_with_range, value_or_null}
 use Rattle.ob0_session_answers.proofs.Naming.{FoundOf, found_of, null_can_be_sent}
 use Rattle.ob0_session_answers.proofs.questions.HoverRequestDocumentRequest.answer.Goals as goal
 
@@ -18,7 +18,7 @@ returns-in-Some g c =
     let found = found_of c.args.analysis.now text is c.in_ok-found.field-0 c.in_ok-found.ensures.utf8 (sym c.requires) c.in_ok-found.ensures.found in
     let there = subst (λ (a : Option (Option Hover)). FoundOf text is a) c.in-Some.is found in
     let same = there.2 ∙ ap (hover_at_offset there.0) c.offset-offset.ensures in
-    IfOk-weaker c.hover_answer.result _ _ (λ bytes sent. (_, inl (there.0, there.1, ap (λ (f : Option HoverText). value_or_null (option_map (hover_with_range unit text) f)) same), sent)) c.hover_answer.ensures
+    IfOk-weaker c.hover_answer.result _ _ (λ bytes sent. (_, inl (there.0, there.1, ap (λ (f : Option HoverText). value_or_null (option_map (hover_value_with_range unit text) f)) same), sent)) c.hover_answer.ensures
 
 pub returns-in-None : goal.returns-in-None
 returns-in-None g c =

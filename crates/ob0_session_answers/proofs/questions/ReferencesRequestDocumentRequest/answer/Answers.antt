@@ -8,7 +8,7 @@ use Rattle.ob0_rpc.specs.Writing.{Writes}
 use Rattle.ob0_scan.specs.declared.lexeme.Span.{Span}
 use Rattle.ob0_refs.specs.Questions.{AreReferencesAt}
 use Rattle.ob0_scope_table.specs.Resolution.{Resolution}
-use Rattle.ob0_session_answers.specs.Questions.{span_location}
+use Rattle.ob0_session_answers.specs.Questions.{span_location_value}
 use Rattle.ob0_session_answers.proofs.Naming.{FoundOf, found_of}
 use Rattle.ob0_session_answers.proofs.questions.ReferencesRequestDocumentRequest.answer.Goals as goal
 
@@ -23,9 +23,9 @@ returns-in-Some g c =
     let there = subst (λ (a : Option (Vec Span Global)). FoundOf text is a) c.in-Some.is found in
     let spans = c.in-Some.found.items in
     let are = subst (λ (offset : ℕ). AreReferencesAt there.0 offset c.args.self.now.include_declaration spans) c.offset.ensures there.2 in
-    let same : array (items_of (map (span_location unit c.as_str-uri.result.now text) c.as_slice.result.now)) ≡ array (items_of (map (span_location unit at.uri text) spans)) = (λ i. array (items_of (map (span_location unit (c.as_str-uri.ensures.value i) text) (c.as_slice.ensures.value i)))) in
+    let same : array (items_of (map (span_location_value unit c.as_str-uri.result.now text) c.as_slice.result.now)) ≡ array (items_of (map (span_location_value unit at.uri text) spans)) = (λ i. array (items_of (map (span_location_value unit (c.as_str-uri.ensures.value i) text) (c.as_slice.ensures.value i)))) in
     IfOk-weaker c.locations_answer.result _ _ (λ bytes sent. (
-      array (items_of (map (span_location unit at.uri text) spans)),
+      array (items_of (map (span_location_value unit at.uri text) spans)),
       inl (there.0, there.1, (spans, are, refl)),
       subst (λ (d : Data). Writes (result_message id d) bytes.items) same sent,
     )) c.locations_answer.ensures

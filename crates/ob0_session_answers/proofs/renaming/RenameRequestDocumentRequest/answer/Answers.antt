@@ -8,7 +8,7 @@ use Rattle.ob0_text.specs.RefusalTexts.{refusal_text}
 use Rattle.ob0_text.specs.declared.edits.Edit.{Edit}
 use Rattle.ob0_text.specs.declared.refusals.EditRefusal.{EditRefusal}
 use Rattle.ob0_session_answers.specs.Renamed.{rename_request_view, edits_for_client}
-use Rattle.ob0_edits.specs.Renamings.{FindsRenameResult}
+use Rattle.ob0_edits.specs.Renamings.{IsOptionalRenameResult}
 use Rattle.ob0_session_json.specs.Shapes.{edit_refusal}
 use Rattle.ob0_session_answers.proofs.renaming.RenameRequestDocumentRequest.answer.Goals as goal
 
@@ -17,8 +17,8 @@ returns-in-Ok g c =
     let unit = g.T.TextStore.unit_of c.args.text.now in
     let text : List ℕ = g.T.TextStore.content c.args.text.now in
     let requested = rename_request_view c.args.self.now c.args.version in
-    let found = subst (λ (a : Option (Result (Vec Edit Global) EditRefusal)). FindsRenameResult unit text requested.at.position requested.new a) c.in-Some.is c.in_ok-outcome.ensures in
-    let renames = subst (λ (o : Result (Vec Edit Global) EditRefusal). FindsRenameResult unit text requested.at.position requested.new (Some o)) c.in-Ok.is found in
+    let found = subst (λ (a : Option (Result (Vec Edit Global) EditRefusal)). IsOptionalRenameResult unit text requested.at.position requested.new a) c.in-Some.is c.in_ok-outcome.ensures in
+    let renames = subst (λ (o : Result (Vec Edit Global) EditRefusal). IsOptionalRenameResult unit text requested.at.position requested.new (Some o)) c.in-Ok.is found in
     let is = ap (edits_for_client requested) c.as_slice.ensures.value in
     IfOk-weaker c.answer_with_edits.result _ _ (λ bytes sent. (
       result_message requested.id (edits_for_client requested c.in-Ok.edits.items),
@@ -31,8 +31,8 @@ returns-in-Err g c =
     let unit = g.T.TextStore.unit_of c.args.text.now in
     let text : List ℕ = g.T.TextStore.content c.args.text.now in
     let requested = rename_request_view c.args.self.now c.args.version in
-    let found = subst (λ (a : Option (Result (Vec Edit Global) EditRefusal)). FindsRenameResult unit text requested.at.position requested.new a) c.in-Some.is c.in_ok-outcome.ensures in
-    let why = subst (λ (o : Result (Vec Edit Global) EditRefusal). FindsRenameResult unit text requested.at.position requested.new (Some o)) c.in-Err.is found in
+    let found = subst (λ (a : Option (Result (Vec Edit Global) EditRefusal)). IsOptionalRenameResult unit text requested.at.position requested.new a) c.in-Some.is c.in_ok-outcome.ensures in
+    let why = subst (λ (o : Result (Vec Edit Global) EditRefusal). IsOptionalRenameResult unit text requested.at.position requested.new (Some o)) c.in-Err.is found in
     IfOk-weaker c.refusal_with_reason.result _ _ (λ bytes sent. (edit_refusal requested.id (refusal_text c.in-Err.refusal), inr (inl (c.in-Err.refusal, why, refl)), sent)) c.refusal_with_reason.ensures
 
 pub returns-in-None : goal.returns-in-None
@@ -40,5 +40,5 @@ returns-in-None g c =
     let unit = g.T.TextStore.unit_of c.args.text.now in
     let text : List ℕ = g.T.TextStore.content c.args.text.now in
     let requested = rename_request_view c.args.self.now c.args.version in
-    let found = subst (λ (a : Option (Result (Vec Edit Global) EditRefusal)). FindsRenameResult unit text requested.at.position requested.new a) c.in-None.is c.in_ok-outcome.ensures in
+    let found = subst (λ (a : Option (Result (Vec Edit Global) EditRefusal)). IsOptionalRenameResult unit text requested.at.position requested.new a) c.in-None.is c.in_ok-outcome.ensures in
     IfOk-weaker c.ill_typed_refusal.result _ _ (λ bytes sent. (edit_refusal requested.id (codes "ill-typed"), inr (inr (found, refl)), sent)) c.ill_typed_refusal.ensures

@@ -32,12 +32,12 @@ pub returns-in_ok-write_next_member : goal.returns-in_ok-write_next_member
 returns-in_ok-write_next_member c =
     let client = c.args.self.now.client in
     rw c.if-self.true
-    (on_ok_weaker c.write_remaining_members.result (λ rest.
-    object_of _ _ (from_definition client) _ _ (action_names client.offers_utf8 client refl) (action_order client.offers_utf8 client refl) (_, c.in_ok-write_first_member.ensures, (_, c.in_ok-write_next_member.ensures, rest))) c.write_remaining_members.ensures)
+    (on_ok_weaker c.write_members_after_definition_provider.result (λ rest.
+    object_of _ _ (from_definition client) _ _ (action_names client.offers_utf8 client refl) (action_order client.offers_utf8 client refl) (_, c.in_ok-write_first_member.ensures, (_, c.in_ok-write_next_member.ensures, rest))) c.write_members_after_definition_provider.ensures)
 
 pub returns-in_ok-write_first_member-2 : goal.returns-in_ok-write_first_member-2
 returns-in_ok-write_first_member-2 c =
     let client = c.args.self.now.client in
     rw c.if-self.false
-    (on_ok_weaker c.write_remaining_members-else-self.result (λ rest.
-    object_of _ _ (members_after_definition_provider client) _ _ (names_by client.offers_utf8 client refl) (order_by client.offers_utf8 client refl) (_, c.in_ok-write_first_member-2.ensures, rest)) c.write_remaining_members-else-self.ensures)
+    (on_ok_weaker c.write_members_after_definition_provider-else-self.result (λ rest.
+    object_of _ _ (members_after_definition_provider client) _ _ (names_by client.offers_utf8 client refl) (order_by client.offers_utf8 client refl) (_, c.in_ok-write_first_member-2.ensures, rest)) c.write_members_after_definition_provider-else-self.ensures)

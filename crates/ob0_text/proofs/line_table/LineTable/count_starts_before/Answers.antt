@@ -9,15 +9,15 @@ loop-low-init c = record {
   between = λ front back is under from. (omega arith, omega (arith, c.count-high.ensures, ap length is, length-append front back));
 }
 
-pub at-requires : goal.at-requires
-at-requires c = omega (arith, c.loop-low-test.true, c.loop-low.invariant.inside)
+pub line_start-requires : goal.line_start-requires
+line_start-requires c = omega (arith, c.loop-low-test.true, c.loop-low.invariant.inside)
 
-pub loop-low-preserved-then-at-offset : goal.loop-low-preserved-then-at-offset
-loop-low-preserved-then-at-offset c =
+pub loop-low-preserved-then-line_start-offset : goal.loop-low-preserved-then-line_start-offset
+loop-low-preserved-then-line_start-offset c =
     let v = c.loop-low in
     let middle : ℕ = v.low + (v.high - v.low) / 2 in
     let inside : middle < length c.args.self.now.starts = omega (arith, c.loop-low-test.true, v.invariant.inside) in
-    let low : get_or c.args.self.now.starts middle 0 < c.args.offset = omega (arith, c.at.ensures, c.if-at-offset.true) in
+    let low : get_or c.args.self.now.starts middle 0 < c.args.offset = omega (arith, c.line_start.ensures, c.if-line_start-offset.true) in
     record {
       order = omega (arith, c.loop-low-test.true);
       inside = v.invariant.inside;
@@ -30,7 +30,7 @@ pub loop-low-preserved : goal.loop-low-preserved
 loop-low-preserved c =
     let v = c.loop-low in
     let middle : ℕ = v.low + (v.high - v.low) / 2 in
-    let up : c.args.offset ≤ get_or c.args.self.now.starts middle 0 = omega (arith, c.at.ensures, c.if-at-offset.false) in
+    let up : c.args.offset ≤ get_or c.args.self.now.starts middle 0 = omega (arith, c.line_start.ensures, c.if-line_start-offset.false) in
     record {
       order = omega (arith, c.loop-low-test.true);
       inside = omega (arith, c.loop-low-test.true, v.invariant.inside);

@@ -4,7 +4,7 @@ use Rattle.std.proofs.lemmas.Str.{IsUtf8-string_bytes, encodes-chars}
 use Rattle.ob0_text.specs.Units.{width_of}
 use Rattle.ob0_text.specs.Patches.{char_count_before, cut_at}
 use Rattle.ob0_text.proofs.Hulls.{changed_there}
-use Rattle.ob0_text.proofs.Prefixes.{patched-one, range_start, range_end, border_at, replaced_at}
+use Rattle.ob0_text.proofs.Prefixes.{patched_text-one, range_start, range_end, border_at, replaced_at}
 use Rattle.ob0_text.proofs.whole_store.WholeTextStore.replace_at.Goals as goal
 
 pub replace_range-requires-clause-in_bounds : goal.replace_range-requires-clause-in_bounds
@@ -36,7 +36,7 @@ returns-clause-ok c =
     let b = max (char_count_before (width_of c.args.self.now.unit) (chars bs) c.args.range.start) (char_count_before (width_of c.args.self.now.unit) (chars bs) c.args.range.end) in
     let from = c.min-from.ensures ∙ (λ i. min (c.offset-start.ensures i) (c.offset-end.ensures i)) ∙ range_start (width_of c.args.self.now.unit) (chars bs) c.args.range.start c.args.range.end in
     let to = c.max-to.ensures ∙ (λ i. max (c.offset-start.ensures i) (c.offset-end.ensures i)) ∙ range_end (width_of c.args.self.now.unit) (chars bs) c.args.range.start c.args.range.end in
-    patched-one (chars bs) a b (chars c.args.text.now)
+    patched_text-one (chars bs) a b (chars c.args.text.now)
     ∙ ap Some (sym (ap chars c.in_ok-replace_range.ensures.bytes ∙ (λ i. chars ((take (from i) bs ++ c.args.text.now) ++ drop (to i) bs)) ∙ replaced_at bs (IsUtf8-string_bytes c.args.self.now.text) a b c.args.text.now c.utf8.text))
 
 pub returns-clause-bytes : goal.returns-clause-bytes

@@ -9,7 +9,7 @@ pub make_declaration_table-requires : goal.make_declaration_table-requires
 make_declaration_table-requires c =
     let t = c.args.self in
     let ok = t.faults.ok.0 in
-    in_order c.args.resolved.now t.faults.items t.checker_state c.args.bodies_with_faults.items c.requires c.walk_without_fault_finds_meanings.ensures c.module-module.ensures.resolved
+    in_order c.args.resolved.now t.faults.items t.checker_state c.args.bodies_with_faults.items c.requires c.walk_without_fault_finds_correct_meanings.ensures c.module-module.ensures.resolved
     (is_nothing t.faults.items (vec_len t.faults) c.is_empty.result (omega (arith, ok)) c.is_empty.ensures c.if-is_empty.true)
 
 pub returns-in_ok-known : goal.returns-in_ok-known
@@ -18,10 +18,10 @@ returns-in_ok-known c =
     let t = c.args.self in
     let ok = t.faults.ok.0 in
     let none = is_nothing t.faults.items (vec_len t.faults) c.is_empty.result (omega (arith, ok)) c.is_empty.ensures c.if-is_empty.true in
-    let table = declares r t.faults.items t.checker_state c.args.bodies_with_faults.items c.requires c.walk_without_fault_finds_meanings.ensures c.module-module.ensures.resolved none in
+    let table = declares r t.faults.items t.checker_state c.args.bodies_with_faults.items c.requires c.walk_without_fault_finds_correct_meanings.ensures c.module-module.ensures.resolved none in
     record {
       faults = c.requires.faults;
-      known = (nothing r t.faults.items t.checker_state c.args.bodies_with_faults.items c.requires c.walk_without_fault_finds_meanings.ensures c.module-module.ensures.resolved none, subst (HasDeclarations (named_tree_of r.module_read)) (sym c.in_ok-known.ensures) table);
+      known = (nothing r t.faults.items t.checker_state c.args.bodies_with_faults.items c.requires c.walk_without_fault_finds_correct_meanings.ensures c.module-module.ensures.resolved none, subst (HasDeclarations (named_tree_of r.module_read)) (sym c.in_ok-known.ensures) table);
       bodies_with_faults = c.requires.faulty_bodies_are;
     }
 

@@ -4,7 +4,7 @@ use Rattle.ob0_types_check.specs.Known.{a_constant}
 use Rattle.ob0_types_check.specs.Operations.{without_fault}
 use Rattle.ob0_types_check.specs.KnownDeclarations.{define}
 use Rattle.ob0_types_check.specs.CheckerViews.{declarations_in_state}
-use Rattle.ob0_types_check.specs.TypeFaults.{reported_constant}
+use Rattle.ob0_types_check.specs.TypeFaults.{report_on_constant_expression}
 use Rattle.ob0_types_check.proofs.Chains.{steps, reports_known, reports_same}
 use Rattle.ob0_types_check.proofs.SameFacts.{facts_same}
 use Rattle.ob0_types_check.proofs.ReportedDeclarations.{constant_reported}
@@ -16,5 +16,5 @@ returns c =
     let x = c.args.c.now.name in
     let e = expression_of c.args.c.now.value in
     reports_same
-    (steps (λ v. without_fault (define (declarations_in_state s) (a_constant v) x)) (reports_same c.in_ok-value.ensures (ap (λ facts. reported_constant facts e) (facts_same s true))) (reports_known c.constant_value.new.faults.items c.define.ensures))
+    (steps (λ v. without_fault (define (declarations_in_state s) (a_constant v) x)) (reports_same c.in_ok-value.ensures (ap (λ facts. report_on_constant_expression facts e) (facts_same s true))) (reports_known c.constant_value.new.faults.items c.define.ensures))
     (sym (constant_reported (declarations_in_state s) x e))

@@ -4,5 +4,5 @@ use Rattle.ob0_types_fields.proofs.field_types.ConstructorWalk.search_formals.Go
 
 pub loop-s-preserved : goal.loop-s-preserved
 loop-s-preserved c =
-    items_go_on c.s-item.result (search_view_in_walk c.args.self.now c.search_section-search.result) c.loop-s.invariant c.loop-s-test.true c.s-item.is
-    c.search_section-search.ensures
+    items_go_on c.s-item.result (search_view_in_walk c.args.self.now c.search_parameter_section-search.result) c.loop-s.invariant c.loop-s-test.true c.s-item.is
+    c.search_parameter_section-search.ensures

@@ -6,7 +6,7 @@ use Rattle.ob0_tree.specs.declared.tree.Term.{out-Term}
 use Rattle.ob0_language_types.specs.Typing.{type_of_variable_or_constant}
 use Rattle.ob0_types_fields.specs.Owned.{fields_in_tree, fields_in_path}
 use Rattle.ob0_types_fields.specs.Walk.{field_walk_meanings}
-use Rattle.ob0_tree.specs.View.{items_of, compound_of, expression_of, addend_of, multiplier_of, selector_of, term_of, factor_of}
+use Rattle.ob0_tree.specs.View.{items_of, compound_expression_of, expression_of, addend_of, multiplier_of, selector_of, term_of, factor_of}
 use Rattle.ob0_types_fields.proofs.MarkWalks.{walk_ends, after_two}
 use Rattle.ob0_types_fields.proofs.MarkPaths.{path_goes_on}
 use Rattle.ob0_types_fields.proofs.SingleFactorFields.{factor_marked, is_nothing}
@@ -54,4 +54,4 @@ pub add_expression_fields-returns-in-CompoundExpression : goal.add_expression_fi
 add_expression_fields-returns-in-CompoundExpression t c =
     let m = field_walk_meanings c.args.self.now in
     subst (λ z. IfOk c.add_compound_fields.result (λ _. c.add_compound_fields.new.found.items ≡ c.args.found.now.items ++ z))
-    (ap (λ e. fields_in_tree m (compound_of e)) c.deref.ensures ∙ sym (ap (λ e. fields_in_tree m (expression_of e)) c.in-CompoundExpression.is)) c.add_compound_fields.ensures
+    (ap (λ e. fields_in_tree m (compound_expression_of e)) c.deref.ensures ∙ sym (ap (λ e. fields_in_tree m (expression_of e)) c.in-CompoundExpression.is)) c.add_compound_fields.ensures

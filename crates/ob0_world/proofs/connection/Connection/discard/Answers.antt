@@ -2,7 +2,7 @@ use Rattle.std.proofs.Common.{◌≡◌, ◌∙◌, ap, sym, subst, cond}
 use Rattle.ob0_world_rules.specs.ClientAndServer.{ClientAndServer}
 use Rattle.ob0_world_rules.specs.EditorActs as acts
 use Rattle.ob0_world_rules.specs.Happens.{editor_acts}
-use Rattle.ob0_world.specs.Queues.{model_from, wire_from}
+use Rattle.ob0_world.specs.Queues.{model_from_fields, wire_from_fields}
 use Rattle.ob0_world.specs.Seen.{drops, nothing, report_of, HappensWithReport}
 use Rattle.ob0_world.specs.Worlds.{Connection, WritesContent}
 use Rattle.ob0_world.proofs.Moved.{discard_shows, writes_none}
@@ -19,11 +19,11 @@ returns-clause-ok g c =
       | else-discard w ↦ ap report_of w.result-is ∙ sym (ap (λ b. cond b (drops k) nothing) w.if-discard.false)
     ] in
     let shows = discard_shows i.editor c.discard.new.self k i.to_server.items i.to_editor.items i.session i.applied.items i.made.items c.discard.result c.discard.ensures.held c.discard.ensures.after c.self.invariant in
-    subst (λ (w : ClientAndServer). HappensWithReport w (editor_acts (acts.discard k)) (report_of c.if-discard.result) (model_from c.discard.new.self i.to_server.items i.session i.to_editor.items i.applied.items i.made.items)) (ap (λ (w : Connection). w.model) c.self.view_is)
+    subst (λ (w : ClientAndServer). HappensWithReport w (editor_acts (acts.discard k)) (report_of c.if-discard.result) (model_from_fields c.discard.new.self i.to_server.items i.session i.to_editor.items i.applied.items i.made.items)) (ap (λ (w : Connection). w.model) c.self.view_is)
     (shows.0, shown ∙ shows.1)
 
 pub returns-clause-wire : goal.returns-clause-wire
 returns-clause-wire g c =
     let i = c.self.inside in
-    subst (λ (w : Connection). WritesContent w.wire (wire_from i.session i.taken.items i.to_server.items i.got.items i.to_editor.items)) c.self.view_is
+    subst (λ (w : Connection). WritesContent w.wire (wire_from_fields i.session i.taken.items i.to_server.items i.got.items i.to_editor.items)) c.self.view_is
     (writes_none i.session i.taken.items i.to_server.items i.got.items i.to_editor.items)

@@ -10,8 +10,8 @@ pub invariant_of-self-in-Published : goal.invariant_of-self-in-Published
 invariant_of-self-in-Published g c =
     let i = c.self.inside in
     let first = first_of i.to_editor.items c.in-Some.content.now c.in-Some.ensures.item.3.0 c.in-Some.ensures.item.1 in
-    let moved = moved_first i.to_editor.items c.move_first.new.waiting.items c.reserve.new.self.items c.move_first.new.got.items c.in-Some.content.now first.0 first.1 c.move_first.ensures in
-    taken_sound i.editor.requested i.to_server.items i.to_editor.items c.move_first.new.waiting.items i.session c.in-Some.content.now (first.1 ∙ ap (λ x. c.in-Some.content.now ∷ x) (sym moved.0)) c.self.invariant
+    let moved = moved_first i.to_editor.items c.move_first_content.new.waiting.items c.reserve.new.self.items c.move_first_content.new.got.items c.in-Some.content.now first.0 first.1 c.move_first_content.ensures in
+    taken_sound i.editor.requested i.to_server.items i.to_editor.items c.move_first_content.new.waiting.items i.session c.in-Some.content.now (first.1 ∙ ap (λ x. c.in-Some.content.now ∷ x) (sym moved.0)) c.self.invariant
 
 pub invariant_of-self-in_err-edits-in-Answered : goal.invariant_of-self-in_err-edits-in-Answered
 invariant_of-self-in_err-edits-in-Answered g c =
@@ -22,10 +22,10 @@ pub invariant_of-self-in-Answered : goal.invariant_of-self-in-Answered
 invariant_of-self-in-Answered g c =
     let i = c.self.inside in
     let first = first_of i.to_editor.items c.in-Some.content.now c.in-Some.ensures.item.3.0 c.in-Some.ensures.item.1 in
-    let moved = moved_first i.to_editor.items c.move_first-in-Answered.new.waiting.items c.reserve.new.self.items c.move_first-in-Answered.new.got.items c.in-Some.content.now first.0 first.1 c.move_first-in-Answered.ensures in
-    same_sound i.editor c.keep.new.self i.to_server.items c.move_first-in-Answered.new.waiting.items i.session
+    let moved = moved_first i.to_editor.items c.move_first_content-in-Answered.new.waiting.items c.reserve.new.self.items c.move_first_content-in-Answered.new.got.items c.in-Some.content.now first.0 first.1 c.move_first_content-in-Answered.ensures in
+    same_sound i.editor c.keep.new.self i.to_server.items c.move_first_content-in-Answered.new.waiting.items i.session
     (ap (λ (e : Editor). e.requested) c.in_ok-edits-in-Answered.ensures.kept ∙ keep_asks i.editor c.in-Answered.number (replacements c.in-Answered.edits.items))
-    (taken_sound i.editor.requested i.to_server.items i.to_editor.items c.move_first-in-Answered.new.waiting.items i.session c.in-Some.content.now (first.1 ∙ ap (λ x. c.in-Some.content.now ∷ x) (sym moved.0)) c.self.invariant)
+    (taken_sound i.editor.requested i.to_server.items i.to_editor.items c.move_first_content-in-Answered.new.waiting.items i.session c.in-Some.content.now (first.1 ∙ ap (λ x. c.in-Some.content.now ∷ x) (sym moved.0)) c.self.invariant)
 
 pub unreachable-requires : goal.unreachable-requires
 unreachable-requires g c =

@@ -1,13 +1,13 @@
 use Rattle.std.proofs.Common.{◌≡◌, false, take, map}
 use Rattle.ob0_world.specs.Code.{event_of}
-use Rattle.ob0_world.specs.Worlds.{Connection, Begins, ConnectionCourse}
+use Rattle.ob0_world.specs.Worlds.{Connection, IsInitialConnection, IsConnectionCourse}
 use Rattle.ob0_world.proofs.world.World.play_in.Given as goal
 
 -- the world is the result of the events so far, from its beginning
 abbrev pub invariant-loop-event : goal.invariant-loop-event
 invariant-loop-event g l =
     (begin : Connection)
-    × Begins l.fn.unit begin
-    × ConnectionCourse begin (map event_of (take l.event-index l.events)) l.world.connection
+    × IsInitialConnection l.fn.unit begin
+    × IsConnectionCourse begin (map event_of (take l.event-index l.events)) l.world.connection
     × (l.world.steps ≡ l.event-index)
     × (l.world.ended ≡ false)

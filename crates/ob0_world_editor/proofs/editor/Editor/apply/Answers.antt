@@ -11,5 +11,5 @@ returns-in_default-clause-ok c =
     subst (λ e. IsApplyOutcome (act_result c.args.self.now (apply c.args.k)) (is_some (edits_of_answer c.args.k c.args.self.now.answers)) applying.TheVariants.NotHeld e) (sym c.in_default.ensures.after)
     (comes_not_held c.args.self.now c.args.k _ c.in_default.ensures.edits refl)
 
-pub rewrite-rewritten-requires : goal.rewrite-rewritten-requires
-rewrite-rewritten-requires c = subst CountsCanGrow (sym c.in-Some.ensures.after) (few_without c.args.self.now c.args.k c.requires)
+pub asked_document_with_edits-rewritten-requires : goal.asked_document_with_edits-rewritten-requires
+asked_document_with_edits-rewritten-requires c = subst CountsCanGrow (sym c.in-Some.ensures.after) (few_without c.args.self.now c.args.k c.requires)

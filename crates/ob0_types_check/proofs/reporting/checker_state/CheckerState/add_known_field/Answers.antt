@@ -1,5 +1,5 @@
 use Rattle.std.proofs.Common.{◌++◌, ◌∷◌, [], ap, ◌∙◌}
-use Rattle.ob0_types_check.specs.CheckerViews.{capped_size, fields_in, size_of}
+use Rattle.ob0_types_check.specs.CheckerViews.{capped_size, known_fields_of, size_of}
 use Rattle.ob0_types_check.specs.WrittenTypeFaults.{sum_of_sizes}
 use Rattle.ob0_types_check.specs.declared.reporting.written_types.KnownFields as gathering
 use Rattle.ob0_types_check.proofs.GatheredFields.{one_more}
@@ -11,6 +11,6 @@ returns c = λ g h.
     let next : gathering.KnownFields = record { fields = c.add.new.self.fields; size = c.combine-gathered.result } in
     let w = size_of c.size_of.result in
     one_more g c.args.self.now old next c.args.name c.args.of w h
-    (c.in_ok-add.ensures.fields ∙ ap (λ n. fields_in old.fields.items ++ record { name = n; of = c.args.of } ∷ []) c.text.ensures)
+    (c.in_ok-add.ensures.fields ∙ ap (λ n. known_fields_of old.fields.items ++ record { name = n; of = c.args.of } ∷ []) c.text.ensures)
     (c.combine-gathered.ensures ∙ ap (λ z. capped_size (sum_of_sizes (size_of z) w)) c.in_ok-add.ensures.size)
     c.size_of.ensures

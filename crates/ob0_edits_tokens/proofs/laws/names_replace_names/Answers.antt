@@ -1,5 +1,0 @@
-use Rattle.ob0_edits_tokens.proofs.Names.{a_name}
-use Rattle.ob0_edits_tokens.proofs.laws.names_replace_names.Goals as goal
-
-pub returns : goal.returns
-returns c = a_name

@@ -1,5 +1,0 @@
-use Rattle.ob0_inline_answers.proofs.EverywhereAnswers.{inlining_everywhere_has_answers}
-use Rattle.ob0_inline_answers.proofs.laws.inlining_everywhere_has_answers.Goals as goal
-
-pub returns : goal.returns
-returns c = inlining_everywhere_has_answers c.constant_uses_are_factors.ensures c.inlining_everywhere_keeps_typing_and_runs.ensures

@@ -1,5 +1,0 @@
-use Rattle.ob0_inline_answers.proofs.HereAnswers.{inlining_here_has_answers}
-use Rattle.ob0_inline_answers.proofs.laws.inlining_here_has_answers.Goals as goal
-
-pub returns : goal.returns
-returns c = inlining_here_has_answers c.constant_uses_are_factors.ensures c.inlining_keeps_typing_and_runs.ensures

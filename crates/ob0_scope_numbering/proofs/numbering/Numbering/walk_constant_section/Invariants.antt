@@ -1,7 +1,0 @@
-use Rattle.ob0_tree.specs.View.{items_of, constant_of}
-use Rattle.ob0_scope_numbering.specs.TableWalk.{visit_constants}
-use Rattle.ob0_scope_numbering.proofs.Going.{Going}
-use Rattle.ob0_scope_numbering.proofs.numbering.Numbering.walk_constant_section.Given as goal
-
-abbrev pub invariant-loop-c : goal.invariant-loop-c
-invariant-loop-c l = Going (λ xs. visit_constants (items_of constant_of xs)) l.c-items l.initial.self l.c-index l.self

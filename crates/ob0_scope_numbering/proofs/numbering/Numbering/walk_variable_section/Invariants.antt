@@ -1,7 +1,0 @@
-use Rattle.ob0_tree.specs.View.{items_of, variable_of}
-use Rattle.ob0_scope_numbering.specs.TableWalk.{visit_variables}
-use Rattle.ob0_scope_numbering.proofs.Going.{Going}
-use Rattle.ob0_scope_numbering.proofs.numbering.Numbering.walk_variable_section.Given as goal
-
-abbrev pub invariant-loop-v : goal.invariant-loop-v
-invariant-loop-v l = Going (λ xs. visit_variables (items_of variable_of xs)) l.v-items l.initial.self l.v-index l.self

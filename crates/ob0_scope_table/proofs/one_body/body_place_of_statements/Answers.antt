@@ -1,4 +1,0 @@
-use Rattle.std.proofs.Common.{◌∙◌, sym, arith}
-use Rattle.ob0_tree.specs.View.{body_of}
-use Rattle.ob0_scope_table.proofs.BodyPlaces.{placed_after, placed_from, placed_none}
-use Rattle.ob0_scope_table.proofs.one_body.body_place_of_statements.Goals as goal

@@ -1,4 +1,0 @@
-use Rattle.ob0_text.proofs.line_lookups.nearest_place_before.Goals as goal
-
-pub returns-clause-place : goal.returns-clause-place
-returns-clause-place c = λ unit _. c.line_start_before-start.ensures.place unit

@@ -1,5 +1,0 @@
-use Rattle.ob0_types_check.proofs.BlocksKnown.{walk_without_fault_finds_meanings-holds}
-use Rattle.ob0_types_check.proofs.laws.walk_without_fault_finds_meanings.Goals as goal
-
-pub returns : goal.returns
-returns c = walk_without_fault_finds_meanings-holds

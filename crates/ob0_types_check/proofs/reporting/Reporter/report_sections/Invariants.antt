@@ -1,8 +1,0 @@
-use Rattle.ob0_tree.specs.View.{further_section_of}
-use Rattle.ob0_types_check.specs.DeclarationFaults.{reported_sections}
-use Rattle.ob0_types_check.specs.CheckerViews.{heading_in_state}
-use Rattle.ob0_types_check.proofs.Chains.{Chained}
-use Rattle.ob0_types_check.proofs.reporting.Reporter.report_sections.Given as goal
-
-abbrev pub invariant-loop-s : goal.invariant-loop-s
-invariant-loop-s l = Chained reported_sections further_section_of l.initial.self.faults.items (heading_in_state l.initial.self.checker_state l.initial.formals.items) l.sections l.s-index l.self.faults.items (heading_in_state l.self.checker_state l.formals.items)

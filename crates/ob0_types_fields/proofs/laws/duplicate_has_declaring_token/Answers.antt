@@ -1,5 +1,0 @@
-use Rattle.ob0_types_fields.proofs.DuplicateFields.{duplicate_has_declaring_token-holds}
-use Rattle.ob0_types_fields.proofs.laws.duplicate_has_declaring_token.Goals as goal
-
-pub returns : goal.returns
-returns c = duplicate_has_declaring_token-holds
