@@ -55,10 +55,9 @@ pub fn diagnosis_of_refusal(
             expected.text(),
             token_span_or_end(tokens, *token),
         ),
-        ParseRefusal::TooDeep { token } => depth_error_diagnosis(
-            alloc,
-            token_span_or_end(tokens, *token),
-        ),
+        ParseRefusal::TooDeep { token } => {
+            depth_error_diagnosis(alloc, token_span_or_end(tokens, *token))
+        }
         ParseRefusal::Memory => Err(AllocError),
     }
 }

@@ -30,20 +30,12 @@ pub(crate) fn value_text_keeps_meaning(
 {
     match value {
         Scalar::Number(_) => Ok(true),
-        Scalar::Truth(true) => name_would_be_bound_to(
-            alloc,
-            names,
-            occurrence,
-            "TRUE",
-            TRUE_ORDINAL,
-        ),
-        Scalar::Truth(false) => name_would_be_bound_to(
-            alloc,
-            names,
-            occurrence,
-            "FALSE",
-            FALSE_ORDINAL,
-        ),
+        Scalar::Truth(true) => {
+            name_would_be_bound_to(alloc, names, occurrence, "TRUE", TRUE_ORDINAL)
+        }
+        Scalar::Truth(false) => {
+            name_would_be_bound_to(alloc, names, occurrence, "FALSE", FALSE_ORDINAL)
+        }
     }
 }
 

@@ -50,10 +50,9 @@ fn answer_about_identifier(well_typed: &WellTyped<'_>, found: ResolvedIdentifier
             well_typed.resolved(),
             BoundName { token, ordinal },
         ),
-        IdentifierMeaning::Field(owner) => answer_about_field(
-            well_typed,
-            FieldName { token, owner },
-        ),
+        IdentifierMeaning::Field(owner) => {
+            answer_about_field(well_typed, FieldName { token, owner })
+        }
     }
 }
 
@@ -135,10 +134,9 @@ fn definition_of_identifier(well_typed: &WellTyped<'_>, found: ResolvedIdentifie
     let token = found.token;
     match found.means {
         IdentifierMeaning::Name(ordinal) => declaration_span(well_typed.resolved(), ordinal),
-        IdentifierMeaning::Field(owner) => definition_of_field(
-            well_typed,
-            FieldName { token, owner },
-        ),
+        IdentifierMeaning::Field(owner) => {
+            definition_of_field(well_typed, FieldName { token, owner })
+        }
     }
 }
 
