@@ -15,7 +15,7 @@
 //! (`Difference::between`). It scans only the rest, and replaces the old tokens there
 //! (`rescan_in_place`). The next step depends on the tokens:
 //! - All tokens have the same kinds as before, and the old text has a tree: the tree is kept. It
-//!   has token indexes instead of names and numbers, so it is also the tree of the new text
+//!   has token indexes instead of names and numbers, so the new text has the same tree
 //!   (`tree_stays` of `ob0_parse`). Bindings are kept if the identifiers have the same spelling and
 //!   no name has a fault. If all tokens that may differ in spelling lie in one body, only the names
 //!   in that body are bound again, and the types outside the body are reused (`one_body.rt`).

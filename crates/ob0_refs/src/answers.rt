@@ -3,7 +3,8 @@
 
 use ob0_scan::Span;
 
-/// What an identifier refers to: a declaration of the text, a predeclared name, or a field.
+/// The thing that an identifier refers to: a declaration of the text, a predeclared name, or a
+/// field.
 #[derive(Clone, Copy, PartialEq, Eq)]
 pub enum Of {
     /// The ordinal of a declaration of the text.

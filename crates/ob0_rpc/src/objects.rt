@@ -7,8 +7,8 @@ ghost use Rattle.ob0_rpc.specs.Appending.{AppendsMember};
 use crate::json_text::{WriteJson, write_piece};
 use std::alloc::AllocError;
 
-/// Writes an object's opening brace and its first member. `name` is written unchanged, so none of
-/// its characters may need an escape.
+/// Writes an object's opening brace and its first member. `name` is written unchanged, so no
+/// character of it may need an escape.
 #[inline(always)]
 pub fn write_first_member<W: WriteJson>(
     out: &mut Vec<u8>,
@@ -24,8 +24,8 @@ pub fn write_first_member<W: WriteJson>(
     value.write(out)
 }
 
-/// Writes a comma and another member of an object. `name` is written unchanged, so none of its
-/// characters may need an escape.
+/// Writes a comma and another member of an object. `name` is written unchanged, so no character of
+/// it may need an escape.
 #[inline(always)]
 pub fn write_next_member<W: WriteJson>(
     out: &mut Vec<u8>,

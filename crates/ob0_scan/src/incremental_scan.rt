@@ -303,11 +303,11 @@ pub fn rescan(
     }
 }
 
-/// Turns the old tokens and comments into the tokens and comments of `new_text`. `from`, `removed`
-/// and `added` describe the change, as in `rescan`. In contrast to `rescan`, this function works in
-/// place: the old tokens before the change aren't copied. The result also compares the new tokens
-/// with the old tokens. If the new text has faults, the faults are returned with the old tokens. If
-/// an allocation fails, the old tokens are lost.
+/// Makes the tokens and comments of `new_text` out of the old ones. `from`, `removed` and `added`
+/// describe the change, as in `rescan`. In contrast to `rescan`, this function works in place: the
+/// old tokens before the change aren't copied. The result also compares the new tokens with the old
+/// tokens. If the new text has faults, the faults are returned with the old tokens. If an
+/// allocation fails, the old tokens are lost.
 pub fn rescan_in_place(
     alloc: Global,
     old: Tokens,

@@ -23,8 +23,8 @@ KeepsAnalysis analyses = CacheContains analyses.by_uri
 abbrev pub AddsNoAnalysis : Analyses → Analyses → Type 0
 AddsNoAnalysis old new = (uri text : List ℕ) → KeepsAnalysis new uri text → KeepsAnalysis old uri text
 
--- States that every analysis in `new` was already in `old`, and that none of them belongs to this
--- document.
+-- States that every analysis in `new` was already in `old`, and that no analysis in `new` belongs
+-- to this document.
 abbrev pub KeepsOnlyOtherAnalyses : Analyses → List ℕ → Analyses → Type 0
 KeepsOnlyOtherAnalyses old document new =
     (uri text : List ℕ)

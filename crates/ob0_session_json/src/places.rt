@@ -92,7 +92,7 @@ fn location_buffer(alloc: Global, uri: &str) -> Result<Vec<u8>, AllocError>
 }
 
 /// Writes a comma and the start of a location's text, up to and including the member `range`, into
-/// the free space of the buffer. These bytes end right before the index 192, where the end of the
+/// the free space of the buffer. These bytes end right before the index 192, at which the end of the
 /// location's text already begins. Returns the index of the comma.
 fn write_location_start(buffer: &mut [u8], range: Range) -> usize
     requires { 192 ≤ length buffer.old }

@@ -57,15 +57,15 @@ macro_rules! rows {
 
 pub(crate) use rows;
 
-/// How the rows of a table are checked.
+/// The way in which the rows of a table are checked.
 #[derive(Clone, Copy, PartialEq, Eq)]
 pub enum CheckMode {
     Asking,
     /// Each question is asked, and an allocation may fail. A row whose answer isn't found because
     /// of such a failure is accepted.
     AllowingFailedAllocation,
-    /// Each question is a renaming. The edits are those of `rename_edits`, which takes the analysis
-    /// instead of the well-typed module.
+    /// Each question is a renaming. `rename_edits` makes the edits: it takes the analysis instead of
+    /// the well-typed module.
     RenamingInAnalysis,
 }
 

@@ -1,4 +1,4 @@
-//! Tests what is found for names in example modules: referents, uses and hover texts.
+//! Tests the answers about names in example modules: referents, uses and hover texts.
 
 use crate::asking::TestQuestion::{AllHovers, NameAt};
 use crate::asking::{

@@ -259,7 +259,7 @@ static PIECES_OF_RANDOM_TEXTS: &[&str] = &[
     "(* a *)", "(**)", "1a", "$", "  ", "7", "é", "a1", ".",
 ];
 
-/// Appends random pieces (`PIECES_OF_RANDOM_TEXTS`) to a text. Their number is random too: less
+/// Appends random pieces (`PIECES_OF_RANDOM_TEXTS`) to a text. Their number is also random: less
 /// than `most`, or 0 if `most` is 0.
 fn push_random_pieces(
     text: &mut String,

@@ -8,8 +8,8 @@ use ob0_world::{Applied, Event, Made, PlayFault, Played, World, WorldFault};
 use std::alloc::{AllocError, Global};
 use std::process::Abort;
 
-/// How a story's events are made to happen: one by one over a store of lines or of whole texts, or
-/// all by `play`.
+/// The way in which a story's events are made to happen: one by one over a store of lines or of
+/// whole texts, or all by `play`.
 #[derive(Clone, Copy)]
 enum StoryMode {
     OverLines,

@@ -56,7 +56,7 @@ IsApplyOutcome done held (applying.TheVariants.Made applied content) new =
 
 -- ---- applying an answer, step by step
 
--- States that the index, counted from 0, is that of the first answer to request `k` in the list.
+-- States that the first answer to request `k` in the list has this index, counted from 0.
 -- Removing this answer leaves the other answers (`answers_except`). If there is no index (None),
 -- states that there is no such answer.
 abbrev pub IsIndexOfAnswer : List answer.ReceivedAnswer → ℕ → Option ℕ → Type 0
