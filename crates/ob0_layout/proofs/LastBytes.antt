@@ -12,7 +12,7 @@ use Rattle.ob0_scan.specs.declared.lexeme.TokenKind.TheVariants as token
 use Rattle.ob0_scan.specs.declared.lexeme.LexemeKind.{LexemeKind}
 use Rattle.ob0_scan.specs.declared.lexeme.LexemeKind.TheVariants as lexeme
 use Rattle.ob0_scan.specs.Classes.{IsLexemeOfKind, reserved_text, symbol_text}
-use Rattle.ob0_scan.specs.Comments.{Closes, is_opening_pair, is_closing_pair, marks, IsComment}
+use Rattle.ob0_scan.specs.Comments.{Closes, is_opening_pair, is_closing_pair, comment_marks, IsComment}
 use Rattle.ob0_scan.proofs.Closings.{Ends, ends_from_comment, counts_other, after_opens, after_closes, after_other, marks_opening, marks_closing, marks_other}
 use Rattle.ob0_scan.proofs.Cuts.{nonempty}
 use Rattle.ob0_layout.proofs.Apart.{IsSolid}
@@ -47,8 +47,8 @@ passing_last passes t some all none e =
     let here : passes (last_byte t) ≡ true = sym (ap passes (last_at t)) ∙ All-get_or (λ x. passes x ≡ true) t (length t - 1) 0 (omega arith) all in
     let never : false ≡ true = sym none ∙ ap passes (sym e) ∙ here in cc
 
-marks_some : (c : ℕ) (v : List ℕ) → 0 < length (marks (c ∷ v))
-unfolding marks
+marks_some : (c : ℕ) (v : List ℕ) → 0 < length (comment_marks (c ∷ v))
+unfolding comment_marks
 marks_some c [] = omega arith
 marks_some c (d ∷ v) = elim (cases_Bool (is_opening_pair c d)) [
   | inl is ↦ omega (arith, ap length (marks_opening c d v is))
@@ -59,29 +59,29 @@ marks_some c (d ∷ v) = elim (cases_Bool (is_opening_pair c d)) [
 ]
 
 -- A text that closes open comments ends with `)`.
-closed_last : (depth : ℕ) (w : List ℕ) → 0 < depth → Ends depth (marks w) → last_byte w ≡ 41
-unfolding marks
+closed_last : (depth : ℕ) (w : List ℕ) → 0 < depth → Ends depth (comment_marks w) → last_byte w ≡ 41
+unfolding comment_marks
 closed_last depth [] some h = absurd (omega (arith, h.balanced))
 closed_last depth (a ∷ []) some h = absurd (omega (arith, h.balanced, counts_other []))
 closed_last depth (a ∷ b ∷ w) some h = elim (cases_Bool (is_opening_pair a b)) [
-  | inl is ↦ over_some a b w (closed_last (suc depth) w (omega arith) (after_opens depth (marks w) (subst (Ends depth) (marks_opening a b w is) h)))
+  | inl is ↦ over_some a b w (closed_last (suc depth) w (omega arith) (after_opens depth (comment_marks w) (subst (Ends depth) (marks_opening a b w is) h)))
   | inr not ↦ elim (cases_Bool (is_closing_pair a b)) [
     | inl is ↦ over_closing is depth some (subst (Ends depth) (marks_closing a b w not is) h) (λ d up g. closed_last d w up g)
-    | inr neither ↦ closed_last depth (b ∷ w) some (after_other depth (marks (b ∷ w)) (subst (Ends depth) (marks_other a b w not neither) h))
+    | inr neither ↦ closed_last depth (b ∷ w) some (after_other depth (comment_marks (b ∷ w)) (subst (Ends depth) (marks_other a b w not neither) h))
   ]
 ]
   where
-    over_closing : is_closing_pair a b ≡ true → (d : ℕ) → 0 < d → Ends d (Closes ∷ marks w) → ((e : ℕ) → 0 < e → Ends e (marks w) → last_byte w ≡ 41) → last_byte (a ∷ b ∷ w) ≡ 41
+    over_closing : is_closing_pair a b ≡ true → (d : ℕ) → 0 < d → Ends d (Closes ∷ comment_marks w) → ((e : ℕ) → 0 < e → Ends e (comment_marks w) → last_byte w ≡ 41) → last_byte (a ∷ b ∷ w) ≡ 41
     over_closing is zero up g more = absurd (omega arith)
     over_closing is (suc zero) up g more = at_end w refl
       where
         at_end : (v : List ℕ) → w ≡ v → last_byte (a ∷ b ∷ v) ≡ 41
         at_end [] e = eqb-true b 41 (and_parts (a == 42) (b == 41) is).1
         at_end (c ∷ v) e =
-            let inner = after_closes 0 (marks w) g in
-            let long : 0 < length (marks w) = subst (λ (x : List ℕ). 0 < length (marks x)) (sym e) (marks_some c v) in
+            let inner = after_closes 0 (comment_marks w) g in
+            let long : 0 < length (comment_marks w) = subst (λ (x : List ℕ). 0 < length (comment_marks x)) (sym e) (marks_some c v) in
             absurd (omega (arith, inner.open_before 0 long))
-    over_closing is (suc (suc d)) up g more = over_some a b w (more (suc d) (omega arith) (after_closes (suc d) (marks w) g))
+    over_closing is (suc (suc d)) up g more = over_some a b w (more (suc d) (omega arith) (after_closes (suc d) (comment_marks w) g))
 
 comment_last : (t : List ℕ) → IsComment t → last_byte t ≡ 13 → ⊥
 comment_last [] c e = omega (arith, e)
