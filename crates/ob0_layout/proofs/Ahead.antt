@@ -72,8 +72,8 @@ first_of (lexeme.Token k) span = Some (next.Token (record { kind = k; span = spa
 
 comes_first : (k : LexemeKind) (at : ℕ) (t : List ℕ) (ls : List Lexeme) → IsSolid k → 0 < length t
     → next_token_or_comment (tokens_from at (record { kind = k; text = t } ∷ ls)) (comments_from at (record { kind = k; text = t } ∷ ls)) ≡ first_of k (span_from at (length t))
-comes_first lexeme.Space at t ls lexemes_without_white_space some = absurd lexemes_without_white_space
-comes_first lexeme.Comment at t ls lexemes_without_white_space some = by_tokens (tokens_from (at + length t) ls) refl
+comes_first lexeme.Space at t ls solid some = absurd solid
+comes_first lexeme.Comment at t ls solid some = by_tokens (tokens_from (at + length t) ls) refl
   where
     by_tokens : (ts : List Token) → tokens_from (at + length t) ls ≡ ts → next_token_or_comment ts (span_from at (length t) ∷ comments_from (at + length t) ls) ≡ Some (next.Comment (span_from at (length t)))
     by_tokens [] e = refl
@@ -81,7 +81,7 @@ comes_first lexeme.Comment at t ls lexemes_without_white_space some = by_tokens 
         let later = first_bound_token (at + length t) ls u ts e in
         let test : nat_lt at u.span.start ≡ true = grind (arith, nat_tests) in
         ap (λ b. if b then Some (next.Comment (span_from at (length t))) else Some (next.Token u)) test
-comes_first (lexeme.Token k) at t ls lexemes_without_white_space some = by_comments (comments_from (at + length t) ls) refl
+comes_first (lexeme.Token k) at t ls solid some = by_comments (comments_from (at + length t) ls) refl
   where
     token : Token
     token = record { kind = k; span = span_from at (length t) }
@@ -107,9 +107,9 @@ module _ (text : List ℕ) where
     pub kind : LexemeKind
     pub t : List ℕ
     pub ls : List Lexeme
-    pub lexemes_without_white_space : IsSolid kind
+    pub solid : IsSolid kind
     pub up : at ≤ place
-    pub indexed_terminals_from : LexemesFrom text place (record { kind = kind; text = t } ∷ ls) []
+    pub from_there : LexemesFrom text place (record { kind = kind; text = t } ∷ ls) []
     pub tokens : tokens_from at rest ≡ tokens_from place (record { kind = kind; text = t } ∷ ls)
     pub comments : comments_from at rest ≡ comments_from place (record { kind = kind; text = t } ∷ ls)
     pub found : (level : ℕ) (broken : Bool) (ss : List LineRole)
@@ -129,16 +129,16 @@ module _ (text : List ℕ) where
         kind = n.kind;
         t = n.t;
         ls = n.ls;
-        lexemes_without_white_space = n.lexemes_without_white_space;
+        solid = n.solid;
         up = omega (arith, n.up);
-        indexed_terminals_from = n.indexed_terminals_from;
+        from_there = n.from_there;
         tokens = n.tokens;
         comments = n.comments;
         found = λ level broken ss. n.found level (broken || contains_line_break t) ss ∙ ap (λ b. lexemes_with_roles n.place level b ss (record { kind = n.kind; text = n.t } ∷ n.ls)) (same broken);
       })
 
   found_here : (k : LexemeKind) (at : ℕ) (t : List ℕ) (ls : List Lexeme) → IsSolid k → LexemesFrom text at (record { kind = k; text = t } ∷ ls) [] → Found at (record { kind = k; text = t } ∷ ls)
-  found_here k at t ls lexemes_without_white_space s =
+  found_here k at t ls solid s =
       let zero : at - at ≡ 0 = omega arith in
       let nothing : slice_range text at at ≡ [] = ap (λ n. take n (drop at text)) zero in
       record {
@@ -146,9 +146,9 @@ module _ (text : List ℕ) where
         kind = k;
         t = t;
         ls = ls;
-        lexemes_without_white_space = lexemes_without_white_space;
+        solid = solid;
         up = omega arith;
-        indexed_terminals_from = s;
+        from_there = s;
         tokens = refl;
         comments = refl;
         found = λ level broken ss. ap (λ b. lexemes_with_roles at level b ss (record { kind = k; text = t } ∷ ls)) (sym (ap (λ g. broken || contains_line_break g) nothing ∙ or-false broken));
@@ -220,7 +220,7 @@ module _ (indent : Indent) (text : List ℕ) where
   -- that change
   pub record Passing (whole : List Cut) (left : List Token) (comments : List Span) (ss : List LineRole) (before : Option KindAndRole) (level start : ℕ) (out : List GapSite) : Type 0 where
     pub rest : List Lexeme
-    pub indexed_terminals_from : LexemesFrom text start rest []
+    pub from_there : LexemesFrom text start rest []
     pub left_is : left ≡ tokens_from start rest
     pub comments_is : comments ≡ comments_from start rest
     pub same : map (gap_cut indent) out ++ changed_gaps text (gaps_left before start (lexemes_with_roles start level (is_none before) ss rest)) ≡ changed_gaps text whole
@@ -229,7 +229,7 @@ module _ (indent : Indent) (text : List ℕ) where
       → Passing (all_gaps indent text ss scan.lexemes) left comments ss None 0 0 out
   passing_at_start s scan ss left comments out text_is left_is comments_is out_is = record {
     rest = scan.lexemes;
-    indexed_terminals_from = subst (λ t. LexemesFrom t 0 scan.lexemes []) (sym text_is) (from_start s scan);
+    from_there = subst (λ t. LexemesFrom t 0 scan.lexemes []) (sym text_is) (from_start s scan);
     left_is = left_is ∙ scan.tokens;
     comments_is = comments_is ∙ scan.comments;
     same = λ i. map (gap_cut indent) (out_is i) ++ changed_gaps text (at_start (lexemes_with_roles 0 0 true ss scan.lexemes) i);
@@ -241,7 +241,7 @@ module _ (indent : Indent) (text : List ℕ) where
       → Passing whole left' comments' ss' before' level' start out'
   passing_moved {whole = whole} {start = start} h a b c d e f = record {
     rest = h.rest;
-    indexed_terminals_from = h.indexed_terminals_from;
+    from_there = h.from_there;
     left_is = a ∙ h.left_is;
     comments_is = b ∙ h.comments_is;
     same = (λ i. map (gap_cut indent) (f i) ++ changed_gaps text (gaps_left (d i) start (lexemes_with_roles start (e i) (is_none (d i)) (c i) h.rest))) ∙ h.same;
@@ -290,7 +290,7 @@ module _ (indent : Indent) (text : List ℕ) where
             within = s'.place.0;
             after = record {
               rest = ls;
-              indexed_terminals_from = s';
+              from_there = s';
               left_is = tokens;
               comments_is = others;
               same = one_more out (make_site start place (gap_before before kind role)) (gaps_left (Some (make_solid kind role)) (place + length t) bs)
@@ -302,19 +302,19 @@ module _ (indent : Indent) (text : List ℕ) where
           → left ≡ tokens_from place (record { kind = kind; text = t } ∷ ls) → comments ≡ comments_from place (record { kind = kind; text = t } ∷ ls)
           → lexemes_with_roles start level (is_none before) ss h.rest ≡ lexemes_with_roles place level (is_none before || contains_line_break (slice_range text start place)) ss (record { kind = kind; text = t } ∷ ls)
           → Goes (first_of kind (span_from place (length t)))
-      passes_kind lexeme.Space place t ls lexemes_without_white_space up s tokens others found = absurd lexemes_without_white_space
-      passes_kind lexeme.Comment place t ls lexemes_without_white_space up s tokens others found =
+      passes_kind lexeme.Space place t ls solid up s tokens others found = absurd solid
+      passes_kind lexeme.Comment place t ls solid up s tokens others found =
           passes lexeme.Comment place t ls (role_at (span_from place (length t))) left (drop 1 comments) ss level up s tokens (ap (drop 1) others) found
-      passes_kind (lexeme.Token k) place t ls lexemes_without_white_space up s tokens others found =
+      passes_kind (lexeme.Token k) place t ls solid up s tokens others found =
           passes (lexeme.Token k) place t ls (next_line_role ss) (drop 1 left) comments (drop 1 ss) (next_line_level level ss) up s (ap (drop 1) tokens) others found
 
       goes : Goes (next_token_or_comment left comments)
-      goes = elim (ahead text start h.rest h.indexed_terminals_from) [
+      goes = elim (ahead text start h.rest h.from_there) [
         | inl n ↦ subst Goes (sym (λ i. next_token_or_comment ((h.left_is ∙ n.tokens) i) ((h.comments_is ∙ n.comments) i))) (ends n)
         | inr n ↦
-            let some = nonempty n.kind n.t n.indexed_terminals_from.each.0.belongs in
-            let first = (λ i. next_token_or_comment ((h.left_is ∙ n.tokens) i) ((h.comments_is ∙ n.comments) i)) ∙ comes_first n.kind n.place n.t n.ls n.lexemes_without_white_space some in
-            subst Goes (sym first) (passes_kind n.kind n.place n.t n.ls n.lexemes_without_white_space n.up n.indexed_terminals_from (h.left_is ∙ n.tokens) (h.comments_is ∙ n.comments) (n.found level (is_none before) ss))
+            let some = nonempty n.kind n.t n.from_there.each.0.belongs in
+            let first = (λ i. next_token_or_comment ((h.left_is ∙ n.tokens) i) ((h.comments_is ∙ n.comments) i)) ∙ comes_first n.kind n.place n.t n.ls n.solid some in
+            subst Goes (sym first) (passes_kind n.kind n.place n.t n.ls n.solid n.up n.from_there (h.left_is ∙ n.tokens) (h.comments_is ∙ n.comments) (n.found level (is_none before) ss))
       ]
 
       pub at_comment : (span : Span) → next_token_or_comment left comments ≡ Some (next.Comment span) → Passes lexeme.Comment span (role_at span) left (drop 1 comments) ss level

@@ -52,19 +52,19 @@ quiet_joins symbol.LeftParen x q = q.starless
 quiet_joins _ x q = refl
 
 quiet_ends : (k : LexemeKind) (x : ℕ) → IsSolid k → Quiet x → continues_lexeme k x ≡ false
-quiet_ends lexeme.Space x lexemes_without_white_space q = absurd lexemes_without_white_space
-quiet_ends lexeme.Comment x lexemes_without_white_space q = refl
-quiet_ends (lexeme.Token (token.Symbol s)) x lexemes_without_white_space q = quiet_joins s x q
-quiet_ends _ x lexemes_without_white_space q = q.alone
+quiet_ends lexeme.Space x solid q = absurd solid
+quiet_ends lexeme.Comment x solid q = refl
+quiet_ends (lexeme.Token (token.Symbol s)) x solid q = quiet_joins s x q
+quiet_ends _ x solid q = q.alone
 
 not_blank : (k : LexemeKind) → IsSolid k → Blank ≡ family_of k → ⊥
-not_blank lexeme.Space lexemes_without_white_space e = lexemes_without_white_space
-not_blank (lexeme.Token token.Identifier) lexemes_without_white_space e = cc
-not_blank _ lexemes_without_white_space e = cc
+not_blank lexeme.Space solid e = solid
+not_blank (lexeme.Token token.Identifier) solid e = cc
+not_blank _ solid e = cc
 
 -- The first byte of a token or comment isn't white space.
 pub solid_first : (k : LexemeKind) (text : List ℕ) → IsSolid k → IsLexemeOfKind k text → is_space (get_or text 0 0) ≡ false
-solid_first k text lexemes_without_white_space h = false_from_ne_true (is_space (get_or text 0 0)) (λ blank. not_blank k lexemes_without_white_space (sym (family-blank (get_or text 0 0) blank) ∙ head_family k text h))
+solid_first k text solid h = false_from_ne_true (is_space (get_or text 0 0)) (λ blank. not_blank k solid (sym (family-blank (get_or text 0 0) blank) ∙ head_family k text h))
 
 differ : false ≡ true → ⊥
 differ e = cc
@@ -210,27 +210,27 @@ Spread indent ls = (at level : ℕ) (broken : Bool) (ss : List LineRole) (a : Le
     → (a.lexeme.kind ≡ left_paren → NoStar (spelled ls)) → Calm (spelled ls) → EachEndsBeforeNext ls → EachEndsBeforeNext (a.lexeme ∷ lexemes_with_formatted_gaps_after indent a (lexemes_with_roles at level broken ss ls))
 
 comment_spread : (indent : Indent) (text : List ℕ) (ls : List Lexeme) → Spread indent ls → Spread indent (record { kind = lexeme.Comment; text = text } ∷ ls)
-comment_spread indent text ls rest at level broken ss a lexemes_without_white_space h after calm apart =
+comment_spread indent text ls rest at level broken ss a solid h after calm apart =
     let c : LexemeWithRole = record { lexeme = record { kind = lexeme.Comment; text = text }; span = span_from at (length text); role = comment_role broken (next_line_level level ss) } in
-    let n : Neighbours a c = record { left = lexemes_without_white_space; right = tt; right_belongs = apart.0.belongs; starless = λ paren uncommented. absurd (differ (sym uncommented)) } in
+    let n : Neighbours a c = record { left = solid; right = tt; right_belongs = apart.0.belongs; starless = λ paren uncommented. absurd (differ (sym uncommented)) } in
     fits_apart a c (lexemes_with_formatted_gaps_after indent c (lexemes_with_roles (at + length text) level false ss ls)) (gap_text_between indent a c) n h (gap_fits indent a c n)
     (rest (at + length text) level false ss c tt apart.0.belongs (λ e. cc) calm apart.1)
 
 token_spread : (indent : Indent) (k : TokenKind) (text : List ℕ) (ls : List Lexeme) → Spread indent ls → Spread indent (record { kind = lexeme.Token k; text = text } ∷ ls)
-token_spread indent k text ls rest at level broken ss a lexemes_without_white_space h after calm apart =
+token_spread indent k text ls rest at level broken ss a solid h after calm apart =
     let t : LexemeWithRole = record { lexeme = record { kind = lexeme.Token k; text = text }; span = span_from at (length text); role = next_line_role ss } in
-    let n : Neighbours a t = record { left = lexemes_without_white_space; right = tt; right_belongs = apart.0.belongs; starless = λ paren uncommented. token_first k text apart.0.belongs (after paren) } in
+    let n : Neighbours a t = record { left = solid; right = tt; right_belongs = apart.0.belongs; starless = λ paren uncommented. token_first k text apart.0.belongs (after paren) } in
     fits_apart a t (lexemes_with_formatted_gaps_after indent t (lexemes_with_roles (at + length text) (next_line_level level ss) false (drop 1 ss) ls)) (gap_text_between indent a t) n h (gap_fits indent a t n)
     (rest (at + length text) (next_line_level level ss) false (drop 1 ss) t tt apart.0.belongs (λ e. calm_first calm (paren_of k text e)) (calm_following calm) apart.1)
 
 kind_spread : (indent : Indent) (k : LexemeKind) (text : List ℕ) (ls : List Lexeme) → Spread indent ls → Spread indent (record { kind = k; text = text } ∷ ls)
-kind_spread indent lexeme.Space text ls rest = λ at level broken ss a lexemes_without_white_space h after calm apart. rest (at + length text) level (broken || contains_line_break text) ss a lexemes_without_white_space h after calm apart.1
+kind_spread indent lexeme.Space text ls rest = λ at level broken ss a solid h after calm apart. rest (at + length text) level (broken || contains_line_break text) ss a solid h after calm apart.1
 kind_spread indent lexeme.Comment text ls rest = comment_spread indent text ls rest
 kind_spread indent (lexeme.Token k) text ls rest = token_spread indent k text ls rest
 
 nothing_spread : (indent : Indent) → Spread indent []
-nothing_spread indent at level broken ss a lexemes_without_white_space h after calm apart = (
-  record { belongs = h; ends = quiet_ends a.lexeme.kind 10 lexemes_without_white_space (record { alone = refl; unequal = refl; starless = refl }) },
+nothing_spread indent at level broken ss a solid h after calm apart = (
+  record { belongs = h; ends = quiet_ends a.lexeme.kind 10 solid (record { alone = refl; unequal = refl; starless = refl }) },
   (record { belongs = record { nonempty = omega arith; all = AllPass-from_list_all is_space (10 ∷ []) refl }; ends = refl }, tt),
 )
 

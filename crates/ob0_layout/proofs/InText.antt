@@ -50,23 +50,23 @@ module _ (text : List ℕ) where
   byte_at at n xs e = sym (get_or-drop at text n 0) ∙ ap (λ ys. get_or ys n 0) e
 
   before_solid : (k : LexemeKind) (at : ℕ) (t : List ℕ) (ls : List Lexeme) → IsSolid k → LexemesFrom text at (record { kind = k; text = t } ∷ ls) [] → IsBorder text at
-  before_solid k at t ls lexemes_without_white_space s = record {
+  before_solid k at t ls solid s = record {
     place = s.place;
     clear = λ ending.
         let here : get_or text (at + 0) 0 ≡ get_or t 0 0 = byte_at at 0 (t ++ (text_of_lexemes ls ++ [])) (s.rest ∙ append_assoc t (text_of_lexemes ls) []) ∙ get_or_append_left t (text_of_lexemes ls ++ []) 0 0 (nonempty k t s.each.0.belongs) in
         let lf : get_or t 0 0 ≡ 10 = sym here ∙ ap (λ n. get_or text n 0) (omega arith) ∙ ending.lf in
-        let first = solid_first k t lexemes_without_white_space s.each.0.belongs in
+        let first = solid_first k t solid s.each.0.belongs in
         let never : true ≡ false = sym (ap is_space lf) ∙ first in absurd (cc);
   }
 
   following_solid : (k : LexemeKind) (at : ℕ) (t : List ℕ) (ls : List Lexeme) → IsSolid k → LexemesFrom text at (record { kind = k; text = t } ∷ ls) [] → IsBorder text (at + length t)
-  following_solid k at t ls lexemes_without_white_space s =
+  following_solid k at t ls solid s =
       let some = nonempty k t s.each.0.belongs in record {
         place = (next_from text at (record { kind = k; text = t }) ls [] s).place;
         clear = λ ending.
             let here : get_or text (at + (length t - 1)) 0 ≡ get_or t (length t - 1) 0 = byte_at at (length t - 1) (t ++ (text_of_lexemes ls ++ [])) (s.rest ∙ append_assoc t (text_of_lexemes ls) []) ∙ get_or_append_left t (text_of_lexemes ls ++ []) 0 (length t - 1) (omega arith) in
             let cr : last_byte t ≡ 13 = sym (last_at t) ∙ sym here ∙ ap (λ n. get_or text n 0) (omega arith) ∙ ending.cr in
-            solid_last k t lexemes_without_white_space s.each.0.belongs cr;
+            solid_last k t solid s.each.0.belongs cr;
       }
 
   at_end : (at : ℕ) → LexemesFrom text at [] [] → (at ≡ length text) × IsBorder text at
@@ -99,10 +99,10 @@ module _ (text : List ℕ) where
       → (role : LineRole) (from level : ℕ) (ss : List LineRole) → from ≤ at → IsBorder text from → White (slice_range text from at)
       → AreIn text from (record { lexeme = record { kind = k; text = t }; span = span_from at (length t); role = role } ∷ lexemes_with_roles (at + length t) level false ss ls)
   unfolding AreIn
-  placed_solid k at t ls lexemes_without_white_space s more role from level ss up start white = (
-    record { ordered = up; within = s.place.0; white = white; start = start; end = before_solid k at t ls lexemes_without_white_space s },
+  placed_solid k at t ls solid s more role from level ss up start white = (
+    record { ordered = up; within = s.place.0; white = white; start = start; end = before_solid k at t ls solid s },
     record { ordered = omega arith; here = lexeme_spanned text at (record { kind = k; text = t }) ls [] s },
-    more (at + length t) level false ss (omega arith) (following_solid k at t ls lexemes_without_white_space s) (empty (at + length t)),
+    more (at + length t) level false ss (omega arith) (following_solid k at t ls solid s) (empty (at + length t)),
   )
 
   placed_kind : (k : LexemeKind) (at : ℕ) (t : List ℕ) (ls : List Lexeme) → LexemesFrom text at (record { kind = k; text = t } ∷ ls) [] → Placed (at + length t) ls → Placed at (record { kind = k; text = t } ∷ ls)

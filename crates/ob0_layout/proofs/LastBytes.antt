@@ -95,9 +95,9 @@ comment_last (a ∷ b ∷ w) c e =
     omega (arith, e, end)
 
 pub solid_last : (k : LexemeKind) (t : List ℕ) → IsSolid k → IsLexemeOfKind k t → last_byte t ≡ 13 → ⊥
-solid_last lexeme.Space t lexemes_without_white_space b e = lexemes_without_white_space
-solid_last lexeme.Comment t lexemes_without_white_space b e = comment_last t b e
-solid_last (lexeme.Token token.Identifier) t lexemes_without_white_space b e = passing_last is_ascii_alphanumeric t (nonempty (lexeme.Token token.Identifier) t b) b.word.all refl e
-solid_last (lexeme.Token (token.ReservedWord r)) t lexemes_without_white_space b e = reserved_last r (sym (ap last_byte b) ∙ e)
-solid_last (lexeme.Token (token.Integer n)) t lexemes_without_white_space b e = passing_last is_ascii_digit t b.digits.nonempty b.digits.all refl e
-solid_last (lexeme.Token (token.Symbol s)) t lexemes_without_white_space b e = symbol_last s (sym (ap last_byte b) ∙ e)
+solid_last lexeme.Space t solid b e = solid
+solid_last lexeme.Comment t solid b e = comment_last t b e
+solid_last (lexeme.Token token.Identifier) t solid b e = passing_last is_ascii_alphanumeric t (nonempty (lexeme.Token token.Identifier) t b) b.word.all refl e
+solid_last (lexeme.Token (token.ReservedWord r)) t solid b e = reserved_last r (sym (ap last_byte b) ∙ e)
+solid_last (lexeme.Token (token.Integer n)) t solid b e = passing_last is_ascii_digit t b.digits.nonempty b.digits.all refl e
+solid_last (lexeme.Token (token.Symbol s)) t solid b e = symbol_last s (sym (ap last_byte b) ∙ e)

@@ -90,24 +90,24 @@ module _ (unit : counting.Unit) (text : List ℕ) (place : Position) (new : Name
 
   pub duplicated : (r : Resolution) → IsIdentifier new → DuplicateFieldNameHasDeclaringToken → (token : ℕ) (why : EditRefusal) → (if same_name new f then None else field_declaring_token r.module_read k new) ≡ Some token
       → why ≡ refusal.Duplicate (token_range (requested_field r) token) → IsFirstRefusalForField (requested_field r) k f why
-  duplicated r id target_of_optional_field token why other is =
+  duplicated r id has_declaring token why other is =
       let found = other_some (same_name new f) (field_declaring_token r.module_read k new) token other in
-      subst (IsFirstRefusalForField (requested_field r) k f) (sym is) (id, target_of_optional_field r.module_read k f new ∙ found.0, ap (option_map (token_range (requested_field r))) found.1)
+      subst (IsFirstRefusalForField (requested_field r) k f) (sym is) (id, has_declaring r.module_read k f new ∙ found.0, ap (option_map (token_range (requested_field r))) found.1)
 
   pub field_answered : (r : Resolution) → IsWellTyped r → IsIdentifier new → IsFreeFieldName (named_tree_of r.module_read) k f new → FreeFieldRenamingKeepsTypingAndRuns → RenamingChangesFieldTokens → RenamingKeepsSpelling
       → ((name : List ℕ) → IsIdentifier name → MayReplaceIdentifier name (name_word name ∷ [])) → AreIdentifierIndexes r.module_read.source.tokens 0 (field_tokens_to_rename r k f new)
       → (result : Result (Vec Edit Global) EditRefusal) → Edited unit text new r.module_read.source (field_tokens_to_rename r k f new) result → AnswersRenamingOfField (requested_field r) k f result
-  field_answered r well id free keeps by_tokens spells resolved_identifier_at names (Ok edits) made =
+  field_answered r well id free keeps by_tokens spells may_replace names (Ok edits) made =
       let m = r.module_read in
       record {
         identifier = id;
         free = free;
         writes =
-            written unit text place new k r (with_renamed_field (named_tree_of m) k f new) (field_tokens_to_rename r k f new) id resolved_identifier_at
+            written unit text place new k r (with_renamed_field (named_tree_of m) k f new) (field_tokens_to_rename r k f new) id may_replace
             (of_rewritten m (with_renamed_field (named_tree_of m) k f new) (field_tokens_to_rename r k f new) new well.resolved.parsed spells names (field_there r k f new well by_tokens))
             (keeps (named_tree_of m) k f new free well.well_typed) edits made;
       }
-  field_answered r well id free keeps by_tokens spells resolved_identifier_at names (Err why) made =
+  field_answered r well id free keeps by_tokens spells may_replace names (Err why) made =
       elim made.refusals [
         | inl e ↦ inr (subst (IsFirstRefusalForField (requested_field r) k f) (sym e) (id, free, made.too_long (ap Err e)))
         | inr e ↦ inl e

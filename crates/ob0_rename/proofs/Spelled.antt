@@ -77,5 +77,5 @@ own_identifier m d new is scan e =
 
 -- The text of a field's identifier at a place is an identifier.
 pub field_spelled : (m : ParsedModule) (found : Option ResolvedIdentifier) → IsScan m.source → IfSome found (λ x. MeansField x.means → order.IsIdentifierToken m.source.tokens x.token) → IfSome found (λ x. MeansField x.means → IsIdentifier (place.token_text_at m.source x.token))
-field_spelled m None scan resolved_identifier_at = tt
-field_spelled m (Some x) scan resolved_identifier_at = λ field. spelled_at m x.token scan (resolved_identifier_at field)
+field_spelled m None scan is_identifier_token = tt
+field_spelled m (Some x) scan is_identifier_token = λ field. spelled_at m x.token scan (is_identifier_token field)

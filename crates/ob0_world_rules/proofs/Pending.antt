@@ -78,12 +78,12 @@ pub record Next (announced waiting now : List AnnouncedDocument) (new : ClientAn
 
 module _ (announced waiting : List AnnouncedDocument) where
   -- An event that announces nothing and changes neither queue nor publications leaves them so.
-  pub silent_result : (w : ClientAndServer) → AreMadeForDocuments w.made announced → Pending w.held w.to_server waiting → Next announced waiting [] w
-  silent_result w are_made_for_documents pending = record { done = announced; awaits = waiting; parts = append-nil (announced ++ waiting); are_made_for_documents = are_made_for_documents; pending = pending }
+  pub unchanged : (w : ClientAndServer) → AreMadeForDocuments w.made announced → Pending w.held w.to_server waiting → Next announced waiting [] w
+  unchanged w are_made_for_documents pending = record { done = announced; awaits = waiting; parts = append-nil (announced ++ waiting); are_made_for_documents = are_made_for_documents; pending = pending }
 
   pub serve_next : (w : ClientAndServer) (queue : List MessageToServer) (new : ClientAndServer) → AreMadeForDocuments w.made announced → Pending w.held queue waiting → w.to_server ≡ queue → ServerTakes w queue new → Next announced waiting [] new
   serve_next w [] new are_made_for_documents pending is h =
-      subst (Next announced waiting []) (sym h) (silent_result w are_made_for_documents (subst (λ q. Pending w.held q waiting) (sym is) pending))
+      subst (Next announced waiting []) (sym h) (unchanged w are_made_for_documents (subst (λ q. Pending w.held q waiting) (sym is) pending))
   serve_next w (m ∷ rest) new are_made_for_documents (now, later, parts, awaits, following) is (said, made, may, is_new) =
       subst (Next announced waiting []) (sym is_new)
       (record {

@@ -33,7 +33,7 @@ LexemesStay = (indent : Indent) (s : TextWithTokens) (scan : IsScan s) (tree : T
 abbrev pub LayoutIsUtf8 : Type 0
 LayoutIsUtf8 = (indent : Indent) (s : TextWithTokens) (scan : IsScan s) (tree : Tree (List ℕ) module_text) → IsUtf8 (formatted_text indent tree scan.lexemes)
 
-module _ (unchanged_result : ModuleStays) (lexed : LexemesStay) (good : LayoutIsUtf8) (unit : Unit) (indent : Indent) (text : List ℕ) (m : IsWellTypedModule (utf8 text)) where
+module _ (stays : ModuleStays) (lexed : LexemesStay) (good : LayoutIsUtf8) (unit : Unit) (indent : Indent) (text : List ℕ) (m : IsWellTypedModule (utf8 text)) where
   held : text ≡ chars m.text_of.scanned.text
   held = chars_from_encodes text m.text_of.scanned.text m.text_of.scan.scan.utf8 (sym m.text_of.scan.of)
 
@@ -46,7 +46,7 @@ module _ (unchanged_result : ModuleStays) (lexed : LexemesStay) (good : LayoutIs
       let t : TextWithTokens = record { text = laid; tokens = tokens_from 0 lexemes; comments = comments_from 0 lexemes } in
       let u = good indent s scan m.tree in
       let read : IsScan t = record { utf8 = u; short = short; lexemes = lexemes; lexed = lexed indent s scan m.tree m.text_of.module_of; tokens = refl; comments = refl } in
-      record { scanned = t; scan = record { of = sym (encodes-chars laid u); scan = read }; module_of = unchanged_result indent s scan m.tree m.text_of.module_of t read refl }
+      record { scanned = t; scan = record { of = sym (encodes-chars laid u); scan = read }; module_of = stays indent s scan m.tree m.text_of.module_of t read refl }
 
   pub lays_out : length (formatted_text_of indent m) ≤ 1048576 → (edits : List Edit) × FormatsText unit indent text edits
   lays_out short =
@@ -66,13 +66,13 @@ module _ (unchanged_result : ModuleStays) (lexed : LexemesStay) (good : LayoutIs
       )
 
 pub formatting_has_answers : ModuleStays → LexemesStay → LayoutIsUtf8 → (indent : Indent) → AlwaysHasAnswer (format indent)
-formatting_has_answers unchanged_result lexed good indent unit text none = none [] (inr (inr unfit, refl))
+formatting_has_answers stays lexed good indent unit text none = none [] (inr (inr unfit, refl))
   where
     go : (m : IsWellTypedModule (utf8 text)) (b : Bool) → nat_lt max_text_length (length (formatted_text_of (clamped_indent indent) m)) ≡ b → ⊥
     go m true long = none [] (inr (inl (record { before = m; long = ltb-true max_text_length (length (formatted_text_of (clamped_indent indent) m)) long }), refl))
     go m false fits =
         let low = ltb-false max_text_length (length (formatted_text_of (clamped_indent indent) m)) fits in
-        let made = lays_out unchanged_result lexed good unit (clamped_indent indent) text m low in
+        let made = lays_out stays lexed good unit (clamped_indent indent) text m low in
         none (replacements made.0) (inl (made.0, made.1, refl))
 
     unfit : WellTypedText text → ⊥
