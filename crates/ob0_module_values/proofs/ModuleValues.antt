@@ -16,7 +16,8 @@ use Rattle.ob0_parse.proofs.Whole.{indexes_again, module_spelled, texts}
 use Rattle.ob0_scope_table.proofs.FewTokens.{few_tokens}
 use Rattle.ob0_scope_table.specs.DuplicatesAndEndNames.{declaration_faults}
 use Rattle.ob0_scope_table.specs.Resolution.{IsResolution, Resolution, undeclared_faults_by_table}
-use Rattle.ob0_scope_numbering.specs.MarkWalk.{initial_walk_state, visit_module}
+use Rattle.ob0_scope_numbering.specs.MarkWalk.{initial_walk_state}
+use Rattle.ob0_scope_numbering.specs.IdentifierWalk.{visit_module}
 use Rattle.ob0_scope_numbering.specs.Marks.{with_marks}
 use Rattle.ob0_scope_numbering.specs.Written.{original_spellings}
 use Rattle.ob0_scope.proofs.Made.{resolution_made}

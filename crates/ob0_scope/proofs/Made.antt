@@ -18,7 +18,8 @@ use Rattle.ob0_language_names.specs.Names.{Name, naming_by_spelling}
 use Rattle.ob0_scope_table.specs.Resolution.{AreNameFaultsOf, IsNumberingTable, IsResolution, OnlyNamesHaveOrdinals, declaring_names, is_duplicate_or_end_name, is_undeclared_fault, is_unbound, label_at, ordinal_in, span_at, undeclared_faults_by_labels, undeclared_faults, undeclared_faults_by_table, ordinal_and_spelling}
 use Rattle.ob0_language_names.specs.Scopes.{label_from_ordinal}
 use Rattle.ob0_scope_numbering.specs.Marks.{with_marks}
-use Rattle.ob0_scope_numbering.specs.MarkWalk.{WalkState, initial_walk_state, visit_module}
+use Rattle.ob0_scope_numbering.specs.MarkWalk.{WalkState, initial_walk_state}
+use Rattle.ob0_scope_numbering.specs.IdentifierWalk.{visit_module}
 use Rattle.ob0_scope_numbering.specs.Written.{original_spellings}
 use Rattle.ob0_scope_table.proofs.Bound.{bindings_by_table}
 use Rattle.ob0_scope_numbering.proofs.Passing.{HasMarks, at_start, module_passed}

@@ -24,7 +24,8 @@ use Rattle.ob0_language_names.specs.Scopes.{Labelling, Scope, ordinal_after_bloc
 use Rattle.ob0_language_names.specs.OccurrenceLookup.{naming_for_lookup_of, resolve_at_occurrences, resolve_at_occurrence}
 use Rattle.ob0_scope_numbering.specs.Marks.{zero_mark_at}
 use Rattle.ob0_scope_numbering.specs.Marks.{with_marks}
-use Rattle.ob0_scope_numbering.specs.MarkWalk.{WalkState, initial_walk_state, visit_module}
+use Rattle.ob0_scope_numbering.specs.MarkWalk.{WalkState, initial_walk_state}
+use Rattle.ob0_scope_numbering.specs.IdentifierWalk.{visit_module}
 use Rattle.ob0_scope_numbering.specs.Written.{Spellings, spelling_at}
 use Rattle.ob0_scope.proofs.Fused.{relabel_module-mapped_tree}
 use Rattle.ob0_language_names.proofs.OccurrenceNames.{occurrences-map_names}

@@ -7,7 +7,7 @@ use Rattle.ob0_tree.specs.View.{block_of, formals_of, items_of, procedure_of}
 use Rattle.ob0_tree.specs.declared.tree.Procedure.{Procedure, out-Procedure}
 use Rattle.ob0_tree.proofs.Viewed.{procedure_parts}
 use Rattle.ob0_scope_numbering.specs.BodyWalk.{with_declarations_before, with_declaration, prefix_before, with_procedure_skipped, renumber_procedure, renumber_procedures}
-use Rattle.ob0_scope_numbering.specs.TableWalk.{WalkState, put_ordinal}
+use Rattle.ob0_scope_numbering.specs.TableWalk.{WalkState}
 
 -- states that the declarations from an index onwards are still to be counted
 pub record Catching (all : List ℕ) (token : ℕ) (start : WalkState) (index : ℕ) (now : WalkState) : Type 0 where
@@ -40,15 +40,15 @@ parts_of q = declares_procedure (out-Procedure q).name (formals_of (out-Procedur
 -- the walk through the remaining procedures, up to the one with the body
 module _ (all : List ℕ) (low : ℕ) (statements : Tree ℕ (maybe body)) where
   abbrev pub going : List Procedure → WalkState → WalkState
-  going xs v = renumber_procedures put_ordinal all low (items_of procedure_of xs) statements v
+  going xs v = renumber_procedures all low (items_of procedure_of xs) statements v
 
   pub passes_one : (q : Procedure) (rest : List Procedure) (v : WalkState) → (out-Procedure q).closing < low → going (q ∷ rest) v ≡ going rest (with_procedure_skipped (out-Procedure q).name (with_declarations_before all (out-Procedure q).name v))
   passes_one q rest v past =
-      ap (λ p. renumber_procedures put_ordinal all low (more p (items_of procedure_of rest)) statements v) (procedure_parts q)
-      ∙ ap (λ b. if b then going rest (with_procedure_skipped (out-Procedure q).name (with_declarations_before all (out-Procedure q).name v)) else renumber_procedure put_ordinal all low (parts_of q) (with_declarations_before all (out-Procedure q).name v)) (lt-ltb (out-Procedure q).closing low past)
+      ap (λ p. renumber_procedures all low (more p (items_of procedure_of rest)) statements v) (procedure_parts q)
+      ∙ ap (λ b. if b then going rest (with_procedure_skipped (out-Procedure q).name (with_declarations_before all (out-Procedure q).name v)) else renumber_procedure all low (parts_of q) (with_declarations_before all (out-Procedure q).name v)) (lt-ltb (out-Procedure q).closing low past)
 
-  pub enters_one : (q : Procedure) (rest : List Procedure) (v : WalkState) → low ≤ (out-Procedure q).closing → going (q ∷ rest) v ≡ renumber_procedure put_ordinal all low (procedure_of q) (with_declarations_before all (out-Procedure q).name v)
+  pub enters_one : (q : Procedure) (rest : List Procedure) (v : WalkState) → low ≤ (out-Procedure q).closing → going (q ∷ rest) v ≡ renumber_procedure all low (procedure_of q) (with_declarations_before all (out-Procedure q).name v)
   enters_one q rest v le =
-      ap (λ p. renumber_procedures put_ordinal all low (more p (items_of procedure_of rest)) statements v) (procedure_parts q)
-      ∙ (ap (λ b. if b then going rest (with_procedure_skipped (out-Procedure q).name (with_declarations_before all (out-Procedure q).name v)) else renumber_procedure put_ordinal all low (parts_of q) (with_declarations_before all (out-Procedure q).name v)) (le-ltb (out-Procedure q).closing low le)
-      ∙ ap (λ p. renumber_procedure put_ordinal all low p (with_declarations_before all (out-Procedure q).name v)) (sym (procedure_parts q)))
+      ap (λ p. renumber_procedures all low (more p (items_of procedure_of rest)) statements v) (procedure_parts q)
+      ∙ (ap (λ b. if b then going rest (with_procedure_skipped (out-Procedure q).name (with_declarations_before all (out-Procedure q).name v)) else renumber_procedure all low (parts_of q) (with_declarations_before all (out-Procedure q).name v)) (le-ltb (out-Procedure q).closing low le)
+      ∙ ap (λ p. renumber_procedure all low p (with_declarations_before all (out-Procedure q).name v)) (sym (procedure_parts q)))

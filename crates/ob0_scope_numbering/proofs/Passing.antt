@@ -15,7 +15,8 @@ use Rattle.ob0_language_names.specs.Names.{Name, naming_by_spelling, same_name}
 use Rattle.ob0_language_names.specs.Parts.{constant_names, formal_names, formal_sections, further_names, module_block, declared_type_names, names_in_list, procedure_name, section_constants, section_names, section_types, section_variables, variable_names}
 use Rattle.ob0_scope_table.specs.Resolution.{declaring_names}
 use Rattle.ob0_language_names.specs.Scopes.{Labelling, Scope, ordinal_after_block, ordinal_after_names, ordinal_after_procedure, ordinal_after_procedures, body_scope, declare_names, declare_procedure_names, ordinal_of, predeclared_scope, relabel_block, relabel_constant_section, relabel_constants, relabel_formals, relabel_further_names, relabel_names, relabel_procedure, relabel_procedures, relabel_section, relabel_sections, relabel_type_section, relabel_types, relabel_uses, relabel_variable_section, relabel_variables, relabel_module}
-use Rattle.ob0_scope_numbering.specs.MarkWalk.{WalkState, initial_walk_state, state_after_procedure_block, state_after_heading, visit_identifier, visit_identifiers, with_oldest_bindings, with_mark, number_declarations, number_declaration, with_visible_names_from, visit_part, visit_block, visit_constant, visit_constant_section, visit_constants, visit_formals, visit_module, visit_procedure, visit_procedures, visit_section, visit_sections, visit_type, visit_type_section, visit_types, visit_variable, visit_variable_section, visit_variables}
+use Rattle.ob0_scope_numbering.specs.MarkWalk.{WalkState, initial_walk_state}
+use Rattle.ob0_scope_numbering.specs.IdentifierWalk.{state_after_procedure_block, state_after_heading, visit_identifier, visit_identifiers, with_oldest_bindings, with_mark, number_declarations, number_declaration, with_visible_names_from, visit_part, visit_block, visit_constant, visit_constant_section, visit_constants, visit_formals, visit_module, visit_procedure, visit_procedures, visit_section, visit_sections, visit_type, visit_type_section, visit_types, visit_variable, visit_variable_section, visit_variables}
 use Rattle.ob0_scope_numbering.proofs.Agreed.{AllFit, agreed}
 use Rattle.ob0_language_names.proofs.Ordinals.{ordinal_after_names-append, declare_names-append, le-ordinal_after_block, le-ordinal_after_names}
 use Rattle.ob0_language_names.proofs.OccurrenceNames.{length-map}

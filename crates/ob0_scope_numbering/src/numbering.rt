@@ -34,7 +34,8 @@ ghost use Rattle.ob0_scope_table.specs.Resolution.{ordinal_in};
 ghost use Rattle.ob0_language_names.specs.Scopes.{ordinal_of, predeclared_count, predeclared_scope};
 ghost use Rattle.ob0_scope_numbering.specs.StoredScopes.{with_scope};
 ghost use Rattle.ob0_scope_numbering.specs.Written.{original_spellings, is_bound_to_renamed, spelling_at};
-ghost use Rattle.ob0_scope_numbering.specs.TableWalk.{with_mark, number_declaration, number_declarations, with_visible_name, with_visible_names_from, with_oldest_bindings, visit_identifier, visit_constant, visit_constant_section, visit_type, visit_type_section, visit_variable, visit_variable_section, visit_section, visit_formals, visit_procedure, visit_block, visit_module, initial_walk_state, number_module, put_ordinal};
+ghost use Rattle.ob0_scope_numbering.specs.TableWalk.{initial_walk_state, number_module};
+ghost use Rattle.ob0_scope_numbering.specs.IdentifierWalk.{with_mark, number_declaration, number_declarations, with_visible_name, with_visible_names_from, with_oldest_bindings, visit_identifier, visit_constant, visit_constant_section, visit_type, visit_type_section, visit_variable, visit_variable_section, visit_section, visit_formals, visit_procedure, visit_block, visit_module};
 ghost use Rattle.ob0_scope_numbering.specs.BodyWalk.{with_declarations_before, with_declaration, renumber_module, with_procedure_skipped, renumber_block, renumber_procedure, initial_walk_state_with_table};
 
 use crate::visible::VisibleBindings;
@@ -88,7 +89,7 @@ impl<'t> Model for Numbering<'t> {
 
 /// Visits the identifiers in expressions, types and statements, which declare nothing.
 impl<'t> Visitor for Numbering<'t> {
-    ghost use Rattle.ob0_scope_numbering.specs.TableWalk.{visit_identifier};
+    ghost use Rattle.ob0_scope_numbering.specs.IdentifierWalk.{visit_identifier};
 
     ghost seen = { visit_identifier };
 
@@ -521,7 +522,7 @@ impl<'t> Numbering<'t> {
         low: usize,
     ) -> Result<(), AllocError>
         ensures { OnOk result (self.new
-            ≡ renumber_procedure put_ordinal all.now low (procedure_of p.now) self.old) }
+            ≡ renumber_procedure all.now low (procedure_of p.now) self.old) }
     {
         let first = self.declaration_count();
         let outside = self.binding_count();
@@ -540,7 +541,7 @@ impl<'t> Numbering<'t> {
     #[cycle(blocks_again)]
     fn revisit_block(&mut self, inner: &Block, all: &[usize], low: usize) -> Result<(), AllocError>
         ensures { OnOk result
-            (self.new ≡ renumber_block put_ordinal all.now low (block_of inner.now) self.old) }
+            (self.new ≡ renumber_block all.now low (block_of inner.now) self.old) }
     {
         self.walk_constant_section(&inner.constants)?;
         self.walk_type_section(&inner.types)?;

@@ -2,7 +2,7 @@ use Rattle.std.proofs.Common.{◌≡◌, OnOk, sym, ap, ◌∙◌, subst}
 use Rattle.ob0_tree.specs.View.{items_of, procedure_of, body_of, types_of, variables_of}
 use Rattle.ob0_tree.proofs.Viewed.{block_parts}
 use Rattle.ob0_tree.specs.declared.tree.Block.{out-Block}
-use Rattle.ob0_scope_numbering.specs.TableWalk.{visit_part, visit_block, visit_procedures, visit_type_section, visit_variable_section}
+use Rattle.ob0_scope_numbering.specs.IdentifierWalk.{visit_part, visit_block, visit_procedures, visit_type_section, visit_variable_section}
 use Rattle.ob0_scope_numbering.proofs.Going.{gone_through}
 use Rattle.ob0_scope_numbering.proofs.numbering.Numbering.+blocks.Goals as goal
 

@@ -1,6 +1,6 @@
 use Rattle.std.proofs.Common.{sym, ap, ◌∙◌}
 use Rattle.ob0_tree.specs.View.{items_of, constants_of, constant_of}
-use Rattle.ob0_scope_numbering.specs.TableWalk.{visit_constant_section, visit_constants}
+use Rattle.ob0_scope_numbering.specs.IdentifierWalk.{visit_constant_section, visit_constants}
 use Rattle.ob0_scope_numbering.proofs.Going.{gone_through}
 use Rattle.ob0_scope_numbering.proofs.numbering.Numbering.walk_constant_section.Goals as goal
 

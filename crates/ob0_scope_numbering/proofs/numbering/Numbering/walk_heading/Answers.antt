@@ -1,6 +1,6 @@
 use Rattle.std.proofs.Common.{sym, ap, ◌∙◌}
 use Rattle.ob0_tree.specs.View.{formals_of, items_of, further_section_of}
-use Rattle.ob0_scope_numbering.specs.TableWalk.{visit_formals, visit_sections}
+use Rattle.ob0_scope_numbering.specs.IdentifierWalk.{visit_formals, visit_sections}
 use Rattle.ob0_scope_numbering.proofs.Going.{gone_through}
 use Rattle.ob0_scope_numbering.proofs.Declaring.{sections_first}
 use Rattle.ob0_scope_numbering.proofs.numbering.Numbering.walk_heading.Goals as goal

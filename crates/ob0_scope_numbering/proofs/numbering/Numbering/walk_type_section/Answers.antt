@@ -1,6 +1,6 @@
 use Rattle.std.proofs.Common.{sym, ap, ◌∙◌}
 use Rattle.ob0_tree.specs.View.{items_of, types_of, type_declaration_of}
-use Rattle.ob0_scope_numbering.specs.TableWalk.{visit_type_section, visit_types}
+use Rattle.ob0_scope_numbering.specs.IdentifierWalk.{visit_type_section, visit_types}
 use Rattle.ob0_scope_numbering.proofs.Going.{gone_through}
 use Rattle.ob0_scope_numbering.proofs.numbering.Numbering.walk_type_section.Goals as goal
 

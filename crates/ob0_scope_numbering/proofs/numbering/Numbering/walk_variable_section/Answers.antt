@@ -1,6 +1,6 @@
 use Rattle.std.proofs.Common.{sym, ap, ◌∙◌}
 use Rattle.ob0_tree.specs.View.{items_of, variables_of, variable_of}
-use Rattle.ob0_scope_numbering.specs.TableWalk.{visit_variable_section, visit_variables}
+use Rattle.ob0_scope_numbering.specs.IdentifierWalk.{visit_variable_section, visit_variables}
 use Rattle.ob0_scope_numbering.proofs.Going.{gone_through}
 use Rattle.ob0_scope_numbering.proofs.numbering.Numbering.walk_variable_section.Goals as goal
 
