@@ -29,7 +29,6 @@ pub mod BlocksFit
 pub mod BlocksKnown
 pub mod TableKnown
 pub mod Reported
-pub mod ReportedWith
 pub mod TypedOperands
 pub mod TypedExpressions
 pub mod TypedNames

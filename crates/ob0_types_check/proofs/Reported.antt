@@ -5,18 +5,16 @@ use Rattle.ob0_scan.specs.declared.fault.Fault.{Fault}
 use Rattle.ob0_tree.specs.ParsedModule.{named_tree_of}
 use Rattle.ob0_scope_table.specs.Resolution.{IsResolution, Resolution, is_undeclared_fault}
 use Rattle.ob0_types_table.specs.Tables.{AreEntriesInOrder}
-use Rattle.ob0_types_check.specs.DeclarationFaults.{module_faults}
+use Rattle.ob0_types_check.specs.DeclarationFaults.{WalkProgress, every_body, module_faults, reported_module}
 use Rattle.ob0_types_check.specs.ModuleLaws.{WalkWithoutFaultFindsMeanings, HasDeclarations, KnowsDeclarations}
 use Rattle.ob0_types_check.specs.Known.{Reported}
 use Rattle.ob0_types_check.specs.Operations.{ReturnsAndReports}
-use Rattle.ob0_types_check.specs.KnownDeclarations.{KnownDeclarations}
-use Rattle.ob0_types_check.specs.SomeBodies.{IsFinishedWalk, WalkProgress, every_body, reported_module_with_bodies, walk_progress_of}
+use Rattle.ob0_types_check.specs.SomeBodies.{IsFinishedWalk, walk_progress_of}
 use Rattle.ob0_types_check.specs.CheckerViews.{declarations_in_state, table_in_state}
 use Rattle.ob0_types_check.specs.declared.reporting.checker_state.CheckerState.{CheckerState}
 use Rattle.ob0_types_check.proofs.Listed.{nothing_left}
 use Rattle.ob0_types_check.proofs.TableKnown.{table_declares, table_in_order}
 use Rattle.ob0_types_check.proofs.ReportedDeclarations.{module_reported}
-use Rattle.ob0_types_check.proofs.ReportedWith.{module_forgets}
 
 -- A list is empty if its length is 0, and not empty otherwise.
 pub is_nothing : (xs : List Fault) (n : ℕ) (b : Bool) → n ≡ length xs → b ≡ (n == 0) → b ≡ true → xs ≡ []
@@ -26,13 +24,11 @@ pub is_something : (xs : List Fault) (n : ℕ) (b : Bool) → n ≡ length xs �
 is_something xs n b long e h none = true≢false (sym (eq-eqb n 0 (long ∙ ap length none)) ∙ (sym e ∙ h))
 
 -- A walk over some bodies ends with the faults of the module if it reports the same as the walk over all bodies.
-pub walked : (r : Resolution) (before after : List Fault) (s : CheckerState) (bodies_with_faults : List ℕ) (t : Reported WalkProgress) → before ≡ filter is_undeclared_fault r.faults → reported_module_with_bodies every_body r ≡ t → ReturnsAndReports before after (walk_progress_of s bodies_with_faults) t → IsFinishedWalk r after s bodies_with_faults
+pub walked : (r : Resolution) (before after : List Fault) (s : CheckerState) (bodies_with_faults : List ℕ) (t : Reported WalkProgress) → before ≡ filter is_undeclared_fault r.faults → reported_module every_body r ≡ t → ReturnsAndReports before after (walk_progress_of s bodies_with_faults) t → IsFinishedWalk r after s bodies_with_faults
 walked r before after s bodies_with_faults t first is reported =
-    let all = sym (module_forgets r) in
     record {
-      faults = reported.reported ∙ ((λ i. first i ++ (sym is i).faults) ∙ (ap (λ (x : Reported KnownDeclarations). filter is_undeclared_fault r.faults ++ x.faults) (sym all) ∙ sym (module_reported r)));
-      known = ap (λ (w : WalkProgress). w.so_far) (reported.known ∙ ap (λ (x : Reported WalkProgress). x.known) (sym is)) ∙ ap (λ (x : Reported KnownDeclarations). x.known) (sym all);
-      faulty_bodies_are = ap (λ (w : WalkProgress). w.bodies_with_faults) (reported.known ∙ ap (λ (x : Reported WalkProgress). x.known) (sym is));
+      faults = reported.reported ∙ ((λ i. first i ++ (sym is i).faults) ∙ sym (module_reported r));
+      known = reported.known ∙ ap (λ (x : Reported WalkProgress). x.known) (sym is);
     }
 
 module _ (r : Resolution) (after : List Fault) (s : CheckerState) (bodies_with_faults : List ℕ) (w : IsFinishedWalk r after s bodies_with_faults) (law : WalkWithoutFaultFindsMeanings) (is : IsResolution r) (none : after ≡ []) where
@@ -40,7 +36,7 @@ module _ (r : Resolution) (after : List Fault) (s : CheckerState) (bodies_with_f
   nothing = sym w.faults ∙ none
 
   pub knows : KnowsDeclarations (declarations_in_state s) (named_tree_of r.module_read)
-  knows = subst (λ p. KnowsDeclarations p (named_tree_of r.module_read)) (sym w.known) (law r is nothing)
+  knows = subst (λ p. KnowsDeclarations p (named_tree_of r.module_read)) (sym (ap (λ (v : WalkProgress). v.so_far) w.known)) (law r is nothing)
 
   pub in_order : AreEntriesInOrder [] s.composites.items
   in_order = table_in_order s (named_tree_of r.module_read) knows

@@ -1,10 +1,10 @@
 -- The code reports the faults of declarations and bodies part by part, as the definitions do.
-use Rattle.std.proofs.Common.{◌≡◌, ℕ, Bool, true, false, if◌then◌else◌, List, [], ◌∷◌, ◌++◌, map, drop, refl, sym, ap, ◌∙◌}
+use Rattle.std.proofs.Common.{◌≡◌, ◌<◌, ◌≤◌, ℕ, ◌+◌, Bool, true, false, if◌then◌else◌, List, [], ◌∷◌, ◌++◌, length, map, drop, refl, sym, ap, ◌∙◌, subst, arith, length-append}
 use Rattle.std.proofs.lemmas.List.{map-append}
 use Rattle.std.specs.List.{filter}
+use Rattle.ob0_scan.specs.declared.fault.Fault.{Fault}
 use Rattle.ob0_scope_table.specs.Resolution.{Resolution, is_undeclared_fault}
-use Rattle.ob0_tree.specs.ParsedModule.{tree_of}
-use Rattle.ob0_language_names.specs.Parts.{formal_sections, further_names, module_block, names_in_list, section_constants, section_types, section_variables}
+use Rattle.ob0_language_names.specs.Parts.{formal_sections, further_names, names_in_list, section_constants, section_types, section_variables}
 use Rattle.ob0_types_table.specs.declared.known.FormalParameter as formal
 use Rattle.ob0_types_table.specs.declared.types.TypeId.{TypeId}
 use Rattle.ob0_tree.specs.Tree.{Tree, begins, block, body, constant, constants, declares, declares_constant, declares_procedure, declares_type, declares_variable, end, expression, formals, further_section, forms_block, item, items, maybe, more, names, none, one, procedure, sequence, then_name, then_section, type_definition, type_definitions, value_section, variable, variable_section, variables, written_type}
@@ -13,10 +13,10 @@ use Rattle.ob0_tree.specs.declared.tree.Names.{Names}
 use Rattle.ob0_tree.specs.declared.tree.Procedure.{Procedure, out-Procedure, roll-out-Procedure}
 use Rattle.ob0_tree.specs.declared.tree.ParameterSection.{ParameterSection}
 use Rattle.ob0_tree.proofs.Viewed.{procedure_made}
-use Rattle.ob0_types_check.specs.DeclarationFaults.{KnownHeading, state_after_heading, reported_constant_declaration, reported_block, reported_body, reported_constants, module_faults, reported_parameters, reported_procedure, reported_procedures, reported_section, reported_sections, reported_types, reported_variables, reported_type_declaration, reported_variable_group, with_parameters}
+use Rattle.ob0_types_check.specs.DeclarationFaults.{KnownHeading, WalkProgress, body_faults, every_body, module_faults, report_body_if_wanted, reported_block, reported_constant_declaration, reported_constants, reported_module, reported_parameters, reported_procedure, reported_procedures, reported_section, reported_sections, reported_type_declaration, reported_types, reported_variable_group, reported_variables, state_after_heading, with_body_if_faulty, with_declarations, with_parameters}
 use Rattle.ob0_types_check.specs.Known.{Meaning, a_constant, a_type, a_variable}
-use Rattle.ob0_types_check.specs.Operations.{without_fault, ◌>>=◌}
-use Rattle.ob0_types_check.specs.KnownDeclarations.{KnownDeclarations, state_at_start, define, define_all, facts_at}
+use Rattle.ob0_types_check.specs.Operations.{ReturnsAndReports, without_fault, ◌>>=◌}
+use Rattle.ob0_types_check.specs.KnownDeclarations.{KnownDeclarations, define, define_all, facts_at}
 use Rattle.ob0_types_check.specs.StatementFaults.{sequence_faults}
 use Rattle.ob0_types_check.specs.CheckerViews.{formal_of}
 use Rattle.ob0_types_check.specs.TypeFaults.{reported_constant}
@@ -110,42 +110,70 @@ sections_stepped h t ts = refl
 pub sections_chain : IsChain reported_sections reported_section
 sections_chain = record { ended = sections_ended; stepped = sections_stepped }
 
-pub no_body_reported : (p : KnownDeclarations) → reported_body p none ≡ without_fault p
-unfolding reported_body
-no_body_reported p = refl
+pub no_body_faults : (p : KnownDeclarations) → body_faults p none ≡ []
+unfolding body_faults
+no_body_faults p = refl
 
-pub body_reported : (p : KnownDeclarations) (a : Tree ℕ sequence) → reported_body p (one (begins a)) ≡ record { known = p; faults = sequence_faults (facts_at p false) a }
-unfolding reported_body
-body_reported p a = refl
+pub some_body_faults : (p : KnownDeclarations) (a : Tree ℕ sequence) → body_faults p (one (begins a)) ≡ sequence_faults (facts_at p false) a
+unfolding body_faults
+some_body_faults p a = refl
 
-pub block_reported : (p : KnownDeclarations) (cs : Tree ℕ (maybe constants)) (ts : Tree ℕ (maybe type_definitions)) (vs : Tree ℕ (maybe variables)) (ps : Tree ℕ (items procedure)) (a : Tree ℕ (maybe body))
-    → reported_block p (forms_block (declares cs ts vs ps) a)
-    ≡ (reported_constants p (section_constants cs) >>= (λ q. reported_types q (section_types ts) >>= (λ r. reported_variables r (section_variables vs) >>= (λ s. reported_procedures s ps >>= (λ t. reported_body t a)))))
-unfolding reported_block
-block_reported p cs ts vs ps a = refl
+module _ (wanted : ℕ → Bool) where
+  pub block_reported : (own : ℕ) (w : WalkProgress) (cs : Tree ℕ (maybe constants)) (ts : Tree ℕ (maybe type_definitions)) (vs : Tree ℕ (maybe variables)) (ps : Tree ℕ (items procedure)) (a : Tree ℕ (maybe body))
+      → reported_block wanted own w (forms_block (declares cs ts vs ps) a)
+      ≡ (reported_constants w.so_far (section_constants cs) >>= (λ q. reported_types q (section_types ts) >>= (λ r. reported_variables r (section_variables vs) >>= (λ s. reported_procedures wanted (with_declarations w s) ps >>= (λ t. report_body_if_wanted (wanted own) own t a)))))
+  unfolding reported_block
+  block_reported own w cs ts vs ps a = refl
 
-procedures_ended : (p : KnownDeclarations) → reported_procedures p end ≡ without_fault p
-unfolding reported_block
-procedures_ended p = refl
+  procedures_ended : (w : WalkProgress) → reported_procedures wanted w end ≡ without_fault w
+  unfolding reported_block
+  procedures_ended w = refl
 
-procedures_stepped : (p : KnownDeclarations) (t : Tree ℕ (item procedure)) (ts : Tree ℕ (items procedure)) → reported_procedures p (more t ts) ≡ (reported_procedure p t >>= (λ q. reported_procedures q ts))
-unfolding reported_block
-procedures_stepped p t ts = refl
+  procedures_stepped : (w : WalkProgress) (t : Tree ℕ (item procedure)) (ts : Tree ℕ (items procedure)) → reported_procedures wanted w (more t ts) ≡ (reported_procedure wanted w t >>= (λ v. reported_procedures wanted v ts))
+  unfolding reported_block
+  procedures_stepped w t ts = refl
 
-pub procedures_chain : IsChain reported_procedures reported_procedure
-procedures_chain = record { ended = procedures_ended; stepped = procedures_stepped }
+  pub procedures_chain : IsChain (reported_procedures wanted) (reported_procedure wanted)
+  procedures_chain = record { ended = procedures_ended; stepped = procedures_stepped }
 
-with_parts : (p : KnownDeclarations) (x : ℕ) (fs : Tree ℕ (maybe formals)) (b : Tree ℕ block) (closing : ℕ)
-    → reported_procedure p (declares_procedure x fs b closing) ≡ (reported_sections (record { formals = []; following = p }) (formal_sections fs) >>= (λ h. reported_block (state_after_heading x h) b))
-unfolding reported_block
-with_parts p x fs b closing = refl
+  with_parts : (w : WalkProgress) (x : ℕ) (fs : Tree ℕ (maybe formals)) (b : Tree ℕ block) (closing : ℕ)
+      → reported_procedure wanted w (declares_procedure x fs b closing) ≡ (reported_sections (record { formals = []; following = w.so_far }) (formal_sections fs) >>= (λ h. reported_block wanted closing (with_declarations w (state_after_heading x h)) b))
+  unfolding reported_block
+  with_parts w x fs b closing = refl
 
-pub procedure_reported : (p : KnownDeclarations) (d : Procedure)
-    → reported_procedure p (procedure_of d) ≡ (reported_sections (record { formals = []; following = p }) (formal_sections (formals_of (out-Procedure d).formals)) >>= (λ h. reported_block (state_after_heading (out-Procedure d).name h) (block_of (out-Procedure d).block)))
-procedure_reported p d =
-    let x = out-Procedure d in
-    ap (reported_procedure p) (sym (ap procedure_of (roll-out-Procedure d)) ∙ procedure_made x) ∙ with_parts p x.name (formals_of x.formals) (block_of x.block) x.closing
+  pub procedure_reported : (w : WalkProgress) (d : Procedure)
+      → reported_procedure wanted w (procedure_of d)
+      ≡ (reported_sections (record { formals = []; following = w.so_far }) (formal_sections (formals_of (out-Procedure d).formals)) >>= (λ h. reported_block wanted (out-Procedure d).closing (with_declarations w (state_after_heading (out-Procedure d).name h)) (block_of (out-Procedure d).block)))
+  procedure_reported w d =
+      let x = out-Procedure d in
+      ap (reported_procedure wanted w) (sym (ap procedure_of (roll-out-Procedure d)) ∙ procedure_made x) ∙ with_parts w x.name (formals_of x.formals) (block_of x.block) x.closing
 
-pub module_reported : (r : Resolution) → module_faults r ≡ filter is_undeclared_fault r.faults ++ (reported_block (state_at_start r) (module_block (tree_of r.module_read))).faults
+pub module_reported : (r : Resolution) → module_faults r ≡ filter is_undeclared_fault r.faults ++ (reported_module every_body r).faults
 unfolding module_faults
 module_reported r = refl
+
+-- ---- one body
+
+with_some : (faults : List Fault) (own : ℕ) (xs : List ℕ) → 0 < length faults → with_body_if_faulty faults own xs ≡ xs ++ own ∷ []
+with_some [] own xs less = absurd (omega (arith, less))
+with_some (fault ∷ faults) own xs less = refl
+
+with_none : (faults : List Fault) (own : ℕ) (xs : List ℕ) → length faults ≤ 0 → with_body_if_faulty faults own xs ≡ xs
+with_none [] own xs le = refl
+with_none (fault ∷ faults) own xs le = absurd (omega (arith, le))
+
+module _ (wanted : Bool) (own : ℕ) (w : WalkProgress) (a : Tree ℕ (maybe body)) (before after : List Fault) (is_wanted : wanted ≡ true) (r : after ≡ before ++ body_faults w.so_far a) where
+  body_if_with : (bodies_with_faults : List ℕ) → bodies_with_faults ≡ with_body_if_faulty (body_faults w.so_far a) own w.bodies_with_faults → ReturnsAndReports before after (record { so_far = w.so_far; bodies_with_faults = bodies_with_faults }) (report_body_if_wanted wanted own w a)
+  body_if_with bodies_with_faults e =
+      subst (λ b. ReturnsAndReports before after (record { so_far = w.so_far; bodies_with_faults = bodies_with_faults }) (report_body_if_wanted b own w a)) (sym is_wanted)
+      (record { known = λ i. record { so_far = w.so_far; bodies_with_faults = e i }; reported = r })
+
+  count : length after ≡ length before + length (body_faults w.so_far a)
+  count = ap length r ∙ length-append before (body_faults w.so_far a)
+
+  -- A body is appended to the list of faulty bodies exactly if it has a fault.
+  pub body_faulty : (bodies_with_faults : List ℕ) → length before < length after → bodies_with_faults ≡ w.bodies_with_faults ++ own ∷ [] → ReturnsAndReports before after (record { so_far = w.so_far; bodies_with_faults = bodies_with_faults }) (report_body_if_wanted wanted own w a)
+  body_faulty bodies_with_faults less e = body_if_with bodies_with_faults (e ∙ sym (with_some (body_faults w.so_far a) own w.bodies_with_faults (omega (arith, less, count))))
+
+  pub body_faultless : length after ≤ length before → ReturnsAndReports before after w (report_body_if_wanted wanted own w a)
+  body_faultless le = body_if_with w.bodies_with_faults (sym (with_none (body_faults w.so_far a) own w.bodies_with_faults (omega (arith, le, count))))

@@ -17,7 +17,7 @@ use Rattle.ob0_scope_table.proofs.Placed.{each_token}
 use Rattle.ob0_scope_table.proofs.FaultTokens.{both_same, filter_same, none_same, texts_stay, values_stay}
 use Rattle.ob0_types_table.specs.declared.types.TypeId.{TypeId}
 use Rattle.ob0_types_table.specs.declared.types.TypeId.TheVariants as type
-use Rattle.ob0_types_check.specs.DeclarationFaults.{KnownHeading, state_after_heading, reported_constant_declaration, reported_block, reported_body, reported_constants, module_faults, reported_parameters, reported_procedure, reported_procedures, reported_section, reported_sections, reported_types, reported_variables, reported_type_declaration, reported_variable_group, with_parameters}
+use Rattle.ob0_types_check.specs.DeclarationFaults.{KnownHeading, WalkProgress, body_faults, every_body, module_faults, report_body_if_wanted, reported_block, reported_constant_declaration, reported_constants, reported_parameters, reported_procedure, reported_procedures, reported_section, reported_sections, reported_type_declaration, reported_types, reported_variable_group, reported_variables, state_after_heading, with_body_if_faulty, with_declarations, with_parameters}
 use Rattle.ob0_types_check.specs.Known.{Meaning, Operand, Reported, a_constant, a_procedure, a_type, a_variable}
 use Rattle.ob0_types_check.specs.Operations.{without_fault, token_before, ◌>>=◌}
 use Rattle.ob0_types_check.specs.KnownDeclarations.{PartTypes, Size, KnownDeclarations, TypeWithState, state_at_start, define, define_all, facts_at, is_within_limits, append_composite, make_type, of_elements, of_fields, size_of_type_so_far, reported_too_large_type, types_so_far, with_meaning}
@@ -37,6 +37,15 @@ gathered_over source ordinals g = record { fields = g.fields; size = g.size; fol
 
 abbrev pub heading_over : TextWithTokens → List (Option ℕ) → KnownHeading → KnownHeading
 heading_over source ordinals h = record { formals = h.formals; following = so_over source ordinals h.following }
+
+-- the walk through both texts: the declarations so far, without a text, and the bodies with faults in each text
+pub record Both : Type 0 where
+  pub so : KnownDeclarations
+  pub in_old : List ℕ
+  pub in_new : List ℕ
+
+abbrev pub further : Both → KnownDeclarations → Both
+further z p = record { so = p; in_old = z.in_old; in_new = z.in_new }
 
 -- returns the meaning of the declaration with this ordinal
 abbrev pub declared_at : KnownDeclarations → ℕ → Option (Meaning TypeId)
@@ -286,44 +295,67 @@ module _ (old new : TextWithTokens) (os ns : List (Option ℕ)) (P : ℕ → Typ
 
   -- ---- bodies
 
-  pub body_same : (p : KnownDeclarations) (b : Tree ℕ (maybe body)) → Each b → So (reported_body (so_old p) b) (reported_body (so_new p) b)
-  unfolding reported_body
-  body_same p none h = rightly old new so_old so_new p
-  body_same p (one (begins statements)) h = record { value = p; before = refl; after = refl; faults = sequence_same old new os ns P w (types_so_far p.made) (declared_at p) false statements h }
+  pub body_same : (p : KnownDeclarations) (b : Tree ℕ (maybe body)) → Each b → AreFaultsAtSameTokens old new (body_faults (so_old p) b) (body_faults (so_new p) b)
+  unfolding body_faults
+  body_same p none h = none_same old new
+  body_same p (one (begins statements)) h = sequence_same old new os ns P w (types_so_far p.made) (declared_at p) false statements h
 
   -- ---- blocks and procedures
 
+  abbrev pub walked_old : Both → WalkProgress
+  walked_old z = record { so_far = so_old z.so; bodies_with_faults = z.in_old }
+
+  abbrev pub walked_new : Both → WalkProgress
+  walked_new z = record { so_far = so_new z.so; bodies_with_faults = z.in_new }
+
+  -- returns both states at the end of a body that is walked
+  abbrev pub after_body : ℕ → Both → Tree ℕ (maybe body) → Both
+  after_body own z b = record {
+    so = z.so;
+    in_old = with_body_if_faulty (body_faults (so_old z.so) b) own z.in_old;
+    in_new = with_body_if_faulty (body_faults (so_new z.so) b) own z.in_new;
+  }
+
+  abbrev Walks : Reported WalkProgress → Reported WalkProgress → Type 0
+  Walks r s = Alike old new walked_old walked_new r s
+
+  body_walked : (own : ℕ) (z : Both) (b : Tree ℕ (maybe body)) → Each b → Walks (report_body_if_wanted true own (walked_old z) b) (report_body_if_wanted true own (walked_new z) b)
+  body_walked own z b h = record { value = after_body own z b; before = refl; after = refl; faults = body_same z.so b h }
+
   -- If a block has the same report in both texts from alike states, it also has after a heading.
-  block_after : (b : Tree ℕ block) → ((q : KnownDeclarations) → So (reported_block (so_old q) b) (reported_block (so_new q) b)) → (h : KnownHeading) (x : ℕ) → P x → So (reported_block (state_after_heading x (heading_old h)) b) (reported_block (state_after_heading x (heading_new h)) b)
-  block_after b each h x at =
+  block_after : (own : ℕ) (z : Both) (b : Tree ℕ block) → ((y : Both) → Walks (reported_block every_body own (walked_old y) b) (reported_block every_body own (walked_new y) b)) → (h : KnownHeading) (x : ℕ) → P x
+      → Walks (reported_block every_body own (with_declarations (walked_old z) (state_after_heading x (heading_old h))) b) (reported_block every_body own (with_declarations (walked_new z) (state_after_heading x (heading_new h))) b)
+  block_after own z b each h x at =
       let a = heading_after x h at in
-      subst (λ q. So (reported_block q b) (reported_block (state_after_heading x (heading_new h)) b)) (sym a.before) (subst (λ q. So (reported_block (so_old a.value) b) (reported_block q b)) (sym a.after) (each a.value))
+      subst (λ q. Walks (reported_block every_body own (with_declarations (walked_old z) q) b) (reported_block every_body own (with_declarations (walked_new z) (state_after_heading x (heading_new h))) b)) (sym a.before)
+      (subst (λ q. Walks (reported_block every_body own (with_declarations (walked_old z) (so_old a.value)) b) (reported_block every_body own (with_declarations (walked_new z) q) b)) (sym a.after) (each (further z a.value)))
 
   mutual
     unfolding reported_block
 
-    pub block_same : (p : KnownDeclarations) (b : Tree ℕ block) → Each b → So (reported_block (so_old p) b) (reported_block (so_new p) b)
-    block_same p (forms_block (declares cs ts vs ps) statements) h =
-        goes_on old new (λ q. reported_types q (section_types ts) >>= (λ r. reported_variables r (section_variables vs) >>= (λ s. reported_procedures s ps >>= (λ t. reported_body t statements))))
-        (λ q. reported_types q (section_types ts) >>= (λ r. reported_variables r (section_variables vs) >>= (λ s. reported_procedures s ps >>= (λ t. reported_body t statements))))
-        (constants_same p (section_constants cs) (constants_each cs h.0.0))
+    pub block_same : (own : ℕ) (z : Both) (b : Tree ℕ block) → Each b → Walks (reported_block every_body own (walked_old z) b) (reported_block every_body own (walked_new z) b)
+    block_same own z (forms_block (declares cs ts vs ps) a) h =
+        goes_on old new (λ q. reported_types q (section_types ts) >>= (λ r. reported_variables r (section_variables vs) >>= (λ s. reported_procedures every_body (with_declarations (walked_old z) s) ps >>= (λ t. report_body_if_wanted true own t a))))
+        (λ q. reported_types q (section_types ts) >>= (λ r. reported_variables r (section_variables vs) >>= (λ s. reported_procedures every_body (with_declarations (walked_new z) s) ps >>= (λ t. report_body_if_wanted true own t a))))
+        (constants_same z.so (section_constants cs) (constants_each cs h.0.0))
         (λ q.
-        goes_on old new (λ r. reported_variables r (section_variables vs) >>= (λ s. reported_procedures s ps >>= (λ t. reported_body t statements)))
-        (λ r. reported_variables r (section_variables vs) >>= (λ s. reported_procedures s ps >>= (λ t. reported_body t statements)))
+        goes_on old new (λ r. reported_variables r (section_variables vs) >>= (λ s. reported_procedures every_body (with_declarations (walked_old z) s) ps >>= (λ t. report_body_if_wanted true own t a)))
+        (λ r. reported_variables r (section_variables vs) >>= (λ s. reported_procedures every_body (with_declarations (walked_new z) s) ps >>= (λ t. report_body_if_wanted true own t a)))
         (types_same q (section_types ts) (types_each ts h.0.1))
         (λ r.
-        goes_on old new (λ s. reported_procedures s ps >>= (λ t. reported_body t statements)) (λ s. reported_procedures s ps >>= (λ t. reported_body t statements))
+        goes_on old new (λ s. reported_procedures every_body (with_declarations (walked_old z) s) ps >>= (λ t. report_body_if_wanted true own t a)) (λ s. reported_procedures every_body (with_declarations (walked_new z) s) ps >>= (λ t. report_body_if_wanted true own t a))
         (variables_same r (section_variables vs) (variables_each vs h.0.2))
-        (λ s. goes_on old new (λ t. reported_body t statements) (λ t. reported_body t statements) (procedures_same s ps h.0.3) (λ t. body_same t statements h.1))))
+        (λ s. goes_on old new (λ t. report_body_if_wanted true own t a) (λ t. report_body_if_wanted true own t a) (procedures_same (further z s) ps h.0.3) (λ y. body_walked own y a h.1))))
 
-    procedures_same : (p : KnownDeclarations) (ps : Tree ℕ (items procedure)) → Each ps → So (reported_procedures (so_old p) ps) (reported_procedures (so_new p) ps)
-    procedures_same p end h = rightly old new so_old so_new p
-    procedures_same p (more d rest) h = goes_on old new (λ q. reported_procedures q rest) (λ q. reported_procedures q rest) (procedure_same p d h.0) (λ q. procedures_same q rest h.1)
+    procedures_same : (z : Both) (ps : Tree ℕ (items procedure)) → Each ps → Walks (reported_procedures every_body (walked_old z) ps) (reported_procedures every_body (walked_new z) ps)
+    procedures_same z end h = rightly old new walked_old walked_new z
+    procedures_same z (more d rest) h = goes_on old new (λ v. reported_procedures every_body v rest) (λ v. reported_procedures every_body v rest) (procedure_same z d h.0) (λ y. procedures_same y rest h.1)
 
-    procedure_same : (p : KnownDeclarations) (d : Tree ℕ (item procedure)) → Each d → So (reported_procedure (so_old p) d) (reported_procedure (so_new p) d)
-    procedure_same p (declares_procedure x fs b closing) h =
-        goes_on old new (λ g. reported_block (state_after_heading x g) b) (λ g. reported_block (state_after_heading x g) b) (sections_same (record { formals = []; following = p }) (formal_sections fs) (formals_each fs h.1))
-        (λ g. block_after b (λ q. block_same q b h.2) g x h.0)
+    procedure_same : (z : Both) (d : Tree ℕ (item procedure)) → Each d → Walks (reported_procedure every_body (walked_old z) d) (reported_procedure every_body (walked_new z) d)
+    procedure_same z (declares_procedure x fs b closing) h =
+        goes_on old new (λ g. reported_block every_body closing (with_declarations (walked_old z) (state_after_heading x g)) b) (λ g. reported_block every_body closing (with_declarations (walked_new z) (state_after_heading x g)) b)
+        (sections_same (record { formals = []; following = z.so }) (formal_sections fs) (formals_each fs h.1))
+        (λ g. block_after closing z b (λ y. block_same closing y b h.2) g x h.0)
 
 -- ---- a module
 
@@ -341,4 +373,4 @@ module_same old new w tree ordinals declaration_tokens uses before after h =
     let P : ℕ → Type 0 = λ k. Unit {0} in
     let likeness : Alikeness old new ordinals ordinals P = record { count = same_count old new w; written = λ k u. λ j. texts_stay old new w j k; value = λ k u. λ j. values_stay old new w j k; bound = λ k u. refl } in
     let b : Tree ℕ block = module_block (tree_of (parsed_module old tree)) in
-    both_same old new (filter_same old new is_undeclared_fault (λ f. refl) h) (block_same old new ordinals ordinals P likeness first b (each_token P (λ k. tt) b)).faults
+    both_same old new (filter_same old new is_undeclared_fault (λ f. refl) h) (block_same old new ordinals ordinals P likeness tree.closing (record { so = first; in_old = []; in_new = [] }) b (each_token P (λ k. tt) b)).faults

@@ -11,15 +11,14 @@ use Rattle.ob0_scope_table.specs.TokenProperty.{EachTokenHas}
 use Rattle.ob0_scope_table.specs.FaultTokens.{AreFaultsAtSameTokens, fault_at}
 use Rattle.ob0_scope_table.specs.Resolution.{IsResolution, Resolution, declaring_names}
 use Rattle.ob0_types_check.specs.EqualExceptBodies.{EachTokenOfBlockHasExceptInBodies, IsSameTokenAt, EachTokenOfProcedureHasExceptInBodies, EachTokenOfProceduresHasExceptInBodies, Unless}
-use Rattle.ob0_types_check.specs.DeclarationFaults.{KnownHeading, state_after_heading, reported_body, reported_constants, reported_sections, reported_types, reported_variables}
+use Rattle.ob0_types_check.specs.DeclarationFaults.{KnownHeading, WalkProgress, body_faults, every_body, report_body_if_wanted, reported_block, reported_constants, reported_module, reported_procedure, reported_procedures, reported_sections, reported_types, reported_variables, state_after_heading, walk_at_start, with_body_if_faulty, with_declarations}
 use Rattle.ob0_types_check.specs.Known.{Reported}
 use Rattle.ob0_types_check.specs.Operations.{◌>>=◌}
 use Rattle.ob0_types_check.specs.KnownDeclarations.{KnownDeclarations, state_at_start, predeclared_meanings}
-use Rattle.ob0_types_check.specs.SomeBodies.{AllPass, SomeBodiesSuffice, WalkProgress, IncludesFaultyBodies, reported_block_with_bodies, report_body_if_wanted, every_body, faulty_bodies, reported_module_with_bodies, reported_procedure_with_bodies, reported_procedures_with_bodies, with_body_if_faulty}
+use Rattle.ob0_types_check.specs.SomeBodies.{AllPass, IncludesFaultyBodies, SomeBodiesSuffice, faulty_bodies}
 use Rattle.ob0_types_check.proofs.Chains.{reported_equal}
-use Rattle.ob0_types_check.proofs.ReportedWith.{further}
 use Rattle.ob0_types_check.proofs.SameFaults.{Alike, Alikeness}
-use Rattle.ob0_types_check.proofs.SameModules.{body_same, constants_each, constants_same, formals_each, heading_after, heading_new, heading_old, sections_same, so_over, types_each, types_same, variables_each, variables_same}
+use Rattle.ob0_types_check.proofs.SameModules.{Both, after_body, body_same, constants_each, constants_same, formals_each, further, heading_after, heading_new, heading_old, sections_same, so_over, types_each, types_same, variables_each, variables_same, walked_new, walked_old}
 
 -- ---- the bodies with faults
 
@@ -42,24 +41,24 @@ module _ (test : ℕ → Bool) where
   faulty_before (fault ∷ faults) own xs h = all_before xs (own ∷ []) h
 
   mutual
-    unfolding reported_block_with_bodies
+    unfolding reported_block
 
-    before_block : (own : ℕ) (w : WalkProgress) (b : Tree ℕ block) → AllPass test (reported_block_with_bodies every_body own w b).known.bodies_with_faults → AllPass test w.bodies_with_faults
+    before_block : (own : ℕ) (w : WalkProgress) (b : Tree ℕ block) → AllPass test (reported_block every_body own w b).known.bodies_with_faults → AllPass test w.bodies_with_faults
     before_block own w (forms_block (declares cs ts vs ps) a) h =
         let q = (reported_constants w.so_far (section_constants cs)).known in
         let r = (reported_types q (section_types ts)).known in
         let s = (reported_variables r (section_variables vs)).known in
-        let v = (reported_procedures_with_bodies every_body (further w s) ps).known in
-        before_procedures (further w s) ps (faulty_before (reported_body v.so_far a).faults own v.bodies_with_faults h)
+        let v = (reported_procedures every_body (with_declarations w s) ps).known in
+        before_procedures (with_declarations w s) ps (faulty_before (body_faults v.so_far a) own v.bodies_with_faults h)
 
-    before_procedures : (w : WalkProgress) (ps : Tree ℕ (items procedure)) → AllPass test (reported_procedures_with_bodies every_body w ps).known.bodies_with_faults → AllPass test w.bodies_with_faults
+    before_procedures : (w : WalkProgress) (ps : Tree ℕ (items procedure)) → AllPass test (reported_procedures every_body w ps).known.bodies_with_faults → AllPass test w.bodies_with_faults
     before_procedures w end h = h
-    before_procedures w (more d rest) h = before_procedure w d (before_procedures (reported_procedure_with_bodies every_body w d).known rest h)
+    before_procedures w (more d rest) h = before_procedure w d (before_procedures (reported_procedure every_body w d).known rest h)
 
-    before_procedure : (w : WalkProgress) (d : Tree ℕ (item procedure)) → AllPass test (reported_procedure_with_bodies every_body w d).known.bodies_with_faults → AllPass test w.bodies_with_faults
+    before_procedure : (w : WalkProgress) (d : Tree ℕ (item procedure)) → AllPass test (reported_procedure every_body w d).known.bodies_with_faults → AllPass test w.bodies_with_faults
     before_procedure w (declares_procedure x fs b closing) h =
         let g = (reported_sections (record { formals = []; following = w.so_far }) (formal_sections fs)).known in
-        before_block closing (further w (state_after_heading x g)) b h
+        before_block closing (with_declarations w (state_after_heading x g)) b h
 
 -- If only wanted bodies are walked, all bodies found faulty are wanted.
 module _ (wanted : ℕ → Bool) where
@@ -74,27 +73,27 @@ module _ (wanted : ℕ → Bool) where
       added (fault ∷ faults) e = all_and wanted w.bodies_with_faults own h e
 
       one : (b : Bool) → wanted own ≡ b → Wants (report_body_if_wanted b own w a).known.bodies_with_faults
-      one true e = added (reported_body w.so_far a).faults e
+      one true e = added (body_faults w.so_far a) e
       one false e = h
 
   mutual
-    unfolding reported_block_with_bodies
+    unfolding reported_block
 
-    block_wanted : (own : ℕ) (w : WalkProgress) (b : Tree ℕ block) → Wants w.bodies_with_faults → Wants (reported_block_with_bodies wanted own w b).known.bodies_with_faults
+    block_wanted : (own : ℕ) (w : WalkProgress) (b : Tree ℕ block) → Wants w.bodies_with_faults → Wants (reported_block wanted own w b).known.bodies_with_faults
     block_wanted own w (forms_block (declares cs ts vs ps) a) h =
         let q = (reported_constants w.so_far (section_constants cs)).known in
         let r = (reported_types q (section_types ts)).known in
         let s = (reported_variables r (section_variables vs)).known in
-        faulty_wanted (reported_procedures_with_bodies wanted (further w s) ps).known own a (procedures_wanted (further w s) ps h)
+        faulty_wanted (reported_procedures wanted (with_declarations w s) ps).known own a (procedures_wanted (with_declarations w s) ps h)
 
-    procedures_wanted : (w : WalkProgress) (ps : Tree ℕ (items procedure)) → Wants w.bodies_with_faults → Wants (reported_procedures_with_bodies wanted w ps).known.bodies_with_faults
+    procedures_wanted : (w : WalkProgress) (ps : Tree ℕ (items procedure)) → Wants w.bodies_with_faults → Wants (reported_procedures wanted w ps).known.bodies_with_faults
     procedures_wanted w end h = h
-    procedures_wanted w (more d rest) h = procedures_wanted (reported_procedure_with_bodies wanted w d).known rest (procedure_wanted w d h)
+    procedures_wanted w (more d rest) h = procedures_wanted (reported_procedure wanted w d).known rest (procedure_wanted w d h)
 
-    procedure_wanted : (w : WalkProgress) (d : Tree ℕ (item procedure)) → Wants w.bodies_with_faults → Wants (reported_procedure_with_bodies wanted w d).known.bodies_with_faults
+    procedure_wanted : (w : WalkProgress) (d : Tree ℕ (item procedure)) → Wants w.bodies_with_faults → Wants (reported_procedure wanted w d).known.bodies_with_faults
     procedure_wanted w (declares_procedure x fs b closing) h =
         let g = (reported_sections (record { formals = []; following = w.so_far }) (formal_sections fs)).known in
-        block_wanted closing (further w (state_after_heading x g)) b h
+        block_wanted closing (with_declarations w (state_after_heading x g)) b h
 
 -- ---- two texts
 
@@ -131,27 +130,12 @@ none_same_tokens old new before after h none =
     let nothing : length before ≡ 0 = ap length none in
     h.in_new ∙ ap (map (fault_at new)) (nil_from_length h.tokens (omega (arith, count, nothing)))
 
--- the state that both texts share, and the lists of bodies with faults in each of them
-record Both : Type 0 where
-  so : KnownDeclarations
-  in_old : List ℕ
-  in_new : List ℕ
-
 module _ (old new : TextWithTokens) (os ns : List (Option ℕ)) (P : ℕ → Type 0) (w : Alikeness old new os ns P) (wanted : ℕ → Bool) where
-  abbrev so_before : KnownDeclarations → KnownDeclarations
-  so_before p = so_over old os p
-
-  abbrev so_now : KnownDeclarations → KnownDeclarations
-  so_now p = so_over new ns p
-
   abbrev walked_before : Both → WalkProgress
-  walked_before z = record { so_far = so_before z.so; bodies_with_faults = z.in_old }
+  walked_before z = walked_old old new os ns P w z
 
   abbrev walked_now : Both → WalkProgress
-  walked_now z = record { so_far = so_now z.so; bodies_with_faults = z.in_new }
-
-  abbrev further_both : Both → KnownDeclarations → Both
-  further_both z p = record { so = p; in_old = z.in_old; in_new = z.in_new }
+  walked_now z = walked_new old new os ns P w z
 
   abbrev With : Reported WalkProgress → Reported WalkProgress → Reported WalkProgress → Type 0
   With r s d = One walked_before walked_now r s d
@@ -171,89 +155,83 @@ module _ (old new : TextWithTokens) (os ns : List (Option ℕ)) (P : ℕ → Typ
       → With (report_body_if_wanted true own (walked_before z) a) (report_body_if_wanted true own (walked_now z) a) (report_body_if_wanted (wanted own) own (walked_now z) a)
   body_with own z a each were = one (wanted own) refl each
     where
-      before_faults : List Fault
-      before_faults = (reported_body (so_before z.so) a).faults
-
-      now_faults : List Fault
-      now_faults = (reported_body (so_now z.so) a).faults
-
       at_end : Both
-      at_end = record { so = z.so; in_old = with_body_if_faulty before_faults own z.in_old; in_new = with_body_if_faulty now_faults own z.in_new }
+      at_end = after_body old new os ns P w own z a
 
       one : (b : Bool) → wanted own ≡ b → Unless b (EachTokenHas P a) → With (report_body_if_wanted true own (walked_before z) a) (report_body_if_wanted true own (walked_now z) a) (report_body_if_wanted b own (walked_now z) a)
       one true e each = record { value = at_end; before = refl; after = refl; same = refl }
       one false e each =
-          let none : now_faults ≡ [] = none_same_tokens old new before_faults now_faults (body_same old new os ns P w z.so a each).faults (none_unless before_faults own z.in_old e were) in
+          let none : body_faults (walked_now z).so_far a ≡ [] = none_same_tokens old new (body_faults (walked_before z).so_far a) (body_faults (walked_now z).so_far a) (body_same old new os ns P w z.so a each) (none_unless (body_faults (walked_before z).so_far a) own z.in_old e were) in
           record {
             value = at_end;
             before = refl;
             after = refl;
-            same = λ i. record { known = record { so_far = so_now z.so; bodies_with_faults = with_body_if_faulty (none i) own z.in_new }; faults = none i };
+            same = λ i. record { known = record { so_far = (walked_now z).so_far; bodies_with_faults = with_body_if_faulty (none i) own z.in_new }; faults = none i };
           }
 
   -- The report of a block after a heading is the same in both texts if the report of the block is.
   inside : (closing : ℕ) (z : Both) (b : Tree ℕ block) (x : ℕ) (g : KnownHeading) → P x
-      → ((y : Both) → Were (reported_block_with_bodies every_body closing (walked_before y) b).known → With (reported_block_with_bodies every_body closing (walked_before y) b) (reported_block_with_bodies every_body closing (walked_now y) b) (reported_block_with_bodies wanted closing (walked_now y) b))
-      → Were (reported_block_with_bodies every_body closing (further (walked_before z) (state_after_heading x (heading_old old new os ns P w g))) b).known
-      → With (reported_block_with_bodies every_body closing (further (walked_before z) (state_after_heading x (heading_old old new os ns P w g))) b) (reported_block_with_bodies every_body closing (further (walked_now z) (state_after_heading x (heading_new old new os ns P w g))) b)
-      (reported_block_with_bodies wanted closing (further (walked_now z) (state_after_heading x (heading_new old new os ns P w g))) b)
+      → ((y : Both) → Were (reported_block every_body closing (walked_before y) b).known → With (reported_block every_body closing (walked_before y) b) (reported_block every_body closing (walked_now y) b) (reported_block wanted closing (walked_now y) b))
+      → Were (reported_block every_body closing (with_declarations (walked_before z) (state_after_heading x (heading_old old new os ns P w g))) b).known
+      → With (reported_block every_body closing (with_declarations (walked_before z) (state_after_heading x (heading_old old new os ns P w g))) b) (reported_block every_body closing (with_declarations (walked_now z) (state_after_heading x (heading_new old new os ns P w g))) b)
+      (reported_block wanted closing (with_declarations (walked_now z) (state_after_heading x (heading_new old new os ns P w g))) b)
   inside closing z b x g each again were =
       let a = heading_after old new os ns P w x g each in
       let last : KnownDeclarations = state_after_heading x (heading_new old new os ns P w g) in
-      let start : Were (reported_block_with_bodies every_body closing (walked_before (further_both z a.value)) b).known = subst (λ q. Were (reported_block_with_bodies every_body closing (further (walked_before z) q) b).known) a.before were in
-      subst (λ q. With (reported_block_with_bodies every_body closing (further (walked_before z) q) b) (reported_block_with_bodies every_body closing (further (walked_now z) last) b) (reported_block_with_bodies wanted closing (further (walked_now z) last) b)) (sym a.before)
-      (subst (λ q. With (reported_block_with_bodies every_body closing (walked_before (further_both z a.value)) b) (reported_block_with_bodies every_body closing (further (walked_now z) q) b) (reported_block_with_bodies wanted closing (further (walked_now z) q) b)) (sym a.after) (again (further_both z a.value) start))
+      let start : Were (reported_block every_body closing (walked_before (further z a.value)) b).known = subst (λ q. Were (reported_block every_body closing (with_declarations (walked_before z) q) b).known) a.before were in
+      subst (λ q. With (reported_block every_body closing (with_declarations (walked_before z) q) b) (reported_block every_body closing (with_declarations (walked_now z) last) b) (reported_block wanted closing (with_declarations (walked_now z) last) b)) (sym a.before)
+      (subst (λ q. With (reported_block every_body closing (walked_before (further z a.value)) b) (reported_block every_body closing (with_declarations (walked_now z) q) b) (reported_block wanted closing (with_declarations (walked_now z) q) b)) (sym a.after) (again (further z a.value) start))
 
   mutual
-    unfolding reported_block_with_bodies
+    unfolding reported_block
 
-    block_one : (own : ℕ) (z : Both) (b : Tree ℕ block) → EachTokenOfBlockHasExceptInBodies P wanted own b → Were (reported_block_with_bodies every_body own (walked_before z) b).known
-        → With (reported_block_with_bodies every_body own (walked_before z) b) (reported_block_with_bodies every_body own (walked_now z) b) (reported_block_with_bodies wanted own (walked_now z) b)
+    block_one : (own : ℕ) (z : Both) (b : Tree ℕ block) → EachTokenOfBlockHasExceptInBodies P wanted own b → Were (reported_block every_body own (walked_before z) b).known
+        → With (reported_block every_body own (walked_before z) b) (reported_block every_body own (walked_now z) b) (reported_block wanted own (walked_now z) b)
     block_one own z (forms_block (declares cs ts vs ps) a) h =
-        one_then nothing_of Were (λ q. reported_types q (section_types ts) >>= (λ r. reported_variables r (section_variables vs) >>= (λ s. reported_procedures_with_bodies every_body (further (walked_before z) s) ps >>= (λ t. report_body_if_wanted true own t a))))
-        (λ q. reported_types q (section_types ts) >>= (λ r. reported_variables r (section_variables vs) >>= (λ s. reported_procedures_with_bodies every_body (further (walked_now z) s) ps >>= (λ t. report_body_if_wanted true own t a))))
-        (λ q. reported_types q (section_types ts) >>= (λ r. reported_variables r (section_variables vs) >>= (λ s. reported_procedures_with_bodies wanted (further (walked_now z) s) ps >>= (λ t. report_body_if_wanted (wanted own) own t a))))
+        one_then nothing_of Were (λ q. reported_types q (section_types ts) >>= (λ r. reported_variables r (section_variables vs) >>= (λ s. reported_procedures every_body (with_declarations (walked_before z) s) ps >>= (λ t. report_body_if_wanted true own t a))))
+        (λ q. reported_types q (section_types ts) >>= (λ r. reported_variables r (section_variables vs) >>= (λ s. reported_procedures every_body (with_declarations (walked_now z) s) ps >>= (λ t. report_body_if_wanted true own t a))))
+        (λ q. reported_types q (section_types ts) >>= (λ r. reported_variables r (section_variables vs) >>= (λ s. reported_procedures wanted (with_declarations (walked_now z) s) ps >>= (λ t. report_body_if_wanted (wanted own) own t a))))
         (λ x k. tt) (λ k. of_alike (constants_same old new os ns P w z.so (section_constants cs) (constants_each old new os ns P w cs h.0)))
         (λ q.
-        one_then nothing_of Were (λ r. reported_variables r (section_variables vs) >>= (λ s. reported_procedures_with_bodies every_body (further (walked_before z) s) ps >>= (λ t. report_body_if_wanted true own t a)))
-        (λ r. reported_variables r (section_variables vs) >>= (λ s. reported_procedures_with_bodies every_body (further (walked_now z) s) ps >>= (λ t. report_body_if_wanted true own t a)))
-        (λ r. reported_variables r (section_variables vs) >>= (λ s. reported_procedures_with_bodies wanted (further (walked_now z) s) ps >>= (λ t. report_body_if_wanted (wanted own) own t a)))
+        one_then nothing_of Were (λ r. reported_variables r (section_variables vs) >>= (λ s. reported_procedures every_body (with_declarations (walked_before z) s) ps >>= (λ t. report_body_if_wanted true own t a)))
+        (λ r. reported_variables r (section_variables vs) >>= (λ s. reported_procedures every_body (with_declarations (walked_now z) s) ps >>= (λ t. report_body_if_wanted true own t a)))
+        (λ r. reported_variables r (section_variables vs) >>= (λ s. reported_procedures wanted (with_declarations (walked_now z) s) ps >>= (λ t. report_body_if_wanted (wanted own) own t a)))
         (λ x k. tt) (λ k. of_alike (types_same old new os ns P w q (section_types ts) (types_each old new os ns P w ts h.1)))
         (λ r.
-        one_then nothing_of Were (λ s. reported_procedures_with_bodies every_body (further (walked_before z) s) ps >>= (λ t. report_body_if_wanted true own t a)) (λ s. reported_procedures_with_bodies every_body (further (walked_now z) s) ps >>= (λ t. report_body_if_wanted true own t a))
-        (λ s. reported_procedures_with_bodies wanted (further (walked_now z) s) ps >>= (λ t. report_body_if_wanted (wanted own) own t a))
+        one_then nothing_of Were (λ s. reported_procedures every_body (with_declarations (walked_before z) s) ps >>= (λ t. report_body_if_wanted true own t a)) (λ s. reported_procedures every_body (with_declarations (walked_now z) s) ps >>= (λ t. report_body_if_wanted true own t a))
+        (λ s. reported_procedures wanted (with_declarations (walked_now z) s) ps >>= (λ t. report_body_if_wanted (wanted own) own t a))
         (λ x k. tt) (λ k. of_alike (variables_same old new os ns P w r (section_variables vs) (variables_each old new os ns P w vs h.2)))
         (λ s.
         one_then Were Were (λ t. report_body_if_wanted true own t a) (λ t. report_body_if_wanted true own t a) (λ t. report_body_if_wanted (wanted own) own t a)
-        (λ t k. faulty_before wanted (reported_body t.so_far a).faults own t.bodies_with_faults k)
-        (procedures_one (further_both z s) ps h.3) (λ y. body_with own y a h.4))))
+        (λ t k. faulty_before wanted (body_faults t.so_far a) own t.bodies_with_faults k)
+        (procedures_one (further z s) ps h.3) (λ y. body_with own y a h.4))))
 
-    procedures_one : (z : Both) (ps : Tree ℕ (items procedure)) → EachTokenOfProceduresHasExceptInBodies P wanted ps → Were (reported_procedures_with_bodies every_body (walked_before z) ps).known
-        → With (reported_procedures_with_bodies every_body (walked_before z) ps) (reported_procedures_with_bodies every_body (walked_now z) ps) (reported_procedures_with_bodies wanted (walked_now z) ps)
+    procedures_one : (z : Both) (ps : Tree ℕ (items procedure)) → EachTokenOfProceduresHasExceptInBodies P wanted ps → Were (reported_procedures every_body (walked_before z) ps).known
+        → With (reported_procedures every_body (walked_before z) ps) (reported_procedures every_body (walked_now z) ps) (reported_procedures wanted (walked_now z) ps)
     procedures_one z end h were = record { value = z; before = refl; after = refl; same = refl }
     procedures_one z (more d rest) h were =
-        one_then Were Were (λ v. reported_procedures_with_bodies every_body v rest) (λ v. reported_procedures_with_bodies every_body v rest) (λ v. reported_procedures_with_bodies wanted v rest)
+        one_then Were Were (λ v. reported_procedures every_body v rest) (λ v. reported_procedures every_body v rest) (λ v. reported_procedures wanted v rest)
         (λ v k. before_procedures wanted v rest k)
         (procedure_one z d h.0) (λ y. procedures_one y rest h.1) were
 
-    procedure_one : (z : Both) (d : Tree ℕ (item procedure)) → EachTokenOfProcedureHasExceptInBodies P wanted d → Were (reported_procedure_with_bodies every_body (walked_before z) d).known
-        → With (reported_procedure_with_bodies every_body (walked_before z) d) (reported_procedure_with_bodies every_body (walked_now z) d) (reported_procedure_with_bodies wanted (walked_now z) d)
+    procedure_one : (z : Both) (d : Tree ℕ (item procedure)) → EachTokenOfProcedureHasExceptInBodies P wanted d → Were (reported_procedure every_body (walked_before z) d).known
+        → With (reported_procedure every_body (walked_before z) d) (reported_procedure every_body (walked_now z) d) (reported_procedure wanted (walked_now z) d)
     procedure_one z (declares_procedure x fs b closing) h =
-        one_then nothing_of Were (λ g. reported_block_with_bodies every_body closing (further (walked_before z) (state_after_heading x g)) b) (λ g. reported_block_with_bodies every_body closing (further (walked_now z) (state_after_heading x g)) b)
-        (λ g. reported_block_with_bodies wanted closing (further (walked_now z) (state_after_heading x g)) b)
+        one_then nothing_of Were (λ g. reported_block every_body closing (with_declarations (walked_before z) (state_after_heading x g)) b) (λ g. reported_block every_body closing (with_declarations (walked_now z) (state_after_heading x g)) b)
+        (λ g. reported_block wanted closing (with_declarations (walked_now z) (state_after_heading x g)) b)
         (λ x k. tt) (λ k. of_alike (sections_same old new os ns P w (record { formals = []; following = z.so }) (formal_sections fs) (formals_each old new os ns P w fs h.1)))
         (λ g. inside closing z b x g h.0 (λ y. block_one closing y b h.2))
 
 -- ---- a module
 
-abbrev closing_of : Tree ℕ module_text → ℕ
+abbrev pub closing_of : Tree ℕ module_text → ℕ
 closing_of (is_module x b closing) = closing
 
 -- holds if the final states in both texts come from one value
 pub record IsKnownAlike (old new : Resolution) : Type 0 where
   pub value : KnownDeclarations
-  pub before : (reported_module_with_bodies every_body old).known.so_far ≡ so_over old.module_read.source old.ordinals value
-  pub after : (reported_module_with_bodies every_body new).known.so_far ≡ so_over new.module_read.source new.ordinals value
+  pub before : (reported_module every_body old).known.so_far ≡ so_over old.module_read.source old.ordinals value
+  pub after : (reported_module every_body new).known.so_far ≡ so_over new.module_read.source new.ordinals value
 
 module _ (wanted : ℕ → Bool) (r : Resolution) (is : IsResolution r) (w : IncludesFaultyBodies wanted r) where
   abbrev old : Resolution
@@ -272,16 +250,16 @@ module _ (wanted : ℕ → Bool) (r : Resolution) (is : IsResolution r) (w : Inc
   at_start = record { so_far = so_over r.module_read.source r.ordinals (state_at_start old); bodies_with_faults = [] }
 
   one : One (walked_before old.module_read.source r.module_read.source old.ordinals r.ordinals (IsSameTokenAt old r) likeness wanted) (walked_now old.module_read.source r.module_read.source old.ordinals r.ordinals (IsSameTokenAt old r) likeness wanted)
-      (reported_module_with_bodies every_body old) (reported_block_with_bodies every_body old.module_read.closing at_start old_block) (reported_block_with_bodies wanted old.module_read.closing at_start old_block)
+      (reported_module every_body old) (reported_block every_body old.module_read.closing at_start old_block) (reported_block wanted old.module_read.closing at_start old_block)
   one = block_one old.module_read.source r.module_read.source old.ordinals r.ordinals (IsSameTokenAt old r) likeness wanted old.module_read.closing start old_block w.alike.alike.1 w.bodies_with_faults
 
-  as_read : (test : ℕ → Bool) → reported_module_with_bodies test r ≡ reported_block_with_bodies test old.module_read.closing at_start old_block
+  as_read : (test : ℕ → Bool) → reported_module test r ≡ reported_block test old.module_read.closing at_start old_block
   as_read test =
       let tree = w.alike.tree in
       let declared : r.declaration_tokens ≡ old.declaration_tokens = is.declaring ∙ (ap (λ t. declaring_names (identifiers role.Declaring t)) tree ∙ sym w.resolved.declaring) in
       let first : state_at_start r ≡ so_over r.module_read.source r.ordinals (state_at_start old) = ap (λ (ds : List ℕ). record { source = r.module_read.source; ordinals = r.ordinals; declared = predeclared_meanings ++ map (λ token. None) ds; made = [] }) declared in
       let own : r.module_read.closing ≡ old.module_read.closing = ap closing_of tree in
-      λ i. reported_block_with_bodies test (own i) (record { so_far = first i; bodies_with_faults = [] }) (module_block (tree i))
+      λ i. reported_block test (own i) (record { so_far = first i; bodies_with_faults = [] }) (module_block (tree i))
 
   pub known_alike : IsKnownAlike old r
   known_alike = record {
@@ -297,4 +275,4 @@ some_bodies_suffice wanted r is w = as_read wanted r is w wanted ∙ (sym (one w
 pub faulty_stay : (wanted : ℕ → Bool) (r : Resolution) → IsResolution r → IncludesFaultyBodies wanted r → AllPass wanted (faulty_bodies r)
 faulty_stay wanted r is w =
     subst (λ (t : Reported WalkProgress). Wants wanted t.known.bodies_with_faults) (some_bodies_suffice wanted r is w)
-    (block_wanted wanted r.module_read.closing (record { so_far = state_at_start r; bodies_with_faults = [] }) (module_block (tree_of r.module_read)) tt)
+    (block_wanted wanted r.module_read.closing (walk_at_start r) (module_block (tree_of r.module_read)) tt)

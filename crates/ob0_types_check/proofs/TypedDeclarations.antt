@@ -11,7 +11,7 @@ use Rattle.ob0_language_types.specs.Expressions as meant
 use Rattle.ob0_language_types.specs.Typing.{constant_value, constructor_count, denoted_type}
 use Rattle.ob0_language_types.specs.WellTyped.{Mode, TypeEnvironment, TypedParameter, bind_names, body_is_well_typed, by_place, by_value, declare_typed_variables, sequence_is_well_typed, typed_parameters}
 use Rattle.ob0_language_values.specs.Values.{Shape, Value}
-use Rattle.ob0_types_check.specs.DeclarationFaults.{KnownHeading, reported_constants, reported_body, reported_sections, reported_types, reported_variables, reported_constant_declaration, reported_parameters, reported_section, reported_type_declaration, reported_variable_group, with_parameters}
+use Rattle.ob0_types_check.specs.DeclarationFaults.{KnownHeading, body_faults, reported_constants, reported_sections, reported_types, reported_variables, reported_constant_declaration, reported_parameters, reported_section, reported_type_declaration, reported_variable_group, with_parameters}
 use Rattle.ob0_types_check.specs.Known.{Reported, a_constant, a_type, a_variable}
 use Rattle.ob0_types_check.specs.KnownDeclarations.{KnownDeclarations, TypeWithState, define, define_all, facts_at}
 use Rattle.ob0_types_check.specs.TypeFaults.{reported_constant}
@@ -125,8 +125,8 @@ module _ (w : Numbering) (fit : PartsFit) (fine : PartsRight) where
       (sections_right fs j (ordinal_after_names n xs) g one.after (scope_following w n xs scope) (bind_names (map (token_text_at w.source) xs) (meant.a_variable one.shape) env) (omega (arith, at, one.apart.counted)) one.holds placed.2 rest hrest)
 
   pub body_right : (statements : Tree ℕ (maybe body)) (n : ℕ) (p : KnownDeclarations) (before : List Shape) (scope : Scope Name) (env : TypeEnvironment Name) → IsKnownAt w p before n scope env → HaveDistinctOrdinals before → AreSeen w scope statements
-      → body_is_well_typed naming_by_spelling env (tree_with_names w.source statements) ≡ true → (reported_body p statements).faults ≡ []
-  unfolding reported_body body_is_well_typed
+      → body_is_well_typed naming_by_spelling env (tree_with_names w.source statements) ≡ true → body_faults p statements ≡ []
+  unfolding body_faults body_is_well_typed
   body_right none n p before scope env st once seen h = refl
   body_right (one (begins s)) n p before scope env st once seen h =
       fine.statements p before (token_text_at w.source) (meanings naming_by_spelling env) s once (agrees_where_seen w p false before n scope env st fit s seen)

@@ -1,7 +1,9 @@
 -- The faults of a module's declarations and bodies, in the order in which they are reported: text order. A declaration
--- is known to the text after it. A procedure is known to the text after its heading, which includes its own block.
+-- is known to the text after it. A procedure is known to the text after its heading, which includes its own block. Only
+-- the bodies that pass a test are walked, and the walk lists those in which it reports a fault. With every body walked
+-- these are the faults of the module.
 -- Rule: docs/LANGUAGE.md, Faults of scopes and types 2 to 11.
-use Rattle.std.specs.Prelude.{ℕ, Bool, true, false, List, [], ◌++◌, map}
+use Rattle.std.specs.Prelude.{ℕ, Bool, true, false, List, [], ◌∷◌, ◌++◌, map}
 use Rattle.std.specs.List.{filter}
 use Rattle.ob0_scan.specs.declared.fault.Fault.{Fault}
 use Rattle.ob0_language_names.specs.Parts.{formal_sections, module_block, names_in_list, section_constants, section_types, section_variables}
@@ -114,44 +116,84 @@ reported_sections h (more s rest) = do
 abbrev pub state_after_heading : ℕ → KnownHeading → KnownDeclarations
 state_after_heading x h = define h.following (a_procedure h.formals) x
 
--- returns the faults of a body's statements, and the known declarations unchanged; a missing body has no faults
-unfoldable pub reported_body : KnownDeclarations → Tree ℕ (maybe body) → Reported KnownDeclarations
+-- the state of a walk: the declarations found so far, and the closing names of the bodies in which a fault was reported
+pub record WalkProgress : Type 0 where
+  pub so_far : KnownDeclarations
+  pub bodies_with_faults : List ℕ
+
+-- returns the walk with other declarations and the same list of bodies
+abbrev pub with_declarations : WalkProgress → KnownDeclarations → WalkProgress
+with_declarations w p = record { so_far = p; bodies_with_faults = w.bodies_with_faults }
+
+-- returns the faults of a body's statements; a missing body has no faults
+unfoldable pub body_faults : KnownDeclarations → Tree ℕ (maybe body) → List Fault
 unfolding sequence_faults
-reported_body p none = without_fault p
-reported_body p (one (begins statements)) =
-    record { known = p; faults = sequence_faults (facts_at p false) statements }
+body_faults p none = []
+body_faults p (one (begins statements)) = sequence_faults (facts_at p false) statements
+
+-- appends `own`, the closing name of a body's block, to the list `bodies_with_faults` if the body's list of faults
+-- isn't empty
+abbrev pub with_body_if_faulty : List Fault → ℕ → List ℕ → List ℕ
+with_body_if_faulty [] own bodies_with_faults = bodies_with_faults
+with_body_if_faulty (fault ∷ faults) own bodies_with_faults = bodies_with_faults ++ own ∷ []
+
+-- If the Bool is true, returns the faults of a body. If there are any, appends `own`, the closing name of the body's
+-- block, to `bodies_with_faults`. If the Bool is false, returns no fault and changes nothing.
+abbrev pub report_body_if_wanted : Bool → ℕ → WalkProgress → Tree ℕ (maybe body) → Reported WalkProgress
+report_body_if_wanted false own w statements = without_fault w
+report_body_if_wanted true own w statements =
+    record {
+      known =
+          record {
+            so_far = w.so_far;
+            bodies_with_faults = with_body_if_faulty (body_faults w.so_far statements) own w.bodies_with_faults;
+          };
+      faults = body_faults w.so_far statements;
+    }
 
 unfoldable mutual
-  unfolding reported_constants reported_types reported_variables reported_sections reported_body
+  unfolding reported_constants reported_types reported_variables reported_sections body_faults
 
-  -- returns the faults of a block, and the declarations known after it; constants come first, then types, variables,
-  -- procedures and statements
-  pub reported_block : KnownDeclarations → Tree ℕ block → Reported KnownDeclarations
-  reported_block p (forms_block (declares cs ts vs ps) statements) = do
-    with_constants ← reported_constants p (section_constants cs)
+  -- Returns the state of the walk after a block, and the faults of the block: of its constants, types, variables and
+  -- procedures, and then of its statements. The statements are walked only if the block's closing name `own` passes the
+  -- test `wanted`. The same holds for the blocks of the procedures.
+  pub reported_block : (ℕ → Bool) → ℕ → WalkProgress → Tree ℕ block → Reported WalkProgress
+  reported_block wanted own w (forms_block (declares cs ts vs ps) statements) = do
+    with_constants ← reported_constants w.so_far (section_constants cs)
     with_types ← reported_types with_constants (section_types ts)
     with_variables ← reported_variables with_types (section_variables vs)
-    with_procedures ← reported_procedures with_variables ps
-    reported_body with_procedures statements
+    with_procedures ← reported_procedures wanted (with_declarations w with_variables) ps
+    report_body_if_wanted (wanted own) own with_procedures statements
 
-  -- returns the faults of procedures, one after another, and the declarations known after them; each procedure can call
-  -- itself and the procedures before it
-  pub reported_procedures : KnownDeclarations → Tree ℕ (items procedure) → Reported KnownDeclarations
-  reported_procedures p end = without_fault p
-  reported_procedures p (more d rest) = do
-    q ← reported_procedure p d
-    reported_procedures q rest
+  -- returns the state after procedures, and their faults, one procedure after another; each procedure can call itself
+  -- and the procedures before it
+  pub reported_procedures : (ℕ → Bool) → WalkProgress → Tree ℕ (items procedure) → Reported WalkProgress
+  reported_procedures wanted w end = without_fault w
+  reported_procedures wanted w (more d rest) = do
+    v ← reported_procedure wanted w d
+    reported_procedures wanted v rest
 
-  -- returns the faults of a procedure's parameters and then of its block, and the declarations known after the
-  -- procedure
-  pub reported_procedure : KnownDeclarations → Tree ℕ (item procedure) → Reported KnownDeclarations
-  reported_procedure p (declares_procedure x fs b closing) = do
-    h ← reported_sections (record { formals = []; following = p }) (formal_sections fs)
-    reported_block (state_after_heading x h) b
+  -- returns the state after a procedure, and the faults of its parameters and then of its block
+  pub reported_procedure : (ℕ → Bool) → WalkProgress → Tree ℕ (item procedure) → Reported WalkProgress
+  reported_procedure wanted w (declares_procedure x fs b closing) = do
+    h ← reported_sections (record { formals = []; following = w.so_far }) (formal_sections fs)
+    reported_block wanted closing (with_declarations w (state_after_heading x h)) b
+
+-- returns the walk at the beginning of a module: only the predeclared names are known, and no body has been walked
+abbrev pub walk_at_start : Resolution → WalkProgress
+walk_at_start r = record { so_far = state_at_start r; bodies_with_faults = [] }
+
+-- returns the state after a module, and the faults of its declarations and of the bodies whose closing names pass the
+-- test `wanted`
+abbrev pub reported_module : (ℕ → Bool) → Resolution → Reported WalkProgress
+reported_module wanted r =
+    reported_block wanted r.module_read.closing (walk_at_start r) (module_block (tree_of r.module_read))
+
+-- returns true for every closing name, so that all bodies are walked
+abbrev pub every_body : ℕ → Bool
+every_body closing = true
 
 -- returns the faults at the undeclared names of a module, in text order, and then the module's faults of types
 unfoldable pub module_faults : Resolution → List Fault
 unfolding reported_block
-module_faults r =
-    filter is_undeclared_fault r.faults
-    ++ (reported_block (state_at_start r) (module_block (tree_of r.module_read))).faults
+module_faults r = filter is_undeclared_fault r.faults ++ (reported_module every_body r).faults

@@ -3,10 +3,9 @@
 -- Rule: none; states laws about the faults that are reported for a module.
 use Rattle.std.specs.Prelude.{◌≡◌, ℕ, ◌<◌, ◌≤◌, true, false, List, [], None, length, slice_index_or}
 use Rattle.ob0_language_names.specs.Names.{Name, naming_by_label, naming_by_spelling}
-use Rattle.ob0_language_names.specs.Parts.{module_block}
 use Rattle.ob0_language_names.specs.Scopes.{predeclared_count}
 use Rattle.ob0_scope_table.specs.Resolution.{IsResolution, Resolution}
-use Rattle.ob0_tree.specs.ParsedModule.{named_tree_of, tree_of}
+use Rattle.ob0_tree.specs.ParsedModule.{named_tree_of}
 use Rattle.ob0_tree.specs.Tree.{Tree, module_text}
 use Rattle.ob0_language_types.specs.Bindings.{declared_object, object_of_ordinal}
 use Rattle.ob0_language_types.specs.Environments.{outermost_environment}
@@ -14,8 +13,8 @@ use Rattle.ob0_language_types.specs.WellTyped.{passes_type_check}
 use Rattle.ob0_types_table.specs.KnownTables.{Tables, declared_object_in}
 use Rattle.ob0_language_values.specs.Values.{Shape}
 use Rattle.ob0_types_check.specs.Agreement.{DeclarationAgrees, TableAgrees, is_standard_procedure, shape_in}
-use Rattle.ob0_types_check.specs.DeclarationFaults.{reported_block, module_faults}
-use Rattle.ob0_types_check.specs.KnownDeclarations.{KnownDeclarations, state_at_start}
+use Rattle.ob0_types_check.specs.DeclarationFaults.{every_body, module_faults, reported_module}
+use Rattle.ob0_types_check.specs.KnownDeclarations.{KnownDeclarations}
 
 -- States that a module passes the type check if no fault of types and no undeclared name is reported for it. The type
 -- check ignores duplicate declarations and wrong closing names.
@@ -50,5 +49,4 @@ WalkWithoutFaultFindsMeanings =
     (r : Resolution)
     → IsResolution r
     → module_faults r ≡ []
-    → KnowsDeclarations (reported_block (state_at_start r) (module_block (tree_of r.module_read))).known
-    (named_tree_of r.module_read)
+    → KnowsDeclarations (reported_module every_body r).known.so_far (named_tree_of r.module_read)

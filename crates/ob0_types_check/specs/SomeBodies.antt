@@ -1,93 +1,22 @@
--- The report of a module if only its declarations and certain bodies are walked, and the list of
--- the walked bodies that have faults.
+-- The bodies of a module in which a fault is reported, and the report of a module of which only its
+-- declarations and some bodies are walked.
 -- Rule: docs/LANGUAGE.md, Faults of scopes and types 2 to 11.
-use Rattle.std.specs.Prelude.{◌≡◌, ℕ, Bool, true, false, ◌||◌, List, [], ◌∷◌, ◌++◌, MatchOption, nat_eq}
+use Rattle.std.specs.Prelude.{◌≡◌, ℕ, Bool, true, ◌||◌, List, [], ◌∷◌, MatchOption, nat_eq}
 use Rattle.std.specs.List.{list_any}
 use Rattle.ob0_scan.specs.declared.fault.Fault.{Fault}
-use Rattle.ob0_language_names.specs.Parts.{formal_sections, module_block, section_constants, section_types, section_variables}
 use Rattle.ob0_scope_table.specs.Resolution.{IsResolution, Resolution}
-use Rattle.ob0_tree.specs.ParsedModule.{named_tree_of, tree_of}
-use Rattle.ob0_tree.specs.Tree.{Tree, block, body, declares, declares_procedure, end, forms_block, item, items, maybe, more, procedure}
+use Rattle.ob0_tree.specs.ParsedModule.{named_tree_of}
 use Rattle.ob0_types_check.specs.EqualExceptBodies.{AreEqualExceptBodies}
-use Rattle.ob0_types_check.specs.DeclarationFaults.{state_after_heading, reported_block, reported_body, reported_constants, module_faults, reported_sections, reported_types, reported_variables}
-use Rattle.ob0_types_check.specs.Known.{Reported}
+use Rattle.ob0_types_check.specs.DeclarationFaults.{WalkProgress, every_body, module_faults, reported_module}
 use Rattle.ob0_types_check.specs.ModuleLaws.{HasDeclarations}
-use Rattle.ob0_types_check.specs.Operations.{without_fault, ◌>>=◌}
-use Rattle.ob0_types_check.specs.KnownDeclarations.{KnownDeclarations, state_at_start}
 use Rattle.ob0_types_check.specs.CheckerViews.{declarations_in_state}
 use Rattle.ob0_types_check.specs.declared.reporting.Report.{Report}
 use Rattle.ob0_types_check.specs.declared.reporting.BodiesToWalk.{BodiesToWalk}
 use Rattle.ob0_types_check.specs.declared.reporting.checker_state.CheckerState.{CheckerState}
 
--- the state of a walk: the declarations found so far, and the closing names of the bodies in which a fault was reported
-pub record WalkProgress : Type 0 where
-  pub so_far : KnownDeclarations
-  pub bodies_with_faults : List ℕ
-
--- appends `own`, the closing name of a body's block, to the list `bodies_with_faults` if the body's list of faults
--- isn't empty
-abbrev pub with_body_if_faulty : List Fault → ℕ → List ℕ → List ℕ
-with_body_if_faulty [] own bodies_with_faults = bodies_with_faults
-with_body_if_faulty (fault ∷ faults) own bodies_with_faults = bodies_with_faults ++ own ∷ []
-
--- If the Bool is true, returns the faults of a body. If there are any, appends `own`, the closing name of the body's
--- block, to `bodies_with_faults`. If the Bool is false, returns no fault and changes nothing.
-abbrev pub report_body_if_wanted : Bool → ℕ → WalkProgress → Tree ℕ (maybe body) → Reported WalkProgress
-report_body_if_wanted false own w statements = without_fault w
-report_body_if_wanted true own w statements =
-    record {
-      known =
-          record {
-            so_far = w.so_far;
-            bodies_with_faults = with_body_if_faulty (reported_body w.so_far statements).faults own w.bodies_with_faults;
-          };
-      faults = (reported_body w.so_far statements).faults;
-    }
-
-unfoldable mutual
-  unfolding reported_constants reported_types reported_variables reported_sections reported_body
-
-  -- Returns the faults of a block's declarations, and of its statements if the block's closing name `own` passes the
-  -- test `wanted`. The statements of a procedure inside the block are walked only if the procedure's own closing name
-  -- passes the test.
-  pub reported_block_with_bodies : (ℕ → Bool) → ℕ → WalkProgress → Tree ℕ block → Reported WalkProgress
-  reported_block_with_bodies wanted own w (forms_block (declares cs ts vs ps) statements) = do
-    with_constants ← reported_constants w.so_far (section_constants cs)
-    with_types ← reported_types with_constants (section_types ts)
-    with_variables ← reported_variables with_types (section_variables vs)
-    with_procedures ←
-        reported_procedures_with_bodies wanted (record { so_far = with_variables; bodies_with_faults = w.bodies_with_faults }) ps
-    report_body_if_wanted (wanted own) own with_procedures statements
-
-  -- returns the faults of procedures, one after another; a body is walked only if the closing name of its block passes
-  -- the test `wanted`
-  pub reported_procedures_with_bodies : (ℕ → Bool) → WalkProgress → Tree ℕ (items procedure) → Reported WalkProgress
-  reported_procedures_with_bodies wanted w end = without_fault w
-  reported_procedures_with_bodies wanted w (more d rest) = do
-    v ← reported_procedure_with_bodies wanted w d
-    reported_procedures_with_bodies wanted v rest
-
-  -- returns the faults of a procedure's parameters, and then of its block; a body is walked only if the closing name of
-  -- its block passes the test `wanted`
-  pub reported_procedure_with_bodies : (ℕ → Bool) → WalkProgress → Tree ℕ (item procedure) → Reported WalkProgress
-  reported_procedure_with_bodies wanted w (declares_procedure x fs b closing) = do
-    h ← reported_sections (record { formals = []; following = w.so_far }) (formal_sections fs)
-    reported_block_with_bodies wanted closing (record { so_far = state_after_heading x h; bodies_with_faults = w.bodies_with_faults }) b
-
--- returns the faults of a module's declarations, and of the bodies whose closing names pass the
--- test `wanted`
-abbrev pub reported_module_with_bodies : (ℕ → Bool) → Resolution → Reported WalkProgress
-reported_module_with_bodies wanted r =
-    reported_block_with_bodies wanted r.module_read.closing (record { so_far = state_at_start r; bodies_with_faults = [] })
-    (module_block (tree_of r.module_read))
-
--- returns true for every closing name, so that all bodies are walked
-abbrev pub every_body : ℕ → Bool
-every_body closing = true
-
 -- returns the closing names of a module's bodies in which a fault is reported, in text order
 abbrev pub faulty_bodies : Resolution → List ℕ
-faulty_bodies r = (reported_module_with_bodies every_body r).known.bodies_with_faults
+faulty_bodies r = (reported_module every_body r).known.bodies_with_faults
 
 -- returns whether the closing name `closing` is in the list `bodies`
 abbrev pub is_among : List ℕ → ℕ → Bool
@@ -117,7 +46,7 @@ SomeBodiesSuffice =
     (wanted : ℕ → Bool) (r : Resolution)
     → IsResolution r
     → IncludesFaultyBodies wanted r
-    → reported_module_with_bodies wanted r ≡ reported_module_with_bodies every_body r
+    → reported_module wanted r ≡ reported_module every_body r
 
 -- States that a report has the faults of the module `r` and the closing names of the bodies with faults. The report has
 -- a table with the objects of all declarations exactly if there are no faults.
@@ -137,5 +66,4 @@ walk_progress_of s bodies_with_faults = record { so_far = declarations_in_state 
 pub record IsFinishedWalk
     (r : Resolution) (found : List Fault) (s : CheckerState) (bodies_with_faults : List ℕ) : Type 0 where
   pub faults : found ≡ module_faults r
-  pub known : declarations_in_state s ≡ (reported_block (state_at_start r) (module_block (tree_of r.module_read))).known
-  pub faulty_bodies_are : bodies_with_faults ≡ faulty_bodies r
+  pub known : walk_progress_of s bodies_with_faults ≡ (reported_module every_body r).known

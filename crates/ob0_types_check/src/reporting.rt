@@ -28,7 +28,8 @@
 //! The faults of written types, declarations and blocks depend on a state, `KnownDeclarations`.
 //! This state has the meanings of the declarations, by ordinal, and a list of the array and record
 //! types with their parts. `declarations_in_state` converts the code's `CheckerState` to a
-//! `KnownDeclarations`. So the definitions of the faults don't mention `CheckerState`.
+//! `KnownDeclarations`. So the definitions of the faults don't mention `CheckerState`. For blocks the
+//! state also has the list of the bodies with faults (`WalkProgress`).
 //! `CheckerState` and the list of faults are separate values. The functions for expressions and
 //! statements take `&self` and the list. The functions for declarations take a `Reporter`, which
 //! has both.
@@ -73,7 +74,8 @@ ghost use Rattle.ob0_scope_table.specs.Resolution.{is_undeclared_fault};
 ghost use Rattle.ob0_types_table.specs.Tables.{AreEntriesInOrder};
 ghost use Rattle.ob0_types_check.specs.NewBody.{PassesTypeCheckWithoutBody};
 ghost use Rattle.ob0_types_check.specs.KnownDeclarations.{state_at_start};
-ghost use Rattle.ob0_types_check.specs.SomeBodies.{IsFinishedWalk, IsReportOf, IncludesFaultyBodies, every_body, is_among, reported_module_with_bodies, includes_body};
+ghost use Rattle.ob0_types_check.specs.DeclarationFaults.{every_body, reported_module};
+ghost use Rattle.ob0_types_check.specs.SomeBodies.{IsFinishedWalk, IsReportOf, IncludesFaultyBodies, is_among, includes_body};
 ghost use Rattle.ob0_types_check.specs.CheckerViews.{meaning_view, declarations_in_state, table_in_state};
 
 use crate::laws::{some_bodies_suffice, walk_without_fault_finds_meanings};
@@ -178,7 +180,7 @@ fn report_wanted_bodies<'t>(
     resolved: &'t Resolved<'t>,
     wanted: &BodiesToWalk<'_>,
 ) -> Result<Report, AllocError>
-    requires { reported_module_with_bodies (includes_body wanted.now) resolved.now ≡ reported_module_with_bodies every_body resolved.now }
+    requires { reported_module (includes_body wanted.now) resolved.now ≡ reported_module every_body resolved.now }
     ensures { IfOk result (IsReportOf resolved.now) }
 {
     let read = resolved.module();

@@ -32,7 +32,8 @@ use Rattle.ob0_scope_table.specs.Resolution.{Resolution, IsResolution, declaring
 use Rattle.ob0_tree.specs.declared.tree.Role.TheVariants as role
 use Rattle.ob0_tree.specs.Tree.{identifiers}
 use Rattle.ob0_types.specs.FaultOrder.{AreFirstFaults, code_number, fault_cmp, all_faults_of, span_cmp}
-use Rattle.ob0_types_check.specs.DeclarationFaults.{module_faults, reported_block}
+use Rattle.ob0_types_check.specs.DeclarationFaults.{every_body, module_faults, reported_block, reported_module, walk_at_start}
+use Rattle.ob0_types_check.proofs.SomeBodies.{closing_of}
 use Rattle.ob0_types_check.specs.KnownDeclarations.{state_at_start, predeclared_meanings}
 use Rattle.ob0_analysis.specs.Diagnosed.{ReportedDiagnosis, ReportsRefusal, RefusalIsUnique, Reports, ReportsFaults, ReportsLexicalFaults, ReportsParserRefusal, ReportsNameAndTypeFaults, reported_diagnosis_of_fault}
 use Rattle.ob0_world_rules.proofs.OneModule.{Same, same_module}
@@ -195,8 +196,8 @@ module _ (r q : Resolution) (h : IsResolution r) (k : IsResolution q) (e : Same 
   same_reported : module_faults r ≡ module_faults q
   unfolding module_faults
   same_reported =
-      let found : (reported_block (state_at_start r) (module_block (tree_of r.module_read))).faults ≡ (reported_block (state_at_start q) (module_block (tree_of q.module_read))).faults =
-      (block_like (state_at_start r) (state_at_start q) (module_block (tree_of r.module_read)) first_like).faults ∙ ap (λ t. (reported_block (state_at_start q) (module_block t)).faults) e.tree in
+      let found : (reported_module every_body r).faults ≡ (reported_module every_body q).faults =
+      (block_like r.module_read.closing (walk_at_start r) (walk_at_start q) (module_block (tree_of r.module_read)) first_like).faults ∙ ap (λ t. (reported_block every_body (closing_of t) (walk_at_start q) (module_block t)).faults) e.tree in
       λ i. filter is_undeclared_fault (same_of_names i) ++ found i
 
   same_faults : (xs ys : List Fault) → AreFirstFaults r xs → AreFirstFaults q ys → xs ≡ ys

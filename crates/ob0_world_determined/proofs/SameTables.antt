@@ -9,7 +9,7 @@ use Rattle.ob0_scope_table.specs.Resolution.{ordinal_in}
 use Rattle.ob0_types_table.specs.declared.types.TypeId.{TypeId}
 use Rattle.ob0_tree.specs.Places.{token_text_at}
 use Rattle.ob0_tree.specs.Tree.{Tree, array_type, begins, block, body, constant, declares, declares_constant, declares_procedure, declares_type, declares_variable, end, fields, further_fields, further_section, forms_block, item, items, maybe, more, named_type, names, no_fields, none, one, procedure, record_type, some_fields, then_fields, then_section, type_definition, value_section, variable, variable_section, written_type}
-use Rattle.ob0_types_check.specs.DeclarationFaults.{KnownHeading, state_after_heading, reported_constant_declaration, reported_constants, reported_block, reported_body, reported_parameters, reported_procedure, reported_procedures, reported_section, reported_sections, reported_types, reported_variables, reported_type_declaration, reported_variable_group, with_parameters}
+use Rattle.ob0_types_check.specs.DeclarationFaults.{KnownHeading, WalkProgress, body_faults, every_body, report_body_if_wanted, reported_block, reported_constant_declaration, reported_constants, reported_parameters, reported_procedure, reported_procedures, reported_section, reported_sections, reported_type_declaration, reported_types, reported_variable_group, reported_variables, state_after_heading, with_declarations, with_parameters}
 use Rattle.ob0_types_check.specs.ExpressionFaults.{reported_expression}
 use Rattle.ob0_types_check.specs.Known.{Facts, Meaning, Operand, Reported, a_constant, a_procedure, a_type, a_variable}
 use Rattle.ob0_types_check.specs.Operations.{fault_at_token, without_fault, token_before}
@@ -241,29 +241,32 @@ sections_like g h (more s rest) like =
 heading_like : (x : ℕ) (g h : KnownHeading) → HeadingLike g h → Like (state_after_heading x g) (state_after_heading x h)
 heading_like x g h like = subst (λ fs. Like (state_after_heading x g) (define h.following (a_procedure fs) x)) like.formals (define_like g.following h.following (a_procedure g.formals) x like.following)
 
-body_like : (p q : KnownDeclarations) (b : Tree ℕ (maybe body)) → Like p q → Both Like (reported_body p b) (reported_body q b)
-unfolding reported_body
-body_like p q none like = right_both Like p q like
-body_like p q (one (begins statements)) like = record { known = like; faults = ap (λ (f : Facts TypeId). sequence_faults f statements) (same_facts p q false like) }
+abbrev pub LikeSoFar : WalkProgress → WalkProgress → Type 0
+LikeSoFar u v = Like u.so_far v.so_far
+
+body_like : (own : ℕ) (u v : WalkProgress) (b : Tree ℕ (maybe body)) → LikeSoFar u v → Both LikeSoFar (report_body_if_wanted true own u b) (report_body_if_wanted true own v b)
+unfolding body_faults
+body_like own u v none like = record { known = like; faults = refl }
+body_like own u v (one (begins statements)) like = record { known = like; faults = ap (λ (f : Facts TypeId). sequence_faults f statements) (same_facts u.so_far v.so_far false like) }
 
 mutual
   unfolding reported_block
 
-  pub block_like : (p q : KnownDeclarations) (b : Tree ℕ block) → Like p q → Both Like (reported_block p b) (reported_block q b)
-  block_like p q (forms_block (declares cs ts vs ps) statements) like =
-      let constants : Both Like (reported_constants p (section_constants cs)) (reported_constants q (section_constants cs)) = constants_like p q (section_constants cs) like in
+  pub block_like : (own : ℕ) (u v : WalkProgress) (b : Tree ℕ block) → LikeSoFar u v → Both LikeSoFar (reported_block every_body own u b) (reported_block every_body own v b)
+  block_like own u v (forms_block (declares cs ts vs ps) statements) like =
+      let constants : Both Like (reported_constants u.so_far (section_constants cs)) (reported_constants v.so_far (section_constants cs)) = constants_like u.so_far v.so_far (section_constants cs) like in
       let types = types_like _ _ (section_types ts) constants.known in
       let variables = variables_like _ _ (section_variables vs) types.known in
-      let procedures = procedures_like _ _ ps variables.known in
-      after constants.faults (after types.faults (after variables.faults (after procedures.faults (body_like _ _ statements procedures.known))))
+      let procedures = procedures_like (with_declarations u _) (with_declarations v _) ps variables.known in
+      after constants.faults (after types.faults (after variables.faults (after procedures.faults (body_like own _ _ statements procedures.known))))
 
-  procedures_like : (p q : KnownDeclarations) (ds : Tree ℕ (items procedure)) → Like p q → Both Like (reported_procedures p ds) (reported_procedures q ds)
-  procedures_like p q end like = right_both Like p q like
-  procedures_like p q (more d rest) like =
-      let next : Both Like (reported_procedure p d) (reported_procedure q d) = procedure_like p q d like in
-      after next.faults (procedures_like (reported_procedure p d).known (reported_procedure q d).known rest next.known)
+  procedures_like : (u v : WalkProgress) (ds : Tree ℕ (items procedure)) → LikeSoFar u v → Both LikeSoFar (reported_procedures every_body u ds) (reported_procedures every_body v ds)
+  procedures_like u v end like = right_both LikeSoFar u v like
+  procedures_like u v (more d rest) like =
+      let next : Both LikeSoFar (reported_procedure every_body u d) (reported_procedure every_body v d) = procedure_like u v d like in
+      after next.faults (procedures_like (reported_procedure every_body u d).known (reported_procedure every_body v d).known rest next.known)
 
-  procedure_like : (p q : KnownDeclarations) (d : Tree ℕ (item procedure)) → Like p q → Both Like (reported_procedure p d) (reported_procedure q d)
-  procedure_like p q (declares_procedure x fs b closing) like =
-      let sections = sections_like (record { formals = []; following = p }) (record { formals = []; following = q }) (formal_sections fs) (record { formals = refl; following = like }) in
-      after sections.faults (block_like _ _ b (heading_like x _ _ sections.known))
+  procedure_like : (u v : WalkProgress) (d : Tree ℕ (item procedure)) → LikeSoFar u v → Both LikeSoFar (reported_procedure every_body u d) (reported_procedure every_body v d)
+  procedure_like u v (declares_procedure x fs b closing) like =
+      let sections = sections_like (record { formals = []; following = u.so_far }) (record { formals = []; following = v.so_far }) (formal_sections fs) (record { formals = refl; following = like }) in
+      after sections.faults (block_like closing (with_declarations u _) (with_declarations v _) b (heading_like x _ _ sections.known))

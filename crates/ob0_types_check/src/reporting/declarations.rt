@@ -4,15 +4,16 @@
 ghost use Rattle.std.specs.Prelude.{◌≡◌, ◌∷◌, ◌++◌, [], map, IfOk, OnOk};
 ghost use Rattle.ob0_language_names.specs.Parts.{formal_sections, section_constants, section_types, section_variables};
 ghost use Rattle.ob0_tree.specs.View.{block_of, body_of, constant_of, constants_of, formals_of, further_section_of, items_of, procedure_of, type_declaration_of, types_of, variable_of, variables_of};
-ghost use Rattle.ob0_types_check.specs.DeclarationFaults.{reported_constant_declaration, reported_body, reported_constants, reported_section, reported_sections, reported_types, reported_variables, reported_type_declaration, reported_variable_group};
+ghost use Rattle.ob0_types_check.specs.DeclarationFaults.{body_faults, report_body_if_wanted, reported_block, reported_constant_declaration, reported_constants, reported_procedure, reported_procedures, reported_section, reported_sections, reported_type_declaration, reported_types, reported_variable_group, reported_variables};
 ghost use Rattle.ob0_types_check.specs.Known.{a_variable};
 ghost use Rattle.ob0_types_check.specs.Operations.{ReturnsAndReports};
 ghost use Rattle.ob0_types_check.specs.KnownDeclarations.{define_all};
-ghost use Rattle.ob0_types_check.specs.SomeBodies.{reported_block_with_bodies, report_body_if_wanted, reported_procedure_with_bodies, reported_procedures_with_bodies, walk_progress_of, includes_body};
+ghost use Rattle.ob0_types_check.specs.SomeBodies.{includes_body, walk_progress_of};
 ghost use Rattle.ob0_types_check.specs.CheckerViews.{heading_in_state, declarations_in_state};
 
 use crate::reporting::checker_state::{CheckerState, Meaning};
 use crate::reporting::{BodiesToWalk, Reporter};
+use ob0_scan::Fault;
 use ob0_tree::{
     Block, Constant, Names, ParameterSection, Procedure, Statement, TypeDeclaration,
     VariableDeclaration,
@@ -49,6 +50,22 @@ impl<'t> CheckerState<'t> {
             self.define(*name, Meaning::Variable(of));
         }
     }
+
+    /// Reports the faults of a body's statements. A missing body (None) has no faults.
+    fn report_body(
+        &self,
+        faults: &mut Vec<Fault>,
+        body: &Option<Vec<Statement>>,
+    ) -> Result<(), AllocError>
+        ensures { OnOk result (faults.new.items
+            ≡ faults.old.items
+            ++ body_faults (declarations_in_state self.now) (body_of body.now)) }
+    {
+        match body {
+            None => Ok(()),
+            Some(statements) => self.report_sequence(faults, statements),
+        }
+    }
 }
 
 impl<'t> Reporter<'t> {
@@ -64,7 +81,7 @@ impl<'t> Reporter<'t> {
         own: usize,
     ) -> Result<(), AllocError>
         ensures { OnOk result (ReturnsAndReports self.old.faults.items self.new.faults.items
-            (walk_progress_of self.new.checker_state bodies_with_faults.new.items) (reported_block_with_bodies (includes_body wanted.now) own
+            (walk_progress_of self.new.checker_state bodies_with_faults.new.items) (reported_block (includes_body wanted.now) own
             (walk_progress_of self.old.checker_state bodies_with_faults.old.items) (block_of b.now))) }
     {
         self.report_constant_section(&b.constants)?;
@@ -82,7 +99,7 @@ impl<'t> Reporter<'t> {
         procedures: &Vec<Procedure>,
     ) -> Result<(), AllocError>
         ensures { OnOk result (ReturnsAndReports self.old.faults.items self.new.faults.items
-            (walk_progress_of self.new.checker_state bodies_with_faults.new.items) (reported_procedures_with_bodies (includes_body wanted.now)
+            (walk_progress_of self.new.checker_state bodies_with_faults.new.items) (reported_procedures (includes_body wanted.now)
             (walk_progress_of self.old.checker_state bodies_with_faults.old.items)
             (items_of procedure_of procedures.now.items))) }
     {
@@ -102,7 +119,7 @@ impl<'t> Reporter<'t> {
         p: &Procedure,
     ) -> Result<(), AllocError>
         ensures { OnOk result (ReturnsAndReports self.old.faults.items self.new.faults.items
-            (walk_progress_of self.new.checker_state bodies_with_faults.new.items) (reported_procedure_with_bodies (includes_body wanted.now)
+            (walk_progress_of self.new.checker_state bodies_with_faults.new.items) (reported_procedure (includes_body wanted.now)
             (walk_progress_of self.old.checker_state bodies_with_faults.old.items) (procedure_of p.now))) }
     {
         let formals = self.report_heading(&p.formals)?;
@@ -129,25 +146,12 @@ impl<'t> Reporter<'t> {
             return Ok(());
         }
         let before = self.faults.len();
-        self.report_body_statements(statements)?;
+        self.checker_state
+            .report_body(&mut self.faults, statements)?;
         if self.faults.len() > before {
             bodies_with_faults.push(own)?;
         }
         Ok(())
-    }
-
-    /// Reports the faults of a body's statements. A missing body (None) has no faults.
-    fn report_body_statements(&mut self, body: &Option<Vec<Statement>>) -> Result<(), AllocError>
-        ensures { OnOk result (ReturnsAndReports self.old.faults.items self.new.faults.items
-            (declarations_in_state self.new.checker_state)
-            (reported_body (declarations_in_state self.old.checker_state) (body_of body.now))) }
-    {
-        match body {
-            None => Ok(()),
-            Some(statements) => self
-                .checker_state
-                .report_sequence(&mut self.faults, statements),
-        }
     }
 
     /// Reports the faults of a procedure's heading, declares the parameters as variables, and

@@ -5,11 +5,11 @@ use Rattle.ob0_tree.specs.declared.tree.Block.{out-Block}
 use Rattle.ob0_tree.specs.declared.tree.Procedure.{out-Procedure}
 use Rattle.ob0_tree.specs.View.{block_of, body_of, constants_of, items_of, procedure_of, types_of, variables_of}
 use Rattle.ob0_language_names.specs.Parts.{section_types, section_variables}
-use Rattle.ob0_types_check.specs.DeclarationFaults.{state_after_heading, reported_types, reported_variables}
+use Rattle.ob0_types_check.specs.DeclarationFaults.{report_body_if_wanted, reported_block, reported_procedures, reported_types, reported_variables, state_after_heading, with_declarations}
 use Rattle.ob0_types_check.specs.Operations.{◌>>=◌}
-use Rattle.ob0_types_check.specs.SomeBodies.{reported_block_with_bodies, report_body_if_wanted, reported_procedures_with_bodies, walk_progress_of, includes_body}
+use Rattle.ob0_types_check.specs.SomeBodies.{walk_progress_of, includes_body}
 use Rattle.ob0_types_check.proofs.Chains.{chain_ends, chain_goes_on, steps, reports_same}
-use Rattle.ob0_types_check.proofs.ReportedWith.{block_parts_with, further, procedure_parts_with, procedures_chain_with}
+use Rattle.ob0_types_check.proofs.ReportedDeclarations.{block_reported, procedure_reported, procedures_chain}
 use Rattle.ob0_types_check.proofs.reporting.Reporter.+blocks.Goals as goal
 
 pub report_block-returns : goal.report_block-returns
@@ -23,19 +23,19 @@ report_block-returns t c =
     let procedures = items_of procedure_of b.procedures.items in
     let body = body_of b.body in
     on_ok_weaker c.report_body_if_wanted.result (λ h. reports_same
-    (steps (λ q. reported_types q types >>= (λ r. reported_variables r variables >>= (λ s. reported_procedures_with_bodies wanted (further w s) procedures >>= (λ o. report_body_if_wanted (wanted own) own o body)))) c.in_ok-report_constant_section.ensures
-    (steps (λ r. reported_variables r variables >>= (λ s. reported_procedures_with_bodies wanted (further w s) procedures >>= (λ o. report_body_if_wanted (wanted own) own o body))) c.in_ok-report_type_section.ensures
-    (steps (λ s. reported_procedures_with_bodies wanted (further w s) procedures >>= (λ o. report_body_if_wanted (wanted own) own o body)) c.in_ok-report_variable_section.ensures
+    (steps (λ q. reported_types q types >>= (λ r. reported_variables r variables >>= (λ s. reported_procedures wanted (with_declarations w s) procedures >>= (λ o. report_body_if_wanted (wanted own) own o body)))) c.in_ok-report_constant_section.ensures
+    (steps (λ r. reported_variables r variables >>= (λ s. reported_procedures wanted (with_declarations w s) procedures >>= (λ o. report_body_if_wanted (wanted own) own o body))) c.in_ok-report_type_section.ensures
+    (steps (λ s. reported_procedures wanted (with_declarations w s) procedures >>= (λ o. report_body_if_wanted (wanted own) own o body)) c.in_ok-report_variable_section.ensures
     (steps (λ o. report_body_if_wanted (wanted own) own o body) c.in_ok-report_procedures.ensures (reports_same h (ap (λ x. report_body_if_wanted x own (walk_progress_of c.report_procedures.new.self.checker_state c.report_procedures.new.bodies_with_faults.items) body) c.includes_body.ensures))))))
-    (sym (ap (reported_block_with_bodies wanted own w) (block_parts c.args.b.now) ∙ block_parts_with wanted own w (constants_of b.constants) (types_of b.types) (variables_of b.variables) procedures body))) c.report_body_if_wanted.ensures
+    (sym (ap (reported_block wanted own w) (block_parts c.args.b.now) ∙ block_reported wanted own w (constants_of b.constants) (types_of b.types) (variables_of b.variables) procedures body))) c.report_body_if_wanted.ensures
 
 pub report_procedures-loop-p-preserved : goal.report_procedures-loop-p-preserved
-report_procedures-loop-p-preserved t c = chain_goes_on c.p-item.result (procedures_chain_with (includes_body c.args.wanted.now)) c.loop-p.invariant c.loop-p-test.true c.p-item.is c.in_ok-report_procedure.ensures
+report_procedures-loop-p-preserved t c = chain_goes_on c.p-item.result (procedures_chain (includes_body c.args.wanted.now)) c.loop-p.invariant c.loop-p-test.true c.p-item.is c.in_ok-report_procedure.ensures
 
 pub report_procedures-returns : goal.report_procedures-returns
 report_procedures-returns t c =
-    reports_same (chain_ends (procedures_chain_with (includes_body c.args.wanted.now)) c.loop-p.invariant c.loop-p-test.false)
-    (ap (λ ps. reported_procedures_with_bodies (includes_body c.args.wanted.now) (walk_progress_of c.args.self.now.checker_state c.args.bodies_with_faults.now.items) (items_of procedure_of ps)) c.deref-p-items.ensures.value)
+    reports_same (chain_ends (procedures_chain (includes_body c.args.wanted.now)) c.loop-p.invariant c.loop-p-test.false)
+    (ap (λ ps. reported_procedures (includes_body c.args.wanted.now) (walk_progress_of c.args.self.now.checker_state c.args.bodies_with_faults.now.items) (items_of procedure_of ps)) c.deref-p-items.ensures.value)
 
 pub report_procedure-returns : goal.report_procedure-returns
 report_procedure-returns t c =
@@ -46,5 +46,5 @@ report_procedure-returns t c =
     let b = block_of (out-Procedure d).block in
     let wanted = includes_body c.args.wanted.now in
     on_ok_weaker c.report_block.result (λ h. reports_same
-    (steps (λ g. reported_block_with_bodies wanted own (further w (state_after_heading x g)) b) c.in_ok-formals.ensures (reports_same h (ap (λ q. reported_block_with_bodies wanted own (further w q) b) c.define.ensures)))
-    (sym (procedure_parts_with wanted w d))) c.report_block.ensures
+    (steps (λ g. reported_block wanted own (with_declarations w (state_after_heading x g)) b) c.in_ok-formals.ensures (reports_same h (ap (λ q. reported_block wanted own (with_declarations w q) b) c.define.ensures)))
+    (sym (procedure_reported wanted w d))) c.report_block.ensures

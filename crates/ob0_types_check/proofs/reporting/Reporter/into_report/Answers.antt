@@ -1,6 +1,7 @@
-use Rattle.std.proofs.Common.{sym, ◌∙◌, subst, arith}
+use Rattle.std.proofs.Common.{sym, ap, ◌∙◌, subst, arith}
 use Rattle.std.specs.Vec.{vec_len}
 use Rattle.ob0_tree.specs.ParsedModule.{named_tree_of}
+use Rattle.ob0_types_check.specs.DeclarationFaults.{WalkProgress}
 use Rattle.ob0_types_check.specs.ModuleLaws.{HasDeclarations}
 use Rattle.ob0_types_check.proofs.Reported.{declares, in_order, is_nothing, is_something, nothing}
 use Rattle.ob0_types_check.proofs.reporting.Reporter.into_report.Goals as goal
@@ -22,7 +23,7 @@ returns-in_ok-known c =
     record {
       faults = c.requires.faults;
       known = (nothing r t.faults.items t.checker_state c.args.bodies_with_faults.items c.requires c.walk_without_fault_finds_meanings.ensures c.module-module.ensures.resolved none, subst (HasDeclarations (named_tree_of r.module_read)) (sym c.in_ok-known.ensures) table);
-      bodies_with_faults = c.requires.faulty_bodies_are;
+      bodies_with_faults = ap (λ (w : WalkProgress). w.bodies_with_faults) c.requires.known;
     }
 
 pub returns-else-is_empty : goal.returns-else-is_empty
@@ -32,5 +33,5 @@ returns-else-is_empty c =
     record {
       faults = c.requires.faults;
       known = λ none. is_something t.faults.items (vec_len t.faults) c.is_empty.result (omega (arith, ok)) c.is_empty.ensures c.if-is_empty.false (c.requires.faults ∙ none);
-      bodies_with_faults = c.requires.faulty_bodies_are;
+      bodies_with_faults = ap (λ (w : WalkProgress). w.bodies_with_faults) c.requires.known;
     }
