@@ -5,7 +5,7 @@ use Rattle.ob0_tree.specs.Tree.{Sort, Tree, block, constant, constants, declares
 use Rattle.ob0_language_names.specs.Names.{Name, naming_by_spelling, same_name}
 use Rattle.ob0_language_names.specs.Parts.{constant_names, formal_names, formal_sections, declared_type_names, names_in_list, procedure_name, section_constants, section_names, section_types, section_variables, variable_names}
 use Rattle.ob0_language_names.specs.Scopes.{Labelling, Scope, ordinal_after_block, ordinal_after_names, ordinal_after_procedure, ordinal_after_procedures, body_scope, declare_names, declare_procedure_names, first_procedure_ordinal, first_type_ordinal, first_variable_ordinal, label_of, ordinal_of, procedures_scope, relabel_block, relabel_constant_section, relabel_constants, relabel_formals, relabel_procedure, relabel_procedures, relabel_section, relabel_sections, relabel_type_section, relabel_types, relabel_uses, relabel_variable_section, relabel_variables, types_scope, variables_scope}
-use Rattle.ob0_language_names.proofs.OccurrenceNames.{occurrences-map_names}
+use Rattle.ob0_language_names.proofs.OccurrencesMapped.{occurrences-mapped}
 use Rattle.ob0_language_names.proofs.Ordinals.{ordinal_after_names-append, le-ordinal_after_block, le-ordinal_after_names, le-ordinal_after_procedure, le-ordinal_after_procedures}
 
 -- labels that have only ordinals, and no names
@@ -50,7 +50,7 @@ names_low n scope [] h = tt
 names_low n scope (x ∷ xs) h = (ordinal_low n scope x h, names_low n scope xs h)
 
 pub uses_low : {s : Sort} (n : ℕ) (scope : Scope Name) (t : Tree Name s) → ScopeLow n scope → AllLow n (occurrences (relabel_uses naming_by_spelling forget scope t))
-uses_low n scope t h = subst (AllLow n) (sym (occurrences-map_names (label_of naming_by_spelling forget scope) (forget None) t)) (names_low n scope (occurrences t) h)
+uses_low n scope t h = subst (AllLow n) (sym (occurrences-mapped (label_of naming_by_spelling forget scope) (forget None) (λ n. n) t)) (names_low n scope (occurrences t) h)
 
 pub declared_low : (k : ℕ) (xs : List Name) (scope : Scope Name) → ScopeLow k scope → ScopeLow (ordinal_after_names k xs) (declare_names k xs scope)
 declared_low k [] scope h = h

@@ -5,7 +5,8 @@ use Rattle.ob0_tree.specs.Tree.{Sort, Tree, block, body, constant, constants, de
 use Rattle.ob0_language_names.specs.Names.{Label, Name, Naming}
 use Rattle.ob0_language_names.specs.Parts.{formal_names, formal_sections, names_in_list, procedure_name, section_constants, section_names, section_type, section_types, section_variables}
 use Rattle.ob0_language_names.specs.Scopes.{Scope, ordinal_after_names, ordinal_after_procedure, label_from_ordinal, body_scope, declare_names, first_procedure_ordinal, first_type_ordinal, first_variable_ordinal, label_of, procedures_scope, relabel_block, relabel_constant_section, relabel_constants, relabel_formals, relabel_procedure, relabel_procedures, relabel_section, relabel_sections, relabel_type_section, relabel_types, relabel_uses, relabel_variable_section, relabel_variables, types_scope, variables_scope}
-use Rattle.ob0_language_names.proofs.OccurrenceNames.{as_many-constant_section, as_many-formals, as_many-procedure, as_many-procedures, as_many-section, as_many-type_section, as_many-uses, as_many-variable_section, longer, occurrences-map_names}
+use Rattle.ob0_language_names.proofs.OccurrenceNames.{as_many-constant_section, as_many-formals, as_many-procedure, as_many-procedures, as_many-section, as_many-type_section, as_many-uses, as_many-variable_section, longer}
+use Rattle.ob0_language_names.proofs.OccurrencesMapped.{occurrences-mapped}
 
 -- holds if `Q` holds for each occurrence in a list, whose numbers count up from `j`
 abbrev pub Each : (ℕ → Scope Name → Name → Type 0) → ℕ → Scope Name → List Name → Type 0
@@ -76,8 +77,8 @@ module _ (u v : Naming Name) (R S : ℕ → Label → Type 0) (L : Placed) (make
 
   pub each-uses : {s : Sort} (j : ℕ) (scope : Scope Name) (t : Tree Name s) → AllAt R j (occurrences (relabel_uses u (label_from_ordinal u) scope t)) → AllAt S j (occurrences (relabel_uses v (label_from_ordinal v) scope t)) → L s j scope t
   each-uses {s} j scope t f g =
-      make s j scope t (each-names j scope (occurrences t) (subst (AllAt R j) (occurrences-map_names (label_of u (label_from_ordinal u) scope) (label_from_ordinal u None) t) f)
-      (subst (AllAt S j) (occurrences-map_names (label_of v (label_from_ordinal v) scope) (label_from_ordinal v None) t) g))
+      make s j scope t (each-names j scope (occurrences t) (subst (AllAt R j) (occurrences-mapped (label_of u (label_from_ordinal u) scope) (label_from_ordinal u None) (λ n. n) t) f)
+      (subst (AllAt S j) (occurrences-mapped (label_of v (label_from_ordinal v) scope) (label_from_ordinal v None) (λ n. n) t) g))
 
   pub each-constants : (j : ℕ) (scope : Scope Name) (k : ℕ) (cs : Tree Name (items constant)) → AllAt R j (occurrences (relabel_constants u (label_from_ordinal u) scope k cs)) → AllAt S j (occurrences (relabel_constants v (label_from_ordinal v) scope k cs)) → EachConstant L j scope k cs
   each-constants j scope k end f g = tt

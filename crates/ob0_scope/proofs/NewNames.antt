@@ -7,7 +7,8 @@ use Rattle.std.specs.List.{list_any}
 use Rattle.std.proofs.lemmas.Cmp.{nat_list_eq_equiv}
 use Rattle.std.proofs.lemmas.List.Folds.{list_any-append}
 use Rattle.std.proofs.lemmas.Slice.Eq.{bytes_eq-Decides}
-use Rattle.ob0_tree.specs.Tree.{Sort, Tree, mapped_tree, occurrences, block, constant, constants, formals, further_name, further_section, item, items, maybe, module_text, names, procedure, section, type_definition, type_definitions, variable, variables, adds, array_type, assigns, begins, branches, calls, compares, declares, declares_constant, declares_constants, declares_procedure, declares_type, declares_types, declares_variable, declares_variables, designator, else_branch, elsif_branch, empty, end, field, forms_block, index, integer, is_module, listed, more, multiplies, named_type, negation, no_arguments, no_fields, no_formals, none, one, parenthesised, product, record_type, relates, repeat_loop, runs, some_arguments, some_fields, some_formals, sum, then_argument, then_fields, then_name, then_section, then_statement, value_section, variable_section, while_loop}
+use Rattle.ob0_tree.specs.Tree.{Sort, Tree, mapped_leaves, mapped_tree, occurrences, block, constant, constants, formals, further_name, further_section, item, items, maybe, module_text, names, procedure, section, type_definition, type_definitions, variable, variables, declares, declares_constant, declares_constants, declares_procedure, declares_type, declares_types, declares_variable, declares_variables, end, forms_block, is_module, listed, more, no_formals, none, one, some_formals, then_name, then_section, value_section, variable_section}
+use Rattle.ob0_tree.proofs.Mapped.{mapped_twice}
 use Rattle.ob0_language_names.specs.Mapping.{map_names}
 use Rattle.ob0_language_names.specs.Names.{Label, Name, naming_by_spelling, as_written, declared, same_name}
 use Rattle.ob0_language_names.specs.Occurrences.{Free, bindings, scopes_in_block, scopes_in_procedure, scopes_in_procedures, declares_ordinal, another_declaration_has_name}
@@ -42,59 +43,11 @@ and-false false c e = refl
 module _ (f : ℕ → Name) (g : ℕ → ℕ) (look' keep' : Name → Name) (look keep look₂ keep₂ : Name → Label)
     (looks : (i : ℕ) → look (look' (f i)) ≡ look₂ (f i)) (keeps : (i : ℕ) → keep (keep' (f i)) ≡ keep₂ (f i)) where
   twice : {s : Sort} (t : Tree ℕ s) → map_names look keep (map_names look' keep' (mapped_tree f g t)) ≡ map_names look₂ keep₂ (mapped_tree f g t)
-  twice none = refl
-  twice (one t) = λ i. one (twice t i)
-  twice end = refl
-  twice (more t ts) = λ i. more (twice t i) (twice ts i)
-  twice (compares left compared) = λ i. compares (twice left i) (twice compared i)
-  twice (relates relation right) = λ i. relates relation (twice right i)
-  twice (sum sign first terms) = λ i. sum sign (twice first i) (twice terms i)
-  twice (adds operator t) = λ i. adds operator (twice t i)
-  twice (product first factors) = λ i. product (twice first i) (twice factors i)
-  twice (multiplies operator t) = λ i. multiplies operator (twice t i)
-  twice (designator name selectors) = λ i. designator (looks name i) (twice selectors i)
-  twice (integer n) = refl
-  twice (parenthesised e) = λ i. parenthesised (twice e i)
-  twice (negation t) = λ i. negation (twice t i)
-  twice (field name) = λ i. field (keeps name i)
-  twice (index e) = λ i. index (twice e i)
-  twice empty = refl
-  twice (assigns name selectors e) = λ i. assigns (looks name i) (twice selectors i) (twice e i)
-  twice (calls name args) = λ i. calls (looks name i) (twice args i)
-  twice (branches condition s elsifs rest) = λ i. branches (twice condition i) (twice s i) (twice elsifs i) (twice rest i)
-  twice (while_loop condition s) = λ i. while_loop (twice condition i) (twice s i)
-  twice (repeat_loop s condition) = λ i. repeat_loop (twice s i) (twice condition i)
-  twice no_arguments = refl
-  twice (some_arguments e es) = λ i. some_arguments (twice e i) (twice es i)
-  twice (then_argument e) = λ i. then_argument (twice e i)
-  twice (runs first statements) = λ i. runs (twice first i) (twice statements i)
-  twice (then_statement s) = λ i. then_statement (twice s i)
-  twice (elsif_branch condition s) = λ i. elsif_branch (twice condition i) (twice s i)
-  twice (else_branch s) = λ i. else_branch (twice s i)
-  twice (listed name others) = λ i. listed (keeps name i) (twice others i)
-  twice (then_name name) = λ i. then_name (keeps name i)
-  twice (named_type name) = λ i. named_type (looks name i)
-  twice (array_type size t) = λ i. array_type (twice size i) (twice t i)
-  twice (record_type first others) = λ i. record_type (twice first i) (twice others i)
-  twice no_fields = refl
-  twice (some_fields ns t) = λ i. some_fields (twice ns i) (twice t i)
-  twice (then_fields fs) = λ i. then_fields (twice fs i)
-  twice no_formals = refl
-  twice (some_formals first others) = λ i. some_formals (twice first i) (twice others i)
-  twice (value_section ns t) = λ i. value_section (twice ns i) (twice t i)
-  twice (variable_section ns t) = λ i. variable_section (twice ns i) (twice t i)
-  twice (then_section s) = λ i. then_section (twice s i)
-  twice (declares_constant name e) = λ i. declares_constant (keeps name i) (twice e i)
-  twice (declares_constants cs) = λ i. declares_constants (twice cs i)
-  twice (declares_type name t) = λ i. declares_type (keeps name i) (twice t i)
-  twice (declares_types ts) = λ i. declares_types (twice ts i)
-  twice (declares_variable ns t) = λ i. declares_variable (twice ns i) (twice t i)
-  twice (declares_variables vs) = λ i. declares_variables (twice vs i)
-  twice (declares_procedure name fs b closing) = λ i. declares_procedure (keeps name i) (twice fs i) (twice b i) (keeps closing i)
-  twice (declares cs ts vs ps) = λ i. declares (twice cs i) (twice ts i) (twice vs i) (twice ps i)
-  twice (begins s) = λ i. begins (twice s i)
-  twice (forms_block ds b) = λ i. forms_block (twice ds i) (twice b i)
-  twice (is_module name b closing) = λ i. is_module (keeps name i) (twice b i) (keeps closing i)
+  twice t =
+      ap (mapped_leaves look keep (λ n. n)) (mapped_twice look' keep' (λ n. n) f f g t)
+      ∙ (mapped_twice look keep (λ n. n) (λ i. look' (f i)) (λ i. keep' (f i)) g t
+      ∙ ((λ j. mapped_leaves (λ i. looks i j) (λ i. keeps i j) g t)
+      ∙ sym (mapped_twice look₂ keep₂ (λ n. n) f f g t)))
 
 -- f gives the name of each token, which is never the new name of the declaration d. `here` is a
 -- scope of the text, and `there` a scope of the text in which d has the new name.

@@ -16,8 +16,9 @@ use Rattle.ob0_scope_numbering.specs.IdentifierWalk.{visit_module}
 use Rattle.ob0_scope_numbering.specs.Written.{spelling_at, tree_with_spellings}
 use Rattle.ob0_scope_table.proofs.Bound.{bindings_by_table}
 use Rattle.ob0_scope.proofs.FirstCaptures.{same_binding-refl}
-use Rattle.ob0_scope.proofs.Fused.{mapped_tree-mapped_tree, relabel_module-mapped_tree}
-use Rattle.ob0_language_names.proofs.OccurrencesMapped.{occurrences-mapped_tree}
+use Rattle.ob0_scope.proofs.Fused.{relabel_module-mapped_tree}
+use Rattle.ob0_tree.proofs.Mapped.{mapped_twice}
+use Rattle.ob0_language_names.proofs.OccurrencesMapped.{occurrences-mapped}
 use Rattle.ob0_scope_numbering.proofs.Passing.{at_start, module_passed}
 use Rattle.ob0_scope_numbering.proofs.Tables.{marks_in_table}
 
@@ -29,7 +30,7 @@ pub renamed_spelled : (r : Resolution) (d : ℕ) (new : Name) → IsResolution r
 renamed_spelled r d new is =
     let m = r.module_read in
     relabel_module-mapped_tree naming_by_spelling (new_or d new) ordinal_and_spelling (named_tree_of m)
-    ∙ (ap (mapped_tree (new_or d new) (λ n. n)) is.binding ∙ mapped_tree-mapped_tree (new_or d new) (ordinal_and_spelling_at m.source r.ordinals) (token_value_at m.source) (tree_of m))
+    ∙ (ap (mapped_tree (new_or d new) (λ n. n)) is.binding ∙ mapped_twice (new_or d new) (new_or d new) (λ n. n) (ordinal_and_spelling_at m.source r.ordinals) (ordinal_and_spelling_at m.source r.ordinals) (token_value_at m.source) (tree_of m))
 
 pub renumbered : (r : Resolution) (d : ℕ) (new : Name) (v : WalkState) (ordinals : List (Option ℕ)) → IsResolution r → v ≡ visit_module (tree_of r.module_read) (initial_walk_state (spellings_after_rename r d new))
     → ordinals ≡ with_marks (replicate (length r.module_read.source.tokens) None) v.marks → AreOrdinalsAfterRename r d new ordinals
@@ -45,7 +46,7 @@ renamed_bindings : (r : Resolution) (d : ℕ) (new : Name) (ordinals : List (Opt
 renamed_bindings r d new ordinals is numbering =
     let m = r.module_read in
     let label : ℕ → Label = λ i. label_from_ordinal naming_by_spelling (ordinal_in ordinals i) (spelling_at (spellings_after_rename r d new) i) in
-    ap occurrences numbering ∙ (occurrences-mapped_tree label (token_value_at m.source) (tree_of m) ∙ ap (map label) (sym is.occurring))
+    ap occurrences numbering ∙ (occurrences-mapped label label (token_value_at m.source) (tree_of m) ∙ ap (map label) (sym is.occurring))
 
 pub ordinals_back : (written : ℕ → Name) (ordinals : List (Option ℕ)) (is : List ℕ) → map label_ordinal (map (λ i. label_from_ordinal naming_by_spelling (ordinal_in ordinals i) (written i)) is) ≡ map (ordinal_in ordinals) is
 ordinals_back written ordinals [] = refl

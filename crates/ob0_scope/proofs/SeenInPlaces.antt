@@ -28,8 +28,7 @@ use Rattle.ob0_scope_numbering.specs.MarkWalk.{WalkState, initial_walk_state}
 use Rattle.ob0_scope_numbering.specs.IdentifierWalk.{visit_module}
 use Rattle.ob0_scope_numbering.specs.Written.{Spellings, spelling_at}
 use Rattle.ob0_scope.proofs.Fused.{relabel_module-mapped_tree}
-use Rattle.ob0_language_names.proofs.OccurrenceNames.{occurrences-map_names}
-use Rattle.ob0_language_names.proofs.OccurrencesMapped.{occurrences-mapped_tree}
+use Rattle.ob0_language_names.proofs.OccurrencesMapped.{occurrences-mapped}
 use Rattle.ob0_scope_numbering.proofs.Passing.{at_start, module_passed, tokens_of}
 use Rattle.ob0_scope_numbering.proofs.Tables.{kept_below, marks_in_table}
 
@@ -80,11 +79,11 @@ module _ (y : Name) (f h : ℕ → Name) (g : ℕ → ℕ) where
       → occurrences (relabel_uses naming_by_spelling forget scope (mapped_tree f g t)) ≡ occurrences (relabel_uses (naming_for_lookup_of y) forget scope (mapped_tree h g t))
   uses_alike r other scope t a =
       let written = subst (AllWritten y f) (looked_up-occurrences r other t) (looked_up-written y f h (identifiers r t) a) in
-      occurrences-map_names (label_of naming_by_spelling forget scope) (forget None) (mapped_tree f g t)
-      ∙ (ap (map (label_of naming_by_spelling forget scope)) (occurrences-mapped_tree f g t)
+      occurrences-mapped (label_of naming_by_spelling forget scope) (forget None) (λ n. n) (mapped_tree f g t)
+      ∙ (ap (map (label_of naming_by_spelling forget scope)) (occurrences-mapped f f g t)
       ∙ (names_alike scope (occurrences t) written
-      ∙ (sym (ap (map (label_of (naming_for_lookup_of y) forget scope)) (occurrences-mapped_tree h g t))
-      ∙ sym (occurrences-map_names (label_of (naming_for_lookup_of y) forget scope) (forget None) (mapped_tree h g t)))))
+      ∙ (sym (ap (map (label_of (naming_for_lookup_of y) forget scope)) (occurrences-mapped h h g t))
+      ∙ sym (occurrences-mapped (label_of (naming_for_lookup_of y) forget scope) (forget None) (λ n. n) (mapped_tree h g t)))))
 
   part_alike : {s : Sort} (scope : Scope Name) (t : Tree ℕ s) → AllSought y f h (identifiers role.Declaring t)
       → occurrences (relabel_uses naming_by_spelling forget scope (mapped_tree f g t)) ≡ occurrences (relabel_uses (naming_for_lookup_of y) forget scope (mapped_tree h g t))
@@ -299,7 +298,7 @@ module _ (y : Name) (f h : ℕ → Name) (g : ℕ → ℕ) where
 forgotten : (naming : Naming Name) (m : Tree Name module_text) → occurrences (relabel_module naming forget m) ≡ map label_ordinal (occurrences (relabel_module naming (label_from_ordinal naming) m))
 forgotten naming m =
     ap (λ (l : Labelling Name (Option ℕ)). occurrences (relabel_module naming l m)) (λ i o x. sym (back o x) i)
-    ∙ (ap occurrences (relabel_module-mapped_tree naming label_ordinal (label_from_ordinal naming) m) ∙ occurrences-mapped_tree label_ordinal (λ n. n) (relabel_module naming (label_from_ordinal naming) m))
+    ∙ (ap occurrences (relabel_module-mapped_tree naming label_ordinal (label_from_ordinal naming) m) ∙ occurrences-mapped label_ordinal label_ordinal (λ n. n) (relabel_module naming (label_from_ordinal naming) m))
   where
     back : (o : Option ℕ) (x : Name) → label_ordinal (label_from_ordinal naming o x) ≡ o
     back None x = refl
@@ -405,7 +404,7 @@ seen_in_places r y v sought ordinals is table gone tabled =
     let agree = (passed.agree (marks_in_table m w v ordinals is.parsed gone tabled)).1 in
     let reported_so : AllMarked sought ids = subst (λ (t : List (Option ℕ)). AllMarked t ids) (sym table) (uses_reported r is) in
     ap (map (ordinal_in ordinals)) is.occurring
-    ∙ (sym (occurrences-mapped_tree (ordinal_in ordinals) (token_value_at m.source) (tree_of m))
+    ∙ (sym (occurrences-mapped (ordinal_in ordinals) (ordinal_in ordinals) (token_value_at m.source) (tree_of m))
     ∙ (sym (ap occurrences agree)
     ∙ (module_alike y (spelling_at w) (token_text_at m.source) (token_value_at m.source) (tree_of m) (all_sought m.source sought y ids reported_so)
     ∙ forgotten (naming_for_lookup_of y) (named_tree_of m))))

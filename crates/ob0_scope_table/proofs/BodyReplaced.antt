@@ -12,7 +12,8 @@ use Rattle.ob0_scope_table.specs.TokenProperty.{EachTokenHas}
 use Rattle.ob0_scope_table.specs.BodyReplaced.{IsBodyReplaced, PathToBody, block_without, moved_token_index, procedure_without, procedures_without, module_without_body}
 use Rattle.ob0_scope_table.specs.OneBody.{is_outside_range}
 use Rattle.ob0_scope_table.proofs.BodyOutside.{module_outside}
-use Rattle.ob0_scope_table.proofs.MappedAlike.{mapped_alike, mapped_mapped}
+use Rattle.ob0_scope_table.proofs.MappedAlike.{mapped_alike}
+use Rattle.ob0_tree.proofs.Mapped.{mapped_twice}
 use Rattle.ob0_scope_table.proofs.OneBody.{text_in_word, value_in_word, word_text, word_value}
 use Rattle.ob0_scope_table.proofs.Placed.{places_ascend}
 
@@ -71,6 +72,6 @@ value_moved old new path s r k e = value_by_word old.source new.source k (moved_
 pub names_outside : (old new : ParsedModule) (path : PathToBody) (s : SameParts) → IsBodyReplaced old new path s → tree_with_names new.source (module_without_body path (tree_of new)) ≡ tree_with_names old.source (module_without_body path (tree_of old))
 names_outside old new path s r =
     ap (tree_with_names new.source) r.outside
-    ∙ (mapped_mapped (token_text_at new.source) (token_value_at new.source) (moved_token_index s) (moved_token_index s) (module_without_body path (tree_of old))
+    ∙ (mapped_twice (token_text_at new.source) (token_text_at new.source) (token_value_at new.source) (moved_token_index s) (moved_token_index s) (moved_token_index s) (module_without_body path (tree_of old))
     ∙ mapped_alike (λ k. is_outside_range s.prefix s.old_suffix k ≡ true) (λ k. token_text_at new.source (moved_token_index s k)) (token_text_at old.source) (λ k. token_value_at new.source (moved_token_index s k)) (token_value_at old.source)
     (text_moved old new path s r) (value_moved old new path s r) (module_without_body path (tree_of old)) (outside_out old new path s r))

@@ -9,10 +9,10 @@ use Rattle.ob0_language_names.specs.Names.{Name, naming_by_spelling}
 use Rattle.ob0_language_names.specs.Occurrences.{bindings, ordinal_bound_at, label_ordinal}
 use Rattle.ob0_scope_table.specs.Resolution.{IsNumberingTable, IsResolution, Resolution, label_at, ordinal_in}
 use Rattle.ob0_language_names.specs.Scopes.{label_from_ordinal}
-use Rattle.ob0_language_names.proofs.OccurrencesMapped.{occurrences-mapped_tree}
+use Rattle.ob0_language_names.proofs.OccurrencesMapped.{occurrences-mapped}
 
 pub bindings_by_table : (m : ParsedModule) (ordinals : List (Option ℕ)) → IsNumberingTable m ordinals → bindings (named_tree_of m) ≡ map (label_at m.source ordinals) (occurrences (tree_of m))
-bindings_by_table m ordinals numbering = ap occurrences numbering ∙ occurrences-mapped_tree (label_at m.source ordinals) (token_value_at m.source) (tree_of m)
+bindings_by_table m ordinals numbering = ap occurrences numbering ∙ occurrences-mapped (label_at m.source ordinals) (label_at m.source ordinals) (token_value_at m.source) (tree_of m)
 
 pub label_back : (ordinal : Option ℕ) (x : Name) → label_ordinal (label_from_ordinal naming_by_spelling ordinal x) ≡ ordinal
 label_back None x = refl

@@ -11,8 +11,7 @@ use Rattle.ob0_language_names.specs.Names.{Name, naming_by_spelling}
 use Rattle.ob0_language_names.specs.Parts.{block_constants, block_procedures, block_statements, block_types, block_variables, constant_names, formal_names, formal_sections, further_names, declared_type_names, names_in_list, procedure_block, procedure_formals, procedure_name, section_constants, section_names, section_type, section_types, section_variables, variable_names}
 use Rattle.ob0_scope_table.specs.Resolution.{ordinal_and_spelling_at, ordinal_in, ordinal_and_spelling}
 use Rattle.ob0_language_names.specs.Scopes.{Scope, ordinal_after_block, ordinal_after_names, ordinal_after_procedure, ordinal_after_procedures, declare_names, declare_procedure_names, first_procedure_ordinal, first_type_ordinal, first_variable_ordinal, label_names, label_of, ordinal_of, procedures_scope, relabel_block, relabel_constants, relabel_procedure, relabel_procedures, relabel_sections, relabel_types, relabel_uses, relabel_variables, types_scope, variables_scope}
-use Rattle.ob0_language_names.proofs.OccurrenceNames.{occurrences-map_names}
-use Rattle.ob0_language_names.proofs.OccurrencesMapped.{occurrences-mapped_tree}
+use Rattle.ob0_language_names.proofs.OccurrencesMapped.{occurrences-mapped}
 use Rattle.ob0_language_names.proofs.Ordinals.{ordinal_after_names-append, le-ordinal_after_block, le-ordinal_after_names, le-ordinal_after_procedures}
 use Rattle.ob0_language_names.proofs.Peeling.{heads}
 use Rattle.ob0_language_names.proofs.Relabelled.{constants-section, formals-section, names-relabel, section_names-relabel, section_type-relabel, types-section, variables-section}
@@ -260,9 +259,9 @@ module _ (n : Numbering) where
       let text : ℕ → Name = token_text_at n.source in
       let bound : ℕ → Option ℕ × Name = ordinal_and_spelling_at n.source n.ordinals in
       let left : occurrences (relabel_uses naming_by_spelling ordinal_and_spelling scope (tree_with_names n.source t)) ≡ map (λ x. look (text x)) (occurrences t) =
-      occurrences-map_names look (ordinal_and_spelling None) (tree_with_names n.source t) ∙ (ap (map look) (occurrences-mapped_tree text (token_value_at n.source) t) ∙ map-twice look text (occurrences t)) in
+      occurrences-mapped look (ordinal_and_spelling None) (λ n. n) (tree_with_names n.source t) ∙ (ap (map look) (occurrences-mapped text text (token_value_at n.source) t) ∙ map-twice look text (occurrences t)) in
       each_with (λ x. look (text x) ≡ bound x) (IsBound n) (IsSeen n scope) (seen scope) (occurrences t)
-      (each_same (λ x. look (text x)) bound (occurrences t) (sym left ∙ (ap occurrences e ∙ occurrences-mapped_tree bound (token_value_at n.source) t))) all
+      (each_same (λ x. look (text x)) bound (occurrences t) (sym left ∙ (ap occurrences e ∙ occurrences-mapped bound bound (token_value_at n.source) t))) all
 
   names_placed : (k : ℕ) (xs : List ℕ) → label_names ordinal_and_spelling k (map (token_text_at n.source) xs) ≡ map (ordinal_and_spelling_at n.source n.ordinals) xs → ordinal_after_names k xs ≤ n.room → NamesPlaced n k xs
   names_placed k [] e room = tt

@@ -15,8 +15,7 @@ use Rattle.ob0_language_names.specs.Parts.{block_procedures, block_statements, b
 use Rattle.ob0_scope_table.specs.Resolution.{Resolution, ordinal_in}
 use Rattle.ob0_scope_table.proofs.Bound.{label_back}
 use Rattle.ob0_language_names.specs.Scopes.{Scope, ordinal_after_block, ordinal_after_names, ordinal_after_procedure, ordinal_after_procedures, label_from_ordinal, declare_names, declare_procedure_names, first_procedure_ordinal, first_type_ordinal, first_variable_ordinal, numbered, ordinal_of, procedures_scope, relabel_block, relabel_formals, relabel_procedures, relabel_sections, relabel_uses, types_scope, variables_scope, label_of}
-use Rattle.ob0_language_names.proofs.OccurrenceNames.{occurrences-map_names}
-use Rattle.ob0_language_names.proofs.OccurrencesMapped.{occurrences-mapped_tree}
+use Rattle.ob0_language_names.proofs.OccurrencesMapped.{occurrences-mapped}
 use Rattle.ob0_language_names.proofs.Ordinals.{le-ordinal_after_procedure}
 use Rattle.ob0_language_names.proofs.Peeling.{heads}
 use Rattle.ob0_language_names.proofs.Relabelled.{formals-section, types-section, variables-section}
@@ -171,7 +170,7 @@ module _ (l : ℕ → Name → Name) (at : ℕ → Option ℕ) (text : ℕ → N
   body-alike noted right st e =
       let look : Name → Label = label_of naming_by_spelling (label_from_ordinal naming_by_spelling) (typed_scope noted) in
       alike-listed noted right (occurrences st)
-      (ap (map look) (sym (occurrences-mapped_tree text value st)) ∙ (sym (occurrences-map_names look (label_from_ordinal naming_by_spelling None) (mapped_tree text value st)) ∙ (ap occurrences e ∙ occurrences-mapped_tree label value st)))
+      (ap (map look) (sym (occurrences-mapped text text value st)) ∙ (sym (occurrences-mapped look (label_from_ordinal naming_by_spelling None) (λ n. n) (mapped_tree text value st)) ∙ (ap occurrences e ∙ occurrences-mapped label label value st)))
 
   same-types : (meaning : TypeMeanings Name) (xs : List ℕ) → Alike meaning by_token xs → SameTypes (here meaning.object_for text value) by_token xs
   same-types meaning [] h = tt
