@@ -13,8 +13,10 @@ use Rattle.ob0_text.specs.declared.position_types.Unit.{Unit}
 use Rattle.ob0_tree.specs.Module.{ModuleOf}
 use Rattle.ob0_tree.specs.ParsedModule.{ParsedModule, named_tree_of}
 use Rattle.ob0_tree.specs.Tree.{Tree, module_text}
+use Rattle.ob0_edits_tokens.specs.ByteCuts.{edit_at_cut}
+use Rattle.ob0_edits_tokens.specs.Replaced.{range_and_text}
 use Rattle.ob0_layout.specs.Layout.{formatted_lexemes, layout}
-use Rattle.ob0_layout.specs.Gaps.{edit_content, edit_of, changed_gaps, all_gaps}
+use Rattle.ob0_layout.specs.Gaps.{changed_gaps, all_gaps}
 use Rattle.ob0_layout.specs.LineRoles.{line_roles}
 use Rattle.ob0_text.specs.declared.refusals.EditRefusal.{EditRefusal}
 use Rattle.ob0_text.specs.declared.refusals.EditRefusal.TheVariants.{TooLong, Memory}
@@ -39,7 +41,7 @@ stays_module indent text m u lexed short law =
     let scan : IsScan t = record { utf8 = u; short = short; lexemes = lexemes; lexed = lexed; tokens = refl; comments = refl } in
     record { scanned = t; scan = record { of = sym (encodes-chars laid u); scan = scan }; module_of = law indent m.text_of.scanned m.text_of.scan.scan m.tree m.text_of.module_of t scan refl }
 
-pub lays_out : (unit : Unit) (indent : Indent) (text : List ℕ) (edits : List Edit) (m : IsWellTypedModule (utf8 text)) → map edit_content edits ≡ formatting_changes unit indent text m
+pub lays_out : (unit : Unit) (indent : Indent) (text : List ℕ) (edits : List Edit) (m : IsWellTypedModule (utf8 text)) → map range_and_text edits ≡ formatting_changes unit indent text m
     → patched (width_of unit) text edits ≡ Some (chars (formatted_text_of indent m)) → length (formatted_text_of indent m) ≤ max_text
     → IsUtf8 (formatted_text_of indent m) → LexesInto (formatted_text_of indent m) (formatted_lexemes indent m.tree m.text_of.scan.scan.lexemes) → ModuleStays
     → FormatsIn unit indent text edits
@@ -58,7 +60,7 @@ lays_out unit indent text edits m changes made short u lexed law =
 -- holds if the contract of `format` holds of these edits, for a module that was read
 abbrev pub Made : Unit → Indent → List ℕ → List Edit → ParsedModule → Type 0
 Made unit indent text edits m =
-    ((scan : IsScan m.source) → map edit_content edits ≡ map (edit_of (width_of unit) text) (changed_gaps m.source.text (all_gaps indent m.source.text (line_roles 0 (named_tree_of m)) scan.lexemes)))
+    ((scan : IsScan m.source) → map range_and_text edits ≡ map (edit_at_cut unit text) (changed_gaps m.source.text (all_gaps indent m.source.text (line_roles 0 (named_tree_of m)) scan.lexemes)))
     × ((scan : IsScan m.source) → length (layout indent (named_tree_of m) scan.lexemes) ≤ max_text)
     × ((scan : IsScan m.source) → text ≡ chars m.source.text → patched (width_of unit) text edits ≡ Some (chars (layout indent (named_tree_of m) scan.lexemes)))
 
@@ -86,7 +88,7 @@ too_long indent text names m refusal is h long (inl longer) other =
 -- If no allocation failed, the result is edits or the refusal, by the contract of `format`.
 pub formats_or_not : (unit : Unit) (indent : Indent) (text : List ℕ) (names : Resolution) (m : ParsedModule) (r : Result (Vec Edit Global) EditRefusal) → m ≡ names.module_read
     → IsResolvedWellTypedModule (utf8 text) names → text ≡ chars names.module_read.source.text
-    → ((scan : IsScan m.source) → IfOk r (λ edits. map edit_content edits.items ≡ map (edit_of (width_of unit) text) (changed_gaps m.source.text (all_gaps indent m.source.text (line_roles 0 (named_tree_of m)) scan.lexemes))))
+    → ((scan : IsScan m.source) → IfOk r (λ edits. map range_and_text edits.items ≡ map (edit_at_cut unit text) (changed_gaps m.source.text (all_gaps indent m.source.text (line_roles 0 (named_tree_of m)) scan.lexemes))))
     → ((scan : IsScan m.source) → IfOk r (λ edits. length (layout indent (named_tree_of m) scan.lexemes) ≤ max_text))
     → ((scan : IsScan m.source) → text ≡ chars m.source.text → IfOk r (λ edits. patched (width_of unit) text edits.items ≡ Some (chars (layout indent (named_tree_of m) scan.lexemes))))
     → ((scan : IsScan m.source) → IsErrOf r TooLong → max_text < length (layout indent (named_tree_of m) scan.lexemes))

@@ -17,7 +17,7 @@ use Rattle.ob0_edits_tokens.specs.Changed.{changes_at, changed_words, words_of}
 use Rattle.ob0_edits_tokens.specs.Ranges.{range_of}
 use Rattle.ob0_edits_tokens.specs.Removed.{MayBeConstantDeclaration, span_of_tokens, changes_with_removal}
 use Rattle.ob0_edits_tokens.specs.Replaced.{AreIdentifierIndexes, LeavesWords, replacement_at_token, range_and_text}
-use Rattle.ob0_edits_tokens.proofs.MadeWithout.{leaves_words_without}
+use Rattle.ob0_edits_tokens.proofs.Made.{leaves_words_without}
 use Rattle.ob0_scope_table.specs.Resolution.{Resolution}
 use Rattle.ob0_scope.specs.declared.naming.Named as named
 use Rattle.ob0_scope.specs.NamesAtPlaces.{name_at_offset}
@@ -82,7 +82,7 @@ module _ (unit : Unit) (text : List ℕ) (r : Resolution) (module_in : IsResolve
   all_leave short =
       let held_so = held unit text r module_in in
       subst (λ t. LeavesWords unit t all_edits all_words) (sym held_so)
-      (leaves_words_without unit s module_in.scan.scan (value_text c.value) (value_words c.value) w.replaces w.utf8 c.first c.last declaration places are_names all_edits
+      (leaves_words_without s module_in.scan.scan (value_text c.value) w.utf8 unit (value_words c.value) w.replaces c.first c.last places declaration are_names all_edits
       (subst (λ t. map range_and_text all_edits ≡ (range_of (width_of unit) t (span_of_tokens s.tokens c.first c.last), []) ∷ map (replacement_at_token unit t s.tokens (value_text c.value)) places) held_so all_are) short)
 
   pub all_made : length (text_after_inlining r.module_read c) ≤ max_text → nesting (tree_inlined_everywhere r.module_read c) ≤ 100 → Made r c unit text all_edits

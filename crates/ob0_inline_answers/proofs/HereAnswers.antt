@@ -105,7 +105,7 @@ module _ (unit : Unit) (text : List ℕ) (r : Resolution) (module_in : IsResolve
   here_leave short =
       let held_so = held unit text r module_in in
       subst (λ t. LeavesWords unit t here_edits here_words) (sym held_so)
-      (leaves_words unit s module_in.scan.scan (value_text u.value) (value_words u.value) w.replaces w.utf8 (u.token ∷ []) (are_names r module_in.well_typed.resolved u use_so) here_edits
+      (leaves_words s module_in.scan.scan (value_text u.value) w.utf8 unit (value_words u.value) w.replaces (u.token ∷ []) (are_names r module_in.well_typed.resolved u use_so) here_edits
       (subst (λ t. map range_and_text here_edits ≡ map (replacement_at_token unit t s.tokens (value_text u.value)) (u.token ∷ [])) held_so here_are) short)
 
   pub here_made : length (text_after_replacement s (u.token ∷ []) (value_text u.value)) ≤ max_text → nesting (tree_inlined_here r.module_read u) ≤ 100 → Made r u unit text here_edits

@@ -6,6 +6,7 @@ use Rattle.std.proofs.Common.{◌≡◌, ℕ, ◌+◌, ◌-◌, ◌*◌, ◌<◌
 use Rattle.std.proofs.Math.Seq.{take-append-add}
 use Rattle.std.proofs.lemmas.Bool.Decides.{nat_tests}
 use Rattle.std.proofs.lemmas.List.{map-append}
+use Rattle.std.proofs.lemmas.Str.{IsCharBoundary-start}
 use Rattle.std.specs.Prelude.{nat_lt, if◌then◌else◌, ◌==◌}
 use Rattle.std.proofs.Math.Bool.{or-false}
 use Rattle.ob0_text.proofs.StableSort.{first_same}
@@ -30,7 +31,6 @@ use Rattle.ob0_layout.specs.Cuts.{changed_sites, gap_before, gap_cut, last_gap, 
 use Rattle.ob0_layout.specs.Gaps.{all_gaps, changed_gaps, gaps_of_lexemes, gaps_after, is_changed}
 use Rattle.ob0_layout.specs.Layout.{LexemeWithRole, lexemes_with_roles, next_line_level, next_role, has_break, comment_role, gap_text_between, indentation}
 use Rattle.ob0_layout.proofs.Apart.{IsSolid}
-use Rattle.ob0_layout.proofs.InText.{from_start}
 
 break_append : (xs ys : List ℕ) → has_break (xs ++ ys) ≡ (has_break xs || has_break ys)
 break_append [] ys = refl
@@ -229,7 +229,8 @@ module _ (indent : Indent) (text : List ℕ) where
       → Passing (all_gaps indent text ss scan.lexemes) left comments ss None 0 0 out
   passing_at_start s scan ss left comments out text_is left_is comments_is out_is = record {
     rest = scan.lexemes;
-    index_terminals_from = subst (λ t. LexemesFrom t 0 scan.lexemes []) (sym text_is) (from_start s scan);
+    index_terminals_from = subst (λ t. LexemesFrom t 0 scan.lexemes []) (sym text_is)
+        (record { utf8 = scan.utf8; place = IsCharBoundary-start s.text scan.utf8; each = scan.lexed.each; rest = sym (append-nil (text_of_lexemes scan.lexemes) ∙ scan.lexed.whole) });
     left_is = left_is ∙ scan.tokens;
     comments_is = comments_is ∙ scan.comments;
     same = λ i. map (gap_cut indent) (out_is i) ++ changed_gaps text (at_start (lexemes_with_roles 0 0 true ss scan.lexemes) i);

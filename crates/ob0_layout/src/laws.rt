@@ -12,8 +12,9 @@ ghost use Rattle.ob0_text.specs.Patches.{Cut, text_with_cuts};
 ghost use Rattle.ob0_text.specs.declared.edits.Indent.{Indent};
 ghost use Rattle.ob0_tree.specs.Tree.{Tree, module_text};
 ghost use Rattle.ob0_tree.specs.Module.{ModuleOf};
+ghost use Rattle.ob0_edits_tokens.specs.ByteCuts.{length_with_cuts};
 ghost use Rattle.ob0_layout.specs.Layout.{without_white_space, formatted_lexemes, layout};
-ghost use Rattle.ob0_layout.specs.Gaps.{CutsWhiteSpace, all_gaps, changed_gaps, formatted_len_from};
+ghost use Rattle.ob0_layout.specs.Gaps.{CutsWhiteSpace, all_gaps, changed_gaps};
 ghost use Rattle.ob0_layout.specs.LineRoles.{line_roles};
 
 /// Proves two facts: scanning a formatted text gives `formatted_lexemes`, and formatting changes no
@@ -45,7 +46,7 @@ pub fn formatting_is_idempotent()
 {}
 
 /// Proves three facts: replacing the gaps that formatting changes gives the formatted text, the
-/// formatted text is UTF-8, and `formatted_len_from` computes the length of the formatted text in
+/// formatted text is UTF-8, and `length_with_cuts` computes the length of the formatted text in
 /// bytes.
 pub fn gaps_give_formatted_text()
     ensures utf8 { (indent : Indent) (s : TextWithTokens) (scan : IsScan s)
@@ -58,7 +59,7 @@ pub fn gaps_give_formatted_text()
         ≡ layout indent tree scan.lexemes }
     ensures length { (indent : Indent) (s : TextWithTokens) (scan : IsScan s)
         (tree : Tree (List ℕ) module_text)
-        → formatted_len_from (length s.text) 0
+        → length_with_cuts (length s.text) 0
         (all_gaps indent s.text (line_roles 0 tree) scan.lexemes)
         ≡ length (layout indent tree scan.lexemes) }
 {}
