@@ -17,5 +17,5 @@ loop-token_index-preserved c =
     let here = ap (λ ps. length_with_cuts (length s.text) c.loop-token_index.end (map (replacement_cut s.tokens c.args.new.now) ps)) (drop_more c.args.token_indexes.now i 0 c.loop-token_index-test.true) in
     record {
       short = omega (arith, c.if-length-gt-MAX_TEXT.false);
-      counted = omega (arith, c.loop-token_index.invariant.counted, here, ap (λ (x : Span). x.start) span, ap (λ (x : Span). length_with_cuts (length s.text) x.end cuts) span, c.saturating_sub.ensures, c.len.ensures);
+      counted = omega (arith, c.loop-token_index.invariant.counted, here, ap (λ (x : Span). x.start) span, ap (λ (x : Span). length_with_cuts (length s.text) x.end cuts) span, c.saturating_sub.ensures);
     }

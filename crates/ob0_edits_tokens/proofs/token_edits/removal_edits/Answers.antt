@@ -18,8 +18,8 @@ make_span first last = record { start = first.start; end = last.end }
 pub returns-then-is_too_long-clause-too_long : goal.returns-then-is_too_long-clause-too_long
 returns-then-is_too_long-clause-too_long g c = λ _.
     let s = c.args.tokens.now in
-    let first = c.span_at.ensures ∙ ap (λ (ts : List Token). span_at ts c.args.first) c.tokens.ensures in
-    let last = c.span_at-2.ensures ∙ ap (λ (ts : List Token). span_at ts c.args.last) c.tokens-2.ensures in
+    let first = c.span_at-start.ensures ∙ ap (λ (ts : List Token). span_at ts c.args.first) c.tokens.ensures in
+    let last = c.span_at-end.ensures ∙ ap (λ (ts : List Token). span_at ts c.args.last) c.tokens-2.ensures in
     subst (λ n. max_text < n)
     ((λ i. (first i).start + length_with_cuts (length s.text) (last i).end (map (replacement_cut s.tokens c.args.new.now) c.args.token_indexes.now))
     ∙ length_after_removal s c.text-text.ensures.scan c.args.new.now c.utf8.new c.args.first c.args.last c.args.token_indexes.now c.requires.declaration c.requires.names)
@@ -30,8 +30,8 @@ returns-clause-edits g c =
     let s = c.args.tokens.now in
     let content = g.T.TextStore.content c.args.store.now in
     let unit = g.T.TextStore.unit_of c.args.store.now in
-    let first = c.span_at.ensures ∙ ap (λ (ts : List Token). span_at ts c.args.first) c.tokens.ensures in
-    let last = c.span_at-2.ensures ∙ ap (λ (ts : List Token). span_at ts c.args.last) c.tokens-2.ensures in
+    let first = c.span_at-start.ensures ∙ ap (λ (ts : List Token). span_at ts c.args.first) c.tokens.ensures in
+    let last = c.span_at-end.ensures ∙ ap (λ (ts : List Token). span_at ts c.args.last) c.tokens-2.ensures in
     let range : c.range_of.result ≡ range_of (width_of unit) content (span_of_tokens s.tokens c.args.first c.args.last) =
     c.range_of.ensures ∙ (λ i. range_of (width_of unit) content (make_span (first i) (last i))) in
     let pushed : map range_and_text c.push.new.self.items ≡ (range_of (width_of unit) content (span_of_tokens s.tokens c.args.first c.args.last), []) ∷ [] =
@@ -42,8 +42,8 @@ returns-clause-edits g c =
 pub returns-clause-short : goal.returns-clause-short
 returns-clause-short g c =
     let s = c.args.tokens.now in
-    let first = c.span_at.ensures ∙ ap (λ (ts : List Token). span_at ts c.args.first) c.tokens.ensures in
-    let last = c.span_at-2.ensures ∙ ap (λ (ts : List Token). span_at ts c.args.last) c.tokens-2.ensures in
+    let first = c.span_at-start.ensures ∙ ap (λ (ts : List Token). span_at ts c.args.first) c.tokens.ensures in
+    let last = c.span_at-end.ensures ∙ ap (λ (ts : List Token). span_at ts c.args.last) c.tokens-2.ensures in
     subst (λ n. n ≤ max_text)
     ((λ i. (first i).start + length_with_cuts (length s.text) (last i).end (map (replacement_cut s.tokens c.args.new.now) c.args.token_indexes.now))
     ∙ length_after_removal s c.text-text.ensures.scan c.args.new.now c.utf8.new c.args.first c.args.last c.args.token_indexes.now c.requires.declaration c.requires.names)
