@@ -1,4 +1,4 @@
-use Rattle.std.proofs.Common.{◌≡◌, ◌+◌, ◌++◌, ◌∷◌, [], suc, ◌<◌, ◌≤◌, ◌∙◌, List, map, length, subst, sym, ap}
+use Rattle.std.proofs.Common.{◌≡◌, ◌+◌, ◌++◌, ◌∷◌, [], ◌<◌, ◌≤◌, ◌∙◌, List, map, length, subst, sym, ap}
 use Rattle.std.proofs.lemmas.Bool.{ltb-false, ltb-true}
 use Rattle.ob0_scan.specs.TextWithTokens.{max_text}
 use Rattle.ob0_scan.specs.declared.lexeme.Span.{Span}
@@ -7,7 +7,7 @@ use Rattle.ob0_text.specs.Units.{width_of}
 use Rattle.ob0_edits_tokens.specs.ByteCuts.{length_with_cuts}
 use Rattle.ob0_edits_tokens.specs.Changed.{words_of, changed_words, changes_at}
 use Rattle.ob0_edits_tokens.specs.Ranges.{range_of}
-use Rattle.ob0_edits_tokens.specs.Removed.{changes_with_removal, span_of_tokens, text_after_removal}
+use Rattle.ob0_edits_tokens.specs.Removed.{changes_with_removal, span_of_tokens}
 use Rattle.ob0_edits_tokens.specs.Replaced.{span_at, replacement_cut, range_and_text, replacement_at_token, LeavesWords}
 use Rattle.ob0_edits_tokens.proofs.Made.{leaves_words_without, length_after_removal}
 use Rattle.ob0_edits_tokens.proofs.token_edits.removal_edits.Goals as goal
