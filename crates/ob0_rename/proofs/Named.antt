@@ -1,5 +1,5 @@
 -- Proves that the places of names are identifiers in ascending order.
-use Rattle.std.proofs.Common.{◌≡◌, ℕ, suc, ◌+◌, ◌==◌, ◌||◌, Result, Ok, Err, Vec, List, [], ◌∷◌, length, refl, ap, add-one, subst}
+use Rattle.std.proofs.Common.{◌≡◌, ℕ, ◌+◌, ◌==◌, ◌||◌, Result, Ok, Err, Vec, List, [], ◌∷◌, length, refl, ap, add-one, subst}
 use Rattle.std.specs.Prelude.{IfOk}
 use Rattle.std.specs.declared.alloc.Global.{Global}
 use Rattle.ob0_scan.specs.declared.lexeme.Token.{Token}

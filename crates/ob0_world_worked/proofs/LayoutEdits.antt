@@ -1,5 +1,5 @@
 -- Edits for the gaps that a layout changes, and the text that they leave.
-use Rattle.std.proofs.Common.{◌≡◌, ◌∙◌, ◌<◌, ◌≤◌, ℕ, zero, suc, true, List, [], ◌∷◌, Some, map, length, refl, ap, arith}
+use Rattle.std.proofs.Common.{◌≡◌, ◌∙◌, ◌≤◌, ℕ, List, [], ◌∷◌, Some, map, length, refl, ap, arith}
 use Rattle.std.specs.Str.{chars}
 use Rattle.ob0_scan.specs.TextWithTokens.{IsScan, TextWithTokens}
 use Rattle.ob0_text.specs.declared.edits.Edit.{Edit}
