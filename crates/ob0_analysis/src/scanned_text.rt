@@ -251,8 +251,7 @@ impl ScannedText {
         let tokens = rescan.tokens;
         let last = LastModule::keep_optional_across_change(last, same);
         if !same_kinds {
-            let kept = kept.relocate(alloc, same)?;
-            return ScannedText::parse_tokens(alloc, tokens, kept, last);
+            return ScannedText::parse_tokens(alloc, tokens, kept.relocate(same), last);
         }
         Ok(ScannedText {
             parse_outcome: ParseOutcome::NoTree(UnparsableText {
@@ -360,8 +359,8 @@ impl ScannedText {
         ensures { IfOk result (λ r. r ≡ tokens.text) }
     {
         let last = LastModule::keep_module(&tokens, &tree, bindings, types, same);
-        let kept = KeptTrees::from_tree(alloc, tree).relocate(alloc, same)?;
-        ScannedText::parse_tokens(alloc, tokens, kept, last)
+        let kept = KeptTrees::from_tree(alloc, tree)?;
+        ScannedText::parse_tokens(alloc, tokens, kept.relocate(same), last)
     }
 
     /// Analyses a text that has the same tree as the previous text. If the identifiers have the

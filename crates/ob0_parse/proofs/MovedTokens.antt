@@ -33,15 +33,14 @@ lexemes_moved by i j (k ∷ ks) low same high =
     ap (λ l. l ∷ map (mapped_terminal (moved_leaf by) (moved_leaf by)) (index_terminals_of_kinds (i + 1) ks)) (lexeme_moved by i j k first)
     ∙ ap (λ ls. index_terminal j k ∷ ls) (lexemes_moved by (i + 1) (j + 1) ks (omega (arith, low)) (omega (arith, same)) (omega (arith, high)))
 
--- If the leaves of a tree are moved as far as its tokens, the tree is at its place with its leaves
--- in place.
-pub moved_tree_fits : {s : Sort} (ts : List Token) (from at next : ℕ) (t u : Tree ℕ s) (by : LeafMove) → by.from ≡ from → by.to ≡ at → next ≤ most → u ≡ moved_tree by t → HasTokensAt ts from at next t → IsInPlace ts at next u
-moved_tree_fits ts from at next t u by first to inside is p =
-    let ks : List TokenKind = slice_range (kinds ts) at next in
-    let count : at + length ks ≡ next = omega (arith, p.forward, count_slice ts at next (omega (arith, p.forward)) p.within) in
+-- If the leaves of a tree are moved as far as its tokens, the tree is in place.
+pub moved_tree_fits : {s : Sort} (ts : List Token) (next : ℕ) (t u : Tree ℕ s) (by : LeafMove) → next ≤ most → u ≡ moved_tree by t → HasTokensAt ts by.from by.to next t → IsInPlace ts by.to next u
+moved_tree_fits ts next t u by inside is p =
+    let ks : List TokenKind = slice_range (kinds ts) by.to next in
+    let count : by.to + length ks ≡ next = omega (arith, p.forward, count_slice ts by.to next (omega (arith, p.forward)) p.within) in
     record {
       spelled = ap spell is ∙ spell_mapped (moved_leaf by) (moved_leaf by) t ∙ ap (map (mapped_terminal (moved_leaf by) (moved_leaf by))) p.spelled
-          ∙ lexemes_moved by from at ks (omega (arith, first)) (omega (arith, first, to)) (omega (arith, count, inside));
+          ∙ lexemes_moved by by.from by.to ks (omega arith) (omega arith) (omega (arith, count, inside));
       shallow = omega (arith, ap nesting is, nesting_mapped (moved_leaf by) (moved_leaf by) t, p.shallow);
       forward = p.forward;
       within = p.within;

@@ -3,4 +3,4 @@ use Rattle.ob0_analysis.proofs.scanned_text.ScannedText.reanalyse_changed_kinds.
 pub parse_tokens-requires-clause-kept : goal.parse_tokens-requires-clause-kept
 parse_tokens-requires-clause-kept c =
     let before = c.requires in
-    c.in_ok-kept.ensures before.old.tokens _ before.same (c.from_tree.ensures before.old before.parsed)
+    c.relocate.ensures before.old.tokens _ before.same (c.in_ok-kept.ensures before.old before.parsed)

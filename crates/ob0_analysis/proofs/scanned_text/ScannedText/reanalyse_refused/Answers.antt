@@ -3,4 +3,4 @@ use Rattle.ob0_analysis.proofs.scanned_text.ScannedText.reanalyse_refused.Goals 
 pub parse_tokens-requires-clause-kept : goal.parse_tokens-requires-clause-kept
 parse_tokens-requires-clause-kept c =
     let before = c.requires.before in
-    c.in_ok-kept.ensures before.old.tokens _ before.same before.kept
+    c.relocate.ensures before.old.tokens _ before.same before.kept

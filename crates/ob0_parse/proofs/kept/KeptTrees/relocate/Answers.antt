@@ -1,0 +1,15 @@
+use Rattle.std.proofs.Common.{of_calls, subst, sym}
+use Rattle.ob0_parse.specs.KeptTokens.{IsTreeInPlace}
+use Rattle.ob0_parse.proofs.Carried.{retained}
+use Rattle.ob0_parse.proofs.kept.KeptTrees.relocate.Goals as goal
+
+pub retain_mut-requires : goal.retain_mut-requires
+retain_mut-requires c = search of_calls parts 8
+
+pub returns : goal.returns
+returns c = λ old new h kept.
+    record {
+      trees = retained _ (IsTreeInPlace old) (IsTreeInPlace new)
+          (λ s x there t y r e p. subst (IsTreeInPlace new) r.leaves (r.called.met.0 e old new h (subst (IsTreeInPlace old) (sym r.shows) p)))
+          _ _ _ c.retain_mut.ensures.filtered kept.trees;
+    }
