@@ -69,10 +69,10 @@ kept_if P x xs false h others = others
 
 -- If a test that changes the items is true only of items that then have the property Q, the items
 -- that remain have this property.
-pub retained : {S : Type 0} (R : S → KeptTree → Bool → S → KeptTree → Type 0) (P Q : KeptTree → Type 0)
-    → ((s : S) (x : KeptTree) (there : Bool) (t : S) (y : KeptTree) → R s x there t y → there ≡ true → P x → Q y)
-    → (s : S) (xs ys : List KeptTree) → RetainsInTurn R s xs ys → All P xs → All Q ys
-retained R P Q f s [] ys h p = subst (All Q) (sym h) (All-nil Q)
-retained R P Q f s (x ∷ xs) ys h p =
-    let others = retained R P Q f h.1 xs h.4 h.5 (All-tail P x xs p) in
-    subst (All Q) (sym h.6) (kept_if Q h.2 h.4 h.0 (λ there. f s x h.0 h.1 h.2 h.3 there (All-head P x xs p)) others)
+pub retained : {S : Type 0} (R : S → KeptTree → Bool → S → KeptTree → Type 0) (P Q : KeptTree → Type 0) (s : S) (xs ys : List KeptTree) → RetainsInTurn R s xs ys
+    → ((x : KeptTree) (there : Bool) (t : S) (y : KeptTree) → R s x there t y → (there ≡ true → P x → Q y) × (t ≡ s)) → All P xs → All Q ys
+retained R P Q s [] ys h f p = subst (All Q) (sym h) (All-nil Q)
+retained R P Q s (x ∷ xs) ys h f p =
+    let step = f x h.0 h.1 h.2 h.3 in
+    let others = retained R P Q s xs h.4 (subst (λ t. RetainsInTurn R t xs h.4) step.1 h.5) f (All-tail P x xs p) in
+    subst (All Q) (sym h.6) (kept_if Q h.2 h.4 h.0 (λ there. step.0 there (All-head P x xs p)) others)

@@ -15,13 +15,13 @@ use Rattle.ob0_tree.specs.Lexeme.{Terminal, Name, WordOrSymbol, EndOfText}
 use Rattle.ob0_tree.specs.Module.{max_nesting}
 use Rattle.ob0_tree.specs.ParsedModule.{ParsedModule, IsParsed, tree_of, parsed_module}
 use Rattle.ob0_tree.specs.Places.{index_terminals, token_text_at, token_value_at}
-use Rattle.ob0_tree.specs.Tree.{procedure, body, item, items, maybe, Tree, declares_procedure, declares, forms_block, is_module, spell, nesting}
+use Rattle.ob0_tree.specs.Tree.{procedure, item, items, Tree, declares_procedure, declares, forms_block, is_module, spell, nesting}
 use Rattle.ob0_tree.specs.View.{items_of, procedure_of, constants_of, types_of, variables_of, body_of}
 use Rattle.ob0_tree.proofs.Mapped.{nesting_mapped}
 use Rattle.ob0_tree.proofs.Viewed.{block_parts}
 use Rattle.ob0_parse_descent.specs.Reading.{rest}
 use Rattle.ob0_parse_descent.proofs.Items.{Taking}
-use Rattle.ob0_parse.specs.KeptTokens.{HasTokensAt, IsInPlace, AreSpelled, EndsWithParts}
+use Rattle.ob0_parse.specs.KeptTokens.{IsInPlace, AreSpelled, EndsWithParts}
 use Rattle.ob0_parse.proofs.MovedParts.{block_between}
 use Rattle.ob0_parse.proofs.Keeping.{count_rest, kept_there, name_at, placed, rest_following}
 

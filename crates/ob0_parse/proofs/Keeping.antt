@@ -1,5 +1,5 @@
 -- Proves which tokens a tree has in its range, from the tokens that remain at the range's ends.
-use Rattle.std.proofs.Common.{◌≡◌, ℕ, zero, suc, ◌+◌, ◌-◌, ◌<◌, ◌≤◌, List, [], ◌∷◌, ◌++◌, take, drop, length, refl, sym, ◌∙◌, ap, subst, arith, append_assoc, length-append, length-drop, slice_range}
+use Rattle.std.proofs.Common.{◌≡◌, ℕ, zero, suc, ◌+◌, ◌-◌, ◌<◌, ◌≤◌, List, [], ◌∷◌, ◌++◌, take, drop, length, refl, sym, ◌∙◌, ap, arith, append_assoc, length-append, length-drop, slice_range}
 use Rattle.std.proofs.lemmas.List.{append_cancel_right, drop-drop, drop_at, length-map, length-take-le}
 use Rattle.ob0_scan.specs.declared.lexeme.TokenKind.{TokenKind}
 use Rattle.ob0_scan.specs.declared.lexeme.TokenKind.TheVariants as kind
@@ -15,7 +15,7 @@ use Rattle.ob0_tree.specs.Tree.{procedure, Sort, item, Tree, spell, nesting}
 use Rattle.ob0_tree.specs.View.{procedure_of, formals_of, block_of}
 use Rattle.ob0_tree.proofs.Viewed.{procedure_parts}
 use Rattle.ob0_parse_descent.specs.Reading.{rest}
-use Rattle.ob0_parse_descent.proofs.Unique.{head_of, tail_of}
+use Rattle.ob0_parse_descent.proofs.Unique.{head_of}
 use Rattle.ob0_parse.specs.KeptTokens.{index_terminals_of_kinds, IsInPlace}
 
 -- ---- tokens, given by their kinds

@@ -91,9 +91,12 @@ fn next_module_procedure(
     if !has_word_at(parser, at, ReservedWord::Procedure) {
         return Ok(None);
     }
-    match take_tree_at(parser, kept, at) {
-        Some((Construct::Procedure(procedure), next)) => Ok(Some((procedure, next))),
-        _ => parser.parse_procedure(at, MAX_NESTING),
+    let Some((construct, next)) = take_tree_at(parser, kept, at) else {
+        return parser.parse_procedure(at, MAX_NESTING);
+    };
+    match construct {
+        Construct::Procedure(procedure) => Ok(Some((procedure, next))),
+        Construct::Body(_statements) => parser.parse_procedure(at, MAX_NESTING),
     }
 }
 
@@ -110,9 +113,12 @@ fn parse_module_body(
     ensures read { Reads body_of max_nesting parser.now.tokens.now at result }
     ensures kept { All (IsTreeInPlace parser.now.tokens.now) kept.new.items }
 {
-    match take_tree_at(parser, kept, at) {
-        Some((Construct::Body(statements), next)) => Ok((Some(statements), next)),
-        _ => parser.parse_body(at, MAX_NESTING),
+    let Some((construct, next)) = take_tree_at(parser, kept, at) else {
+        return parser.parse_body(at, MAX_NESTING);
+    };
+    match construct {
+        Construct::Body(statements) => Ok((Some(statements), next)),
+        Construct::Procedure(_procedure) => parser.parse_body(at, MAX_NESTING),
     }
 }
 

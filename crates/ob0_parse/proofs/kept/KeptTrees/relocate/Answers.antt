@@ -7,9 +7,8 @@ pub retain_mut-requires : goal.retain_mut-requires
 retain_mut-requires c = search of_calls parts 8
 
 pub returns : goal.returns
-returns c = λ old new h kept.
-    record {
-      trees = retained _ (IsTreeInPlace old) (IsTreeInPlace new)
-          (λ s x there t y r e p. subst (IsTreeInPlace new) r.leaves (r.called.met.0 e old new h (subst (IsTreeInPlace old) (sym r.shows) p)))
-          _ _ _ c.retain_mut.ensures.filtered kept.trees;
-    }
+returns c = λ old new h kept. record {
+  trees = retained _ (IsTreeInPlace old) (IsTreeInPlace new) _ _ _ c.retain_mut.ensures.filtered
+      (λ x there t y r. let met = r.called.met in (λ e p. subst (IsTreeInPlace new) r.leaves (met.0 e old new h (subst (IsTreeInPlace old) (sym r.shows) p)), met.1))
+      kept.trees;
+}
