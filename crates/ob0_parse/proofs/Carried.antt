@@ -1,7 +1,7 @@
 -- Proves which kept trees are in place in another text.
-use Rattle.std.proofs.Common.{◌≡◌, ℕ, zero, suc, ◌+◌, ◌-◌, ◌<◌, ◌≤◌, Bool, true, false, cond, All, List, [], ◌∷◌, take, drop, length, refl, sym, ◌∙◌, ap, subst, arith, slice_range, length-drop}
+use Rattle.std.proofs.Common.{◌≡◌, ℕ, ◌+◌, ◌-◌, ◌<◌, ◌≤◌, Bool, true, false, cond, All, List, [], ◌∷◌, take, drop, length, refl, sym, ◌∙◌, ap, subst, arith, slice_range, length-drop}
 use Rattle.std.specs.List.Retain.{RetainsInTurn}
-use Rattle.std.proofs.lemmas.List.{drop-drop, length-map}
+use Rattle.std.proofs.lemmas.List.{drop-drop, drop-take, length-map, take-take}
 use Rattle.std.proofs.lemmas.List.Elements.{All-nil, All-cons, All-head, All-tail, All-weaker}
 use Rattle.ob0_scan.specs.declared.lexeme.Token.{Token}
 use Rattle.ob0_scan.specs.declared.tokens.SameParts.{SameParts}
@@ -12,17 +12,11 @@ use Rattle.ob0_parse.specs.KeptTokens.{index_terminals_of_kinds, HasTokensAt, Is
 use Rattle.ob0_parse.specs.declared.kept.KeptTree.{KeptTree}
 use Rattle.ob0_parse.specs.declared.kept.KeptTrees.{KeptTrees}
 
-within_front : {A : Type 0} (xs : List A) (at count front : ℕ) → at + count ≤ front → take count (drop at (take front xs)) ≡ take count (drop at xs)
-within_front xs zero zero front h = refl
-within_front [] zero (suc count) zero h = absurd (omega (arith, h))
-within_front [] zero (suc count) (suc front) h = refl
-within_front (x ∷ xs) zero (suc count) zero h = absurd (omega (arith, h))
-within_front (x ∷ xs) zero (suc count) (suc front) h = ap (λ l. x ∷ l) (within_front xs zero count front (omega (arith, h)))
-within_front [] (suc at) zero front h = refl
-within_front [] (suc at) (suc count) zero h = absurd (omega (arith, h))
-within_front [] (suc at) (suc count) (suc front) h = refl
-within_front (x ∷ xs) (suc at) count zero h = absurd (omega (arith, h))
-within_front (x ∷ xs) (suc at) count (suc front) h = within_front xs at count front (omega (arith, h))
+-- A part of a list up to `front` is a part of the list's first items.
+within_front : {A : Type 0} (xs : List A) (at next front : ℕ) → at ≤ next → next ≤ front → slice_range xs at next ≡ drop at (take next (take front xs))
+within_front xs at next front h inside =
+    let there : at + (next - at) ≡ next = omega (arith, h) in
+    sym (drop-take at (next - at) xs) ∙ ap (λ n. drop at (take n xs)) there ∙ ap (drop at) (sym (take-take next front xs inside))
 
 -- If other tokens have the same kinds as a tree's tokens, the tree is at those tokens as well.
 there_again : {s : Sort} (old new : List Token) (from at next here end : ℕ) (t : Tree ℕ s) → HasTokensAt old from at next t → slice_range (kinds old) at next ≡ slice_range (kinds new) here end → here < end → end ≤ length new → HasTokensAt new from here end t
@@ -35,9 +29,9 @@ there_again old new from at next here end t p same forward within = record {
 
 pub front_stays : {s : Sort} {old new : List Token} {same : SameParts} {from at next : ℕ} {t : Tree ℕ s} → HasSameKinds same old new → next ≤ same.prefix → HasTokensAt old from at next t → HasTokensAt new from at next t
 front_stays {old = old} {new = new} {same = same} {from = from} {at = at} {next = next} {t = t} h inside p =
-    let small : at + (next - at) ≤ same.prefix = omega (arith, p.forward, inside) in
+    let order : at ≤ next = omega (arith, p.forward) in
     let alike : slice_range (kinds old) at next ≡ slice_range (kinds new) at next =
-    sym (within_front (kinds old) at (next - at) same.prefix small) ∙ ap (λ ks. take (next - at) (drop at ks)) (sym h.front) ∙ within_front (kinds new) at (next - at) same.prefix small in
+    within_front (kinds old) at next same.prefix order inside ∙ ap (λ ks. drop at (take next ks)) (sym h.front) ∙ sym (within_front (kinds new) at next same.prefix order inside) in
     there_again old new from at next at next t p alike p.forward (omega (arith, inside, h.new_range, h.new_inside))
 
 count_kinds : (ts : List Token) (i : ℕ) → length (drop i (kinds ts)) ≡ length ts - i

@@ -90,9 +90,9 @@ parts_of m parsed =
     let first : rest ts at ≡ spell ps ++ (spell s ++ (end ++ last)) = rest_following ts 0 begun (spell ps ++ (spell s ++ (end ++ last))) whole in
     let middle : rest ts begin ≡ spell s ++ (end ++ last) = rest_following ts at (spell ps) (spell s ++ (end ++ last)) first in
     let ended : rest ts next ≡ end ++ last = rest_following ts begin (spell s) (end ++ last) middle in
-    let closing : m.closing ≡ next + 1 = name_at ts (next + 1) m.closing _ (rest_following ts next end last ended) in
     let four : length (rest ts next) ≡ 4 = ap (λ (w : List (Terminal ℕ)). length w) ended in
     let within : next ≤ length ts = omega (arith, count_rest ts next, four) in
+    let closing : m.closing ≡ next + 1 = name_at ts (next + 1) m.closing _ (omega (arith, count_rest ts next, four)) (rest_following ts next end last ended) in
     let named : nesting (tree_of m) ≤ max_nesting = subst (λ n. n ≤ max_nesting) (nesting_mapped (token_text_at m.source) (token_value_at m.source) (tree_of m)) parsed.module_of.shallow in
     let shallow : nesting (is_module m.name (forms_block (declares cs ds vs ps) s) m.closing) ≤ max_nesting = subst (λ t. nesting (is_module m.name t m.closing) ≤ max_nesting) (block_parts m.block) named in
     record {
