@@ -1,7 +1,7 @@
 -- If a text differs from the previous one in one body, the rest of its module is the same. The
 -- reason is that only one tree has this spelling.
 use Rattle.std.proofs.Common.{◌≡◌, ◌<◌, ◌≤◌, ◌+◌, ◌-◌, ℕ, zero, suc, Bool, true, false, nat_lt, if◌then◌else◌, Option, Some, List, [], ◌∷◌, ◌++◌, map, take, drop, length, slice_get, refl, sym, ap, ◌∙◌, subst, arith, append_assoc, length-append, ⊎_elim}
-use Rattle.std.proofs.lemmas.List.{drop-drop, drop_at, map-append, take-take, take_at}
+use Rattle.std.proofs.lemmas.List.{append_cancel_right, drop-drop, drop_at, map-append, take-take, take_at}
 use Rattle.std.proofs.lemmas.Bool.{le-ltb}
 use Rattle.ob0_scan.specs.declared.lexeme.TokenKind.{TokenKind}
 use Rattle.ob0_scan.specs.declared.lexeme.TokenKind.TheVariants as kind
@@ -21,6 +21,8 @@ use Rattle.ob0_tree.specs.declared.tree.Role.TheVariants as role
 use Rattle.ob0_tree.proofs.Leaves.{leaves_spelled, lexeme_names}
 use Rattle.ob0_tree.proofs.Mapped.{spell_mapped}
 use Rattle.ob0_parse_descent.proofs.Unique.{same}
+use Rattle.ob0_parse.specs.KeptTokens.{index_terminals_of_kinds}
+use Rattle.ob0_parse.proofs.TerminalsOfKinds.{drop_terminals, moved_terminals, name_index, take_terminals, terminals_of_tokens}
 use Rattle.ob0_scope.specs.NewBody.{WasBoundBeforeNewBody}
 use Rattle.ob0_scope_table.specs.Bindings.{resolution_with}
 use Rattle.ob0_scope_table.specs.BodyPlaces.{body_place_of_range, module_tree_of}
@@ -38,7 +40,6 @@ use Rattle.ob0_analysis.specs.LastModule.{IsEarlierModule, IsLastModuleOf}
 use Rattle.ob0_analysis.specs.NewBody.{IsSameBody}
 use Rattle.ob0_analysis.specs.declared.last_module.LastModule.{LastModule}
 use Rattle.ob0_analysis.specs.declared.fault_places.FaultPlaces.{FaultPlaces}
-use Rattle.ob0_analysis.proofs.Marked.{drop_marked, marked, moved_on, name_index, spelled_marked, take_marked}
 use Rattle.ob0_analysis.proofs.OneBody.{get_dropped, get_taken}
 use Rattle.ob0_analysis.proofs.NoBegin.{NoBegin, begin_mark, first_part, last_begin, no_begin}
 use Rattle.ob0_analysis.proofs.Ways.{around_body, way_less, way_moved}
@@ -97,18 +98,21 @@ up_to_last f b u n v z = ap (λ l. f ++ (b ∷ l)) (append_assoc u (n ∷ v) z) 
 up_to_end : {A : Type 0} (f x : List A) (e c : A) (z : List A) → f ++ (x ++ (e ∷ c ∷ z)) ≡ ((f ++ x) ++ (e ∷ [])) ++ (c ∷ z)
 up_to_end f x e c z = sym (append_assoc f x (e ∷ c ∷ z)) ∙ sym (append_assoc (f ++ x) (e ∷ []) (c ∷ z))
 
+spelled_by_kinds : (m : ParsedModule) → IsParsed m → spell (tree_of m) ≡ index_terminals_of_kinds 0 (kinds m.source.tokens)
+spelled_by_kinds m parsed = append_cancel_right (spell (tree_of m)) (index_terminals_of_kinds 0 (kinds m.source.tokens)) (EndOfText ∷ []) (parsed.places ∙ terminals_of_tokens 0 m.source.tokens)
+
 record Halves (m : ParsedModule) (path : PathToBody) (first closing : ℕ) : Type 0 where
   pub front : List (Terminal ℕ)
   pub inside : List (Terminal ℕ)
   pub back : List (Terminal ℕ)
   pub less : spell (module_without_body path (tree_of m)) ≡ front ++ back
-  pub until : take first (marked 0 (kinds m.source.tokens)) ≡ front ++ (begin_mark ∷ inside)
+  pub until : take first (index_terminals_of_kinds 0 (kinds m.source.tokens)) ≡ front ++ (begin_mark ∷ inside)
   pub plain : NoBegin inside
   pub shorter : length front < first
-  pub front_is : front ≡ take (length front) (marked 0 (kinds m.source.tokens))
+  pub front_is : front ≡ take (length front) (index_terminals_of_kinds 0 (kinds m.source.tokens))
   pub before : ℕ
   pub closes : before + 1 ≡ closing
-  pub back_is : back ≡ drop before (marked 0 (kinds m.source.tokens))
+  pub back_is : back ≡ drop before (index_terminals_of_kinds 0 (kinds m.source.tokens))
 
 halves : (m : ParsedModule) → IsParsed m → (path : PathToBody) (first closing : ℕ) → token_of_first_identifier (identifiers role.Declaring (body_at_path path (tree_of m))) ≡ Some first → closing_name_at_path path (tree_of m) ≡ closing → Halves m path first closing
 halves m parsed path first closing is_first is_closing =
@@ -118,10 +122,10 @@ halves m parsed path first closing is_first is_closing =
     let a = around_body path t o.written o.is in
     let end_mark : Terminal ℕ = WordOrSymbol (kind.ReservedWord reserved.End) in
     let back : List (Terminal ℕ) = end_mark ∷ Name c ∷ a.back in
-    let all : List (Terminal ℕ) = marked 0 (kinds m.source.tokens) in
+    let all : List (Terminal ℕ) = index_terminals_of_kinds 0 (kinds m.source.tokens) in
     let start : List (Terminal ℕ) = a.front ++ (begin_mark ∷ o.front) in
     let upper : List (Terminal ℕ) = a.front ++ spell (body_at_path path t) in
-    let whole : all ≡ a.front ++ (spell (body_at_path path t) ++ back) = sym (spelled_marked m parsed) ∙ a.whole_is in
+    let whole : all ≡ a.front ++ (spell (body_at_path path t) ++ back) = sym (spelled_by_kinds m parsed) ∙ a.whole_is in
     let at_first : all ≡ start ++ (Name first ∷ (o.back ++ back)) =
     whole ∙ (ap (λ l. a.front ++ (l ++ back)) o.spelled ∙ up_to_last a.front begin_mark o.front (Name first) o.back back) in
     let at_closing : all ≡ (upper ++ (end_mark ∷ [])) ++ (Name c ∷ a.back) = whole ∙ up_to_end a.front (spell (body_at_path path t)) end_mark (Name c) a.back in
@@ -178,24 +182,24 @@ module _ (old new : ParsedModule) (s : SameParts) (tokens : HasSameKinds s old.s
       let same_take : take first ks ≡ take first js =
       sym (take-take first s.prefix ks (omega (arith, front_side))) ∙ (ap (take first) (sym tokens.front) ∙ take-take first s.prefix js (omega (arith, front_side))) in
       let same_start : was.front ++ (begin_mark ∷ was.inside) ≡ is.front ++ (begin_mark ∷ is.inside) =
-      sym was.until ∙ (take_marked first 0 ks ∙ (ap (marked 0) same_take ∙ (sym (take_marked first 0 js) ∙ is.until))) in
+      sym was.until ∙ (take_terminals first 0 ks ∙ (ap (index_terminals_of_kinds 0) same_take ∙ (sym (take_terminals first 0 js) ∙ is.until))) in
       let same_front : was.front ≡ is.front = last_begin was.front was.inside is.front is.inside was.plain is.plain same_start in
       let n : ℕ = length was.front in
-      let front_marked : was.front ≡ marked 0 (take n ks) = was.front_is ∙ take_marked n 0 ks in
+      let front_by_kinds : was.front ≡ index_terminals_of_kinds 0 (take n ks) = was.front_is ∙ take_terminals n 0 ks in
       let short : length (take n ks) ≤ n = take_short n ks in
       let stays : (d : ℕ) → d < length (take n ks) → moved_token_index s (0 + d) ≡ 0 + d = λ d less. let here : 0 + d < s.prefix = omega (arith, less, short, was.shorter, front_side) in moved_below s (0 + d) here in
       let front_moved : map r was.front ≡ is.front =
-      ap (map r) front_marked ∙ (moved_on (moved_token_index s) 0 0 (take n ks) stays ∙ (sym front_marked ∙ same_front)) in
+      ap (map r) front_by_kinds ∙ (moved_terminals (moved_token_index s) 0 0 (take n ks) stays ∙ (sym front_by_kinds ∙ same_front)) in
       let d : ℕ = was.before - s.old_suffix in
       let there : s.old_suffix + d ≡ was.before = omega (arith, was.closes, back_side) in
       let here : s.new_suffix + d ≡ is.before = omega (arith, was.closes, is.closes, back_side, same_closing) in
       let same_drop : drop was.before ks ≡ drop is.before js =
       ap (λ k. drop k ks) (sym there) ∙ (sym (drop-drop d s.old_suffix ks) ∙ (ap (drop d) (sym tokens.back) ∙ (drop-drop d s.new_suffix js ∙ ap (λ k. drop k js) here))) in
-      let back_marked : was.back ≡ marked was.before (drop was.before ks) = was.back_is ∙ drop_marked was.before 0 was.before ks (omega arith) in
+      let back_by_kinds : was.back ≡ index_terminals_of_kinds was.before (drop was.before ks) = was.back_is ∙ drop_terminals was.before 0 was.before ks (omega arith) in
       let goes : (e : ℕ) → e < length (drop was.before ks) → moved_token_index s (was.before + e) ≡ is.before + e =
       λ e less. let high : s.old_suffix ≤ was.before + e = omega (arith, there) in moved_above s (was.before + e) tokens.old_range high ∙ omega (arith, there, here) in
       let back_moved : map r was.back ≡ is.back =
-      ap (map r) back_marked ∙ (moved_on (moved_token_index s) was.before is.before (drop was.before ks) goes ∙ (ap (marked is.before) same_drop ∙ (sym (drop_marked is.before 0 is.before js (omega arith)) ∙ sym is.back_is))) in
+      ap (map r) back_by_kinds ∙ (moved_terminals (moved_token_index s) was.before is.before (drop was.before ks) goes ∙ (ap (index_terminals_of_kinds is.before) same_drop ∙ (sym (drop_terminals is.before 0 is.before js (omega arith)) ∙ sym is.back_is))) in
       let spelled : spell (module_without_body new_path (tree_of new)) ≡ spell (mapped_tree (moved_token_index s) (moved_token_index s) (module_without_body path (tree_of old))) =
       is.less
       ∙ (sym (ap (λ l. l ++ is.back) front_moved ∙ ap (λ l. is.front ++ l) refl)
