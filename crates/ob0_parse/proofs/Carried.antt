@@ -8,7 +8,7 @@ use Rattle.ob0_scan.specs.declared.tokens.SameParts.{SameParts}
 use Rattle.ob0_scan.specs.Reused.{kind_without_value, kinds}
 use Rattle.ob0_tree.specs.Tree.{Sort, Tree}
 use Rattle.ob0_scan.specs.SameKinds.{HasSameKinds}
-use Rattle.ob0_parse.specs.KeptTokens.{index_terminals_of_kinds, HasTokensAt, IsTreeInPlace, AreInPlace}
+use Rattle.ob0_parse.specs.KeptTokens.{index_terminals_of_kinds, HasTokensAt, IsKeptTreeInPlace, AreInPlace}
 use Rattle.ob0_parse.specs.declared.kept.KeptTree.{KeptTree}
 use Rattle.ob0_parse.specs.declared.kept.KeptTrees.{KeptTrees}
 
@@ -55,7 +55,7 @@ back_moves {old = old} {new = new} {same = same} {from = from} {at = at} {next =
 pub kept_stay : (old new : List Token) (k : KeptTrees) → kinds new ≡ kinds old → AreInPlace old k → AreInPlace new k
 kept_stay old new k same kept =
     let all : HasSameKinds (record { prefix = 0; old_suffix = 0; new_suffix = 0 }) old new = record { old_range = omega arith; new_range = omega arith; old_inside = omega arith; new_inside = omega arith; front = refl; back = same } in
-    record { trees = All-weaker (IsTreeInPlace old) (IsTreeInPlace new) (λ t p. back_moves all (omega arith, refl) (omega arith, refl) p) k.trees.items kept.trees }
+    record { trees = All-weaker (IsKeptTreeInPlace old) (IsKeptTreeInPlace new) (λ t p. back_moves all (omega arith, refl) (omega arith, refl) p) k.trees.items kept.trees }
 
 kept_if : (P : KeptTree → Type 0) (x : KeptTree) (xs : List KeptTree) (there : Bool) → (there ≡ true → P x) → All P xs → All P (cond there (x ∷ xs) xs)
 kept_if P x xs true h others = All-cons P x xs (h refl) others

@@ -55,12 +55,12 @@ IsInPlace ts at next t = HasTokensAt ts at at next t
 
 -- States that the tokens `k.at..k.next` of `ts` have the kinds that the kept tree `k` spells. The
 -- leaves of the tree may still be the indexes of these tokens in an earlier text.
-abbrev pub IsTreeInPlace : List Token → KeptTree → Type 0
-IsTreeInPlace ts k = HasTokensAt ts k.from k.at k.next (tree_of_construct k.construct)
+abbrev pub IsKeptTreeInPlace : List Token → KeptTree → Type 0
+IsKeptTreeInPlace ts k = HasTokensAt ts k.from k.at k.next (tree_of_construct k.construct)
 
 -- States that every kept tree in `k` has its tokens in its range of `ts`.
 pub record AreInPlace (ts : List Token) (k : KeptTrees) : Type 0 where
-  pub trees : All (IsTreeInPlace ts) k.trees.items
+  pub trees : All (IsKeptTreeInPlace ts) k.trees.items
 
 -- States that the tokens `at..next` of `ts` are those of the procedures `ps`, one after another,
 -- and that no procedure is nested too deeply. The leaves of the procedures are the indexes of these
@@ -90,7 +90,7 @@ pub record EndsWithParts
 -- texts that share the tokens described by `same`.
 abbrev pub RelocatesTree : SameParts → KeptTree → KeptTree → Bool → Type 0
 RelocatesTree same a b there =
-    there ≡ true → (old new : List Token) → HasSameKinds same old new → IsTreeInPlace old a → IsTreeInPlace new b
+    there ≡ true → (old new : List Token) → HasSameKinds same old new → IsKeptTreeInPlace old a → IsKeptTreeInPlace new b
 
 -- States that the token with the index `next` can't continue a tree of the construct.
 abbrev pub EndsTree : List Token → Construct → ℕ → Type 0

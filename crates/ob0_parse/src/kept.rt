@@ -32,7 +32,7 @@ ghost use Rattle.ob0_scan.specs.declared.lexeme.Token.{Token};
 ghost use Rattle.ob0_scan.specs.declared.lexeme.TokenKind.TheVariants as kind;
 ghost use Rattle.ob0_tree.specs.ParsedModule.{IsParsed, parsed_module};
 ghost use Rattle.ob0_parse_descent.specs.Reading.{TellsIfTokenAt};
-ghost use Rattle.ob0_parse.specs.KeptTokens.{AreInPlace, AreSpelled, EndsTree, EndsWithParts, IsReusedAt, IsTreeInPlace, RelocatesTree};
+ghost use Rattle.ob0_parse.specs.KeptTokens.{AreInPlace, AreSpelled, EndsTree, EndsWithParts, IsReusedAt, IsKeptTreeInPlace, RelocatesTree};
 
 use crate::leaf_moves::{self, LeafMove};
 use ob0_parse_descent::Parser;
@@ -127,7 +127,7 @@ fn locate_body(
 ) -> Option<KeptTree>
     ensures { IfSome result (λ k. (ts : List Token)
         → EndsWithParts ts procedures.now.items body closing
-        → IsTreeInPlace ts k) }
+        → IsKeptTreeInPlace ts k) }
 {
     let statements = body?;
     let (last, _others) = procedures.split_last()?;
@@ -151,8 +151,8 @@ pub(crate) fn keep_procedures(
 ) -> Result<(), AllocError>
     ensures { (ts : List Token)
         → AreSpelled ts procedures.items
-        → All (IsTreeInPlace ts) kept.old.items
-        → All (IsTreeInPlace ts) kept.new.items }
+        → All (IsKeptTreeInPlace ts) kept.old.items
+        → All (IsKeptTreeInPlace ts) kept.new.items }
 {
     while let Some(procedure) = procedures.pop() {
         let at = procedure.name.saturating_sub(1);
@@ -178,9 +178,9 @@ pub(crate) fn take_tree_at(
     kept: &mut Vec<KeptTree>,
     at: usize,
 ) -> Option<(Construct, usize)>
-    requires { All (IsTreeInPlace parser.now.tokens.now) kept.old.items }
+    requires { All (IsKeptTreeInPlace parser.now.tokens.now) kept.old.items }
     ensures taken { IfSome result (IsReusedAt parser.now.tokens.now at) }
-    ensures kept { All (IsTreeInPlace parser.now.tokens.now) kept.new.items }
+    ensures kept { All (IsKeptTreeInPlace parser.now.tokens.now) kept.new.items }
 {
     while let Some(tree) = kept.pop() {
         if tree.is_reusable_at(parser, at) {
@@ -235,7 +235,7 @@ impl KeptTree {
     /// tree and the index of the token after it.
     fn move_leaves(self) -> (Construct, usize)
         ensures { (ts : List Token)
-            → IsTreeInPlace ts self
+            → IsKeptTreeInPlace ts self
             → EndsTree ts self.construct self.next
             → IsReusedAt ts self.at result }
     {

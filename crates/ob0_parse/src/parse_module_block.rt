@@ -5,7 +5,7 @@ ghost use Rattle.std.specs.Prelude.{◌≡◌, ◌≤◌, All, length};
 ghost use Rattle.ob0_tree.specs.View.{block_of, body_of, procedure_of};
 ghost use Rattle.ob0_tree.specs.Module.{max_nesting};
 ghost use Rattle.ob0_parse_descent.specs.Reading.{Reads, ReadsItem};
-ghost use Rattle.ob0_parse.specs.KeptTokens.{AreSpelled, IsTreeInPlace};
+ghost use Rattle.ob0_parse.specs.KeptTokens.{AreSpelled, IsKeptTreeInPlace};
 ghost use Rattle.ob0_parse.specs.ModuleBlock.{block_with_procedures, ReadsModule, ReadsModuleProcedures};
 
 use crate::kept::{has_word_at, take_tree_at};
@@ -28,11 +28,11 @@ fn parse_module_block(
     procedures: &mut Vec<Procedure>,
 ) -> ConstructResult<ModuleBlockParts>
     requires at { at ≤ length parser.now.tokens.now }
-    requires kept { All (IsTreeInPlace parser.now.tokens.now) kept.old.items }
+    requires kept { All (IsKeptTreeInPlace parser.now.tokens.now) kept.old.items }
     requires procedures { AreSpelled parser.now.tokens.now procedures.old.items }
     ensures read { Reads (block_with_procedures procedures.new.items) max_nesting parser.now.tokens.now
         at result }
-    ensures kept { All (IsTreeInPlace parser.now.tokens.now) kept.new.items }
+    ensures kept { All (IsKeptTreeInPlace parser.now.tokens.now) kept.new.items }
     ensures procedures { AreSpelled parser.now.tokens.now procedures.new.items }
 {
     let (constants, next) = parser.parse_constants(at, MAX_NESTING)?;
@@ -61,9 +61,9 @@ fn parse_module_procedures(
     procedures: &mut Vec<Procedure>,
 ) -> Result<usize, ParseRefusal>
     requires at { at ≤ length parser.now.tokens.now }
-    requires kept { All (IsTreeInPlace parser.now.tokens.now) kept.old.items }
+    requires kept { All (IsKeptTreeInPlace parser.now.tokens.now) kept.old.items }
     ensures read { ReadsModuleProcedures procedures.new.items parser.now.tokens.now at result }
-    ensures kept { All (IsTreeInPlace parser.now.tokens.now) kept.new.items }
+    ensures kept { All (IsKeptTreeInPlace parser.now.tokens.now) kept.new.items }
     ensures procedures { AreSpelled parser.now.tokens.now procedures.new.items }
 {
     procedures.clear();
@@ -84,9 +84,9 @@ fn next_module_procedure(
     kept: &mut Vec<KeptTree>,
 ) -> ItemResult<Procedure>
     requires at { at ≤ length parser.now.tokens.now }
-    requires kept { All (IsTreeInPlace parser.now.tokens.now) kept.old.items }
+    requires kept { All (IsKeptTreeInPlace parser.now.tokens.now) kept.old.items }
     ensures read { ReadsItem procedure_of max_nesting parser.now.tokens.now at result }
-    ensures kept { All (IsTreeInPlace parser.now.tokens.now) kept.new.items }
+    ensures kept { All (IsKeptTreeInPlace parser.now.tokens.now) kept.new.items }
 {
     if !has_word_at(parser, at, ReservedWord::Procedure) {
         return Ok(None);
@@ -109,9 +109,9 @@ fn parse_module_body(
     kept: &mut Vec<KeptTree>,
 ) -> ConstructResult<Option<Vec<Statement>>>
     requires at { at ≤ length parser.now.tokens.now }
-    requires kept { All (IsTreeInPlace parser.now.tokens.now) kept.old.items }
+    requires kept { All (IsKeptTreeInPlace parser.now.tokens.now) kept.old.items }
     ensures read { Reads body_of max_nesting parser.now.tokens.now at result }
-    ensures kept { All (IsTreeInPlace parser.now.tokens.now) kept.new.items }
+    ensures kept { All (IsKeptTreeInPlace parser.now.tokens.now) kept.new.items }
 {
     let Some((construct, next)) = take_tree_at(parser, kept, at) else {
         return parser.parse_body(at, MAX_NESTING);
@@ -130,10 +130,10 @@ pub(crate) fn parse_module(
     kept: &mut Vec<KeptTree>,
     procedures: &mut Vec<Procedure>,
 ) -> Result<(usize, ModuleBlockParts, usize), ParseRefusal>
-    requires kept { All (IsTreeInPlace parser.now.tokens.now) kept.old.items }
+    requires kept { All (IsKeptTreeInPlace parser.now.tokens.now) kept.old.items }
     requires procedures { AreSpelled parser.now.tokens.now procedures.old.items }
     ensures read { ReadsModule procedures.new.items parser.now.tokens.now result }
-    ensures kept { All (IsTreeInPlace parser.now.tokens.now) kept.new.items }
+    ensures kept { All (IsKeptTreeInPlace parser.now.tokens.now) kept.new.items }
     ensures procedures { AreSpelled parser.now.tokens.now procedures.new.items }
 {
     let start = parser.expect_word(0, ReservedWord::Module)?;

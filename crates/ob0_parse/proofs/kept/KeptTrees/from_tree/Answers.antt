@@ -1,6 +1,6 @@
 use Rattle.std.proofs.Common.{[], refl}
 use Rattle.std.proofs.lemmas.List.Elements.{All-cons, All-nil}
-use Rattle.ob0_parse.specs.KeptTokens.{IsTreeInPlace}
+use Rattle.ob0_parse.specs.KeptTokens.{IsKeptTreeInPlace}
 use Rattle.ob0_parse.proofs.FromTree.{parts_taken}
 use Rattle.ob0_parse.proofs.kept.KeptTrees.from_tree.Goals.{in-Some+in_ok-push, in_default}
 use Rattle.ob0_parse.proofs.kept.KeptTrees.from_tree.Goals as goal
@@ -8,7 +8,7 @@ use Rattle.ob0_parse.proofs.kept.KeptTrees.from_tree.Goals as goal
 pub returns : goal.returns
 returns c = λ s parsed.
     let parts = parts_taken s c.args.tree parsed _ _ _ _ _ c.into_block-block.ensures c.take-statements.ensures.value refl c.into_procedures-procedures.ensures in
-    let P = IsTreeInPlace s.tokens in
+    let P = IsKeptTreeInPlace s.tokens in
     record {
       trees = c.in_ok-keep_procedures.ensures s.tokens parts.procedures
           (elim c.match-locate_body.branch [
