@@ -5,7 +5,7 @@ use crate::cases::{Case, first_wrong};
 use crate::documents::Act::{Close, Lose, Note, Open};
 use crate::documents::ExpectedState::{Closed, InStep, OutOfStep};
 use crate::text::{ASSIGNED, range_of};
-use ob0_text::{Change, Documents, Held, Lines, ReplacedBytes, TextStore, Unit, Whole};
+use ob0_text::{Change, Documents, Held, Lines, TextStore, Unit, Whole};
 use std::alloc::{AllocError, Global};
 use std::process::Abort;
 
@@ -15,10 +15,8 @@ type ChangeRow = ((u64, u64), (u64, u64), &'static str);
 /// An action on a document.
 enum Act {
     Open(i64, &'static str),
-    /// A notification with a version and changes, and the bytes that it is expected to replace:
-    /// their offset, the number of removed bytes and the number of added bytes. None if the text
-    /// isn't known.
-    Note(i64, &'static [ChangeRow], Option<(usize, usize, usize)>),
+    /// A notification with a version and changes.
+    Note(i64, &'static [ChangeRow]),
     Lose,
     /// The Bool says whether the document was open before it is closed.
     Close(bool),
@@ -49,11 +47,11 @@ struct DocumentCase(Unit, &'static [(Act, ExpectedState)]);
 static ROWS: &[DocumentCase] = rows![
     DocumentCase(Unit::Utf16, rows![
         Open(1, ASSIGNED) => InStep(1, ASSIGNED);
-        Note(2, TWO_CHANGES, Some((3, 9, 11))) => InStep(2, "(* !😀 *) yz := 1;");
+        Note(2, TWO_CHANGES) => InStep(2, "(* !😀 *) yz := 1;");
     ]);
     DocumentCase(Unit::Utf16, rows![
         Open(1, OPENED) => InStep(1, OPENED);
-        Note(2, THREE_CHANGES, Some((2, 1, 4))) => InStep(2, TEXT_AFTER_THREE_CHANGES);
+        Note(2, THREE_CHANGES) => InStep(2, TEXT_AFTER_THREE_CHANGES);
     ]);
     DocumentCase(Unit::Utf8, rows![
         Open(1, "a") => InStep(1, "a");
@@ -61,7 +59,7 @@ static ROWS: &[DocumentCase] = rows![
         Close(false) => Closed;
         Open(1, "a") => InStep(1, "a");
         Lose => OutOfStep;
-        Note(2, &[], None) => OutOfStep;
+        Note(2, &[]) => OutOfStep;
         Open(3, "b") => InStep(3, "b");
     ]);
 ];
@@ -95,15 +93,6 @@ fn has_state<T: TextStore>(documents: &Documents<T>, uri: &str, wanted: Expected
     }
 }
 
-/// Returns whether the replaced bytes (`found`) are the expected ones (`wanted`).
-fn are_expected_bytes(found: Option<ReplacedBytes>, wanted: Option<(usize, usize, usize)>) -> bool {
-    match (found, wanted) {
-        (Some(bytes), Some(wanted)) => (bytes.from, bytes.removed, bytes.added) == wanted,
-        (None, None) => true,
-        _ => false,
-    }
-}
-
 /// Performs an action, and returns whether its result is the expected one.
 fn perform_act<T: TextStore>(
     alloc: Global,
@@ -114,10 +103,9 @@ fn perform_act<T: TextStore>(
         Open(version, text) => {
             documents.did_open("u", *version, text)?;
         }
-        Note(version, rows, bytes) => {
+        Note(version, rows) => {
             let changes = changes_of(alloc, rows)?;
-            let found = documents.did_change("u", *version, changes.as_slice())?;
-            return Ok(are_expected_bytes(found, *bytes));
+            documents.did_change("u", *version, changes.as_slice())?;
         }
         Lose => documents.lose("u"),
         Close(was_open) => return Ok(documents.did_close("u") == *was_open),
@@ -182,7 +170,7 @@ fn open_with_retry(documents: &mut Documents<Lines>, uri: &str) -> bool {
 /// after a failure.
 fn changes(documents: &mut Documents<Lines>, uri: &str, note: &[Change]) -> bool {
     match documents.did_change(uri, 2, note) {
-        Ok(_bytes) => has_state(documents, uri, InStep(2, TEXT_AFTER_THREE_CHANGES)),
+        Ok(()) => has_state(documents, uri, InStep(2, TEXT_AFTER_THREE_CHANGES)),
         Err(AllocError) => has_state(documents, uri, OutOfStep),
     }
 }

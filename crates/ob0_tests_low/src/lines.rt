@@ -82,12 +82,11 @@ impl Stores {
     }
 
     /// Replaces the two units that begin at this line and column by a short text, in both stores.
-    /// Returns whether both stores have the same text and replaced the same bytes.
+    /// Returns whether both stores have the same text.
     fn change(&mut self, line: u64, column: u64) -> Result<bool, AllocError> {
         let range = range_of((line, column), (line, column.saturating_add(2)));
-        let bytes = self.lines.replace_at(range, "é-")?;
-        let others = self.whole.replace_at(range, "é-")?;
-        Ok(bytes == others && self.lines.as_str() == self.whole.as_str())
+        self.replace(range, "é-")?;
+        Ok(self.lines.as_str() == self.whole.as_str())
     }
 
     /// Changes each of the first three lines at these columns, one after another. Returns whether

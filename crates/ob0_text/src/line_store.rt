@@ -19,7 +19,6 @@ use crate::line_lookups::{
 };
 use crate::line_table::LineTable;
 use crate::position_types::{Position, Range, Unit};
-use crate::replaced_bytes::ReplacedBytes;
 use crate::stores::TextStore;
 use std::alloc::{AllocError, Global};
 use std::marker::Model;
@@ -102,7 +101,7 @@ impl TextStore for Lines {
         offsets_in(alloc, self.text.as_str(), &self.table, self.unit, positions)
     }
 
-    fn replace_at(&mut self, range: Range, text: &str) -> Result<ReplacedBytes, AllocError> {
+    fn replace(&mut self, range: Range, text: &str) -> Result<(), AllocError> {
         let found = range_offsets(
             self.text.as_str(),
             &self.table,
@@ -113,11 +112,7 @@ impl TextStore for Lines {
         let (from, to) = (found.start.min(found.end), found.start.max(found.end));
         self.table.replace(&mut self.text, from, to, text)?;
         self.counted_piece = found.counted_piece.piece_if_ends_before(from);
-        Ok(ReplacedBytes {
-            from,
-            removed: to - from,
-            added: text.len(),
-        })
+        Ok(())
     }
 
     fn as_str(&self) -> &str {

@@ -1,14 +1,12 @@
-use Rattle.std.proofs.Common.{◌≡◌, ◌++◌, ◌∙◌, append_assoc, length, take, drop, refl, subst, sym, ap, arith, string_bytes}
+use Rattle.std.proofs.Common.{◌≡◌, ◌++◌, ◌∙◌, append_assoc, take, drop, subst, sym, ap, string_bytes}
 use Rattle.ob0_text.specs.Texts.{offset_of}
 use Rattle.ob0_text.specs.Stretches.{IsPieceOfLine}
-use Rattle.std.specs.Prelude.{encode_utf8_all}
 use Rattle.std.specs.Str.{chars}
-use Rattle.std.proofs.lemmas.Str.{IsUtf8-string_bytes, encodes-chars}
+use Rattle.std.proofs.lemmas.Str.{IsUtf8-string_bytes}
 use Rattle.ob0_text.specs.Units.{width_of}
 use Rattle.ob0_text.specs.LineStarts.{TextInUnit}
-use Rattle.ob0_text.proofs.Hulls.{changed_there}
 use Rattle.ob0_text.proofs.Replacing.{from_border, to_border, replaced_is}
-use Rattle.ob0_text.proofs.line_store.LinesTextStore.replace_at.Goals as goal
+use Rattle.ob0_text.proofs.line_store.LinesTextStore.replace.Goals as goal
 
 pub replace-requires-clause-start : goal.replace-requires-clause-start
 replace-requires-clause-start c =
@@ -21,19 +19,6 @@ replace-requires-clause-end c =
 pub returns-clause-ok : goal.returns-clause-ok
 returns-clause-ok c =
     replaced_is (width_of c.args.self.now.unit) c.args.self.now.text (string_bytes c.self.inside.text) (IsUtf8-string_bytes c.self.inside.text) (ap (λ (v : TextInUnit). v.text) c.self.view_is) c.args.range c.range_offsets-found.result.start c.range_offsets-found.result.end c.min-from.result c.max-to.result (c.range_offsets-found.ensures.start ∙ ap (λ bs. offset_of (width_of c.self.inside.unit) (chars bs) c.args.range.start) c.as_str.ensures.value ∙ ap (λ (v : TextInUnit). offset_of (width_of v.unit) v.text c.args.range.start) c.self.view_is) (c.range_offsets-found.ensures.end ∙ ap (λ bs. offset_of (width_of c.self.inside.unit) (chars bs) c.args.range.end) c.as_str.ensures.value ∙ ap (λ (v : TextInUnit). offset_of (width_of v.unit) v.text c.args.range.end) c.self.view_is) c.min-from.ensures c.max-to.ensures c.args.text.now (string_bytes c.replace.new.text) c.utf8.text c.in_ok-replace.ensures.ok
-
-pub returns-clause-bytes : goal.returns-clause-bytes
-returns-clause-bytes c =
-    let bytes = string_bytes c.self.inside.text in
-    let left = string_bytes c.replace.new.text in
-    let u = IsUtf8-string_bytes c.self.inside.text in
-    let v = IsUtf8-string_bytes c.replace.new.text in
-    let border = to_border (width_of c.args.self.now.unit) c.args.self.now.text bytes u (ap (λ (v : TextInUnit). v.text) c.self.view_is) c.args.range c.range_offsets-found.result.start c.range_offsets-found.result.end c.min-from.result c.max-to.result (c.range_offsets-found.ensures.start ∙ ap (λ bs. offset_of (width_of c.self.inside.unit) (chars bs) c.args.range.start) c.as_str.ensures.value ∙ ap (λ (v : TextInUnit). offset_of (width_of v.unit) v.text c.args.range.start) c.self.view_is) (c.range_offsets-found.ensures.end ∙ ap (λ bs. offset_of (width_of c.self.inside.unit) (chars bs) c.args.range.end) c.as_str.ensures.value ∙ ap (λ (v : TextInUnit). offset_of (width_of v.unit) v.text c.args.range.end) c.self.view_is) c.min-from.ensures c.max-to.ensures in
-    changed_there c.args.self.now.text (chars left) bytes c.args.text.now _ c.max-to.result
-    (ap (λ (v : TextInUnit). encode_utf8_all v.text) (sym c.self.view_is) ∙ encodes-chars bytes u)
-    (encodes-chars left v ∙ c.in_ok-replace.ensures.ok)
-    (omega (arith, c.min-from.ensures, c.max-to.ensures)) border.0 refl refl
-    (omega (arith, c.self.inside.text.bytes.ok)) (omega (arith, ap length (encodes-chars left v), c.replace.new.text.bytes.ok))
 
 pub invariant_of-self : goal.invariant_of-self
 invariant_of-self c = record {
