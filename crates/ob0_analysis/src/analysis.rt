@@ -84,9 +84,9 @@ pub(crate) enum AnalysisResult {
 /// earlier results answers like one from scratch.
 pub struct Analysis {
     outcome: AnalysisResult,
-    /// The length, in bytes, of the longest earlier text whose lists may be reused in this
-    /// analysis, or 0 if there is none. Such a text had no lexical faults. Lists keep their
-    /// capacity, so the reused lists may have room for a text of that length.
+    /// The length, in bytes, of the longest text without lexical faults whose lists may be used in
+    /// this analysis: this text or an earlier one. It is 0 if there is none. Lists keep their
+    /// capacity, so these lists may have room for a text of that length.
     room: usize,
 }
 
@@ -123,7 +123,7 @@ impl Analysis {
                 let read = ScannedText::parse_tokens(alloc, tokens, KeptTrees::empty(alloc), None)?;
                 Ok(Analysis {
                     outcome: AnalysisResult::Read(read),
-                    room: 0,
+                    room: text.len(),
                 })
             }
             Err(refusal) => match refusal {
@@ -143,33 +143,10 @@ impl Analysis {
         ensures { IfOk result (λ a. a ≡ text.now) }
     {
         let Analysis { outcome, room } = self;
-        match outcome {
-            AnalysisResult::Unscannable(ill) => Analysis::analyse_after_lexical_faults(
-                alloc, ill, room, text,
-            ),
-            AnalysisResult::Read(read) => {
-                let room = read.text().len().max(room);
-                Analysis::analyse_after_scanned(alloc, read, room, text)
-            }
-        }
-    }
-
-    /// Analyses a changed text (`text`). The previous text had lexical faults (`ill`). Reuses the
-    /// analysis of the last text that had lexemes, if that analysis is kept. The lists of that
-    /// analysis have room for a text of `room` bytes.
-    fn analyse_after_lexical_faults(
-        alloc: Global,
-        ill: UnscannableText,
-        room: usize,
-        text: &str,
-    ) -> Result<Analysis, AllocError>
-        ensures { IfOk result (λ a. a ≡ text.now) }
-    {
-        let UnscannableText {
-            text: _,
-            faults: _,
-            last,
-        } = ill;
+        let last = match outcome {
+            AnalysisResult::Unscannable(ill) => ill.last,
+            AnalysisResult::Read(read) => Some(read),
+        };
         match last {
             None => Analysis::analyse_text(alloc, text),
             Some(last) => Analysis::analyse_after_scanned(alloc, last, room, text),
@@ -193,7 +170,7 @@ impl Analysis {
         match read.reanalyse(alloc, text) {
             Ok(read) => Ok(Analysis {
                 outcome: AnalysisResult::Read(read),
-                room,
+                room: room.max(text.len()),
             }),
             Err(refusal) => match refusal {
                 ReanalysisFailure::Faults(faults, last) => {

@@ -2,9 +2,7 @@
 //! the text's tokens, with its module or the parser's refusal.
 
 ghost use Rattle.std.specs.Prelude.{◌≡◌, [], true, IfErr, IfOk, IfSome, MatchOption, map};
-ghost use Rattle.ob0_scan.specs.Refused.{AreFaults, IsRightRescanRefusal};
-ghost use Rattle.ob0_scan.specs.Reused.{kinds, names_in, words_of_tokens};
-ghost use Rattle.ob0_scan.specs.SameKinds.{HasSameKinds, HasSameWords};
+ghost use Rattle.ob0_scan.specs.Refused.{AreFaults};
 ghost use Rattle.ob0_scan.specs.TextWithTokens.{IsScan, IsScanOf};
 ghost use Rattle.ob0_tree.specs.ParsedModule.{IsParsed, parsed_module};
 ghost use Rattle.ob0_scope_table.specs.Bindings.{resolution_with};
@@ -189,7 +187,12 @@ impl ScannedText {
             kept,
             last,
         } = ill;
-        match rescan_text(alloc, tokens, text) {
+        let Difference {
+            start,
+            removed,
+            added,
+        } = Difference::between(tokens.text(), text);
+        match rescan_in_place(alloc, tokens, text, start, removed, added) {
             Ok(changed) => Ok(ScannedText::reanalyse_refused(alloc, changed, refusal, kept, last)?),
             Err(unread) => Err(ScannedText::failure_after_refusal(
                 text, unread, refusal, kept, last,
@@ -275,9 +278,12 @@ impl ScannedText {
     {
         let (tokens, tree, bindings, types) = old.into_parts();
         let places = FaultPlaces::from_faults(alloc, &tokens, &bindings, &types)?;
-        // The proof needs the invariant of the tokens, which this call's contract states.
-        let _text = tokens.text();
-        match rescan_text(alloc, tokens, text) {
+        let Difference {
+            start,
+            removed,
+            added,
+        } = Difference::between(tokens.text(), text);
+        match rescan_in_place(alloc, tokens, text, start, removed, added) {
             Ok(changed) => Ok(ScannedText::reanalyse_module(
                 alloc, changed, tree, bindings, types, places,
             )?),
@@ -479,24 +485,4 @@ impl ScannedText {
             ParseOutcome::Module(parts) => diagnose_module(alloc, parts),
         }
     }
-}
-
-/// Scans the changed text `text`, and reuses the tokens of the old text (`old`) outside the change.
-/// If the changed text has lexical faults, the error has these faults and the old tokens.
-fn rescan_text(alloc: Global, old: Tokens, text: &str) -> Result<RescanInPlace, RescanRefusal>
-    ensures ok { IfOk result (λ r. IsScanOf text.now r.rescan.tokens) }
-    ensures same { IfOk result (λ r. HasSameKinds r.same old.tokens r.rescan.tokens.tokens) }
-    ensures written { IfOk result (λ r. HasSameWords r.same old r.rescan.tokens) }
-    ensures same_kinds { IfOk result
-        (λ r. r.same_kinds ≡ true → kinds r.rescan.tokens.tokens ≡ kinds old.tokens) }
-    ensures same_names { IfOk result
-        (λ r. r.same_names ≡ true → names_in r.rescan.tokens.text r.rescan.tokens.tokens
-        ≡ names_in old.text old.tokens) }
-    ensures same_words { IfOk result
-        (λ r. r.same_words ≡ true → words_of_tokens r.rescan.tokens.text r.rescan.tokens.tokens
-        ≡ words_of_tokens old.text old.tokens) }
-    ensures err { IfErr result (IsRightRescanRefusal old text.now) }
-{
-    let change = Difference::between(old.text(), text);
-    rescan_in_place(alloc, old, text, change.start, change.removed, change.added)
 }

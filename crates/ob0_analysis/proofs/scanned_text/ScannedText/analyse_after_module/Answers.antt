@@ -10,11 +10,11 @@ reanalyse_module-requires c = record {
     types_are = c.into_parts-tokens.ensures.types;
     places_are = c.in_ok-places.ensures;
   };
-  old_scan = c.text-text.ensures.scan;
+  old_scan = c.text.ensures.scan;
   new_scan = c.in-Ok.ensures.ok.scan;
   same = c.in-Ok.ensures.same;
   written = c.in-Ok.ensures.written;
-  same_kinds = c.in-Ok.ensures.same_kinds;
+  same_kinds = c.in-Ok.ensures.alike;
   same_names = c.in-Ok.ensures.same_names;
   same_words = c.in-Ok.ensures.same_words;
 }

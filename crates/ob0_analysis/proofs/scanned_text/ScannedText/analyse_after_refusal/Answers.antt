@@ -5,7 +5,7 @@ use Rattle.ob0_analysis.proofs.scanned_text.ScannedText.analyse_after_refusal.Go
 
 pub reanalyse_refused-requires-clause-same_kinds : goal.reanalyse_refused-requires-clause-same_kinds
 reanalyse_refused-requires-clause-same_kinds c =
-    λ same_kinds. (refusal_stays c.args.ill.tokens c.in-Ok.changed.rescan.tokens c.args.ill.refusal (c.in-Ok.ensures.same_kinds same_kinds) c.requires.0.0, c.requires.0.1)
+    λ same_kinds. (refusal_stays c.args.ill.tokens c.in-Ok.changed.rescan.tokens c.args.ill.refusal (c.in-Ok.ensures.alike same_kinds) c.requires.0.0, c.requires.0.1)
 
 pub reanalyse_refused-requires-clause-before : goal.reanalyse_refused-requires-clause-before
 reanalyse_refused-requires-clause-before c = record {
@@ -14,7 +14,7 @@ reanalyse_refused-requires-clause-before c = record {
   same = c.in-Ok.ensures.same;
   written = c.in-Ok.ensures.written;
   kept = c.requires.1;
-  same_kinds = λ same_kinds. kept_stay c.args.ill.tokens.tokens c.in-Ok.changed.rescan.tokens.tokens c.args.ill.kept (c.in-Ok.ensures.same_kinds same_kinds) c.requires.1;
+  same_kinds = λ same_kinds. kept_stay c.args.ill.tokens.tokens c.in-Ok.changed.rescan.tokens.tokens c.args.ill.kept (c.in-Ok.ensures.alike same_kinds) c.requires.1;
   was = c.requires.2;
 }
 
