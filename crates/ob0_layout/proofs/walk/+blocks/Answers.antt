@@ -1,10 +1,10 @@
-use Rattle.std.proofs.Common.{◌≡◌, ◌++◌, [], ◌∷◌, IfOk, sym, ap, ◌∙◌, subst}
+use Rattle.std.proofs.Common.{◌≡◌, ◌+◌, ◌++◌, [], ◌∷◌, IfOk, sym, ap, ◌∙◌, subst}
 use Rattle.ob0_tree.proofs.Viewed.{block_parts, procedure_made}
 use Rattle.ob0_tree.specs.declared.tree.Block.{out-Block}
 use Rattle.ob0_tree.specs.declared.tree.Procedure.{out-Procedure, roll-out-Procedure}
 use Rattle.ob0_tree.specs.View.{items_of, constants_of, types_of, variables_of, procedure_of, body_of, formals_of, block_of}
 use Rattle.ob0_layout.specs.declared.line_role.LineRole.TheVariants.{Begins, Plain}
-use Rattle.ob0_layout.specs.LineRoles.{line_roles, deeper_level}
+use Rattle.ob0_layout.specs.LineRoles.{line_roles}
 use Rattle.ob0_layout.proofs.Walks.{step, closing, walk_ends, block_shape, procedure_shape}
 use Rattle.ob0_layout.proofs.walk.+blocks.Goals as goal
 
@@ -29,10 +29,10 @@ pub add_procedure_roles-returns : goal.add_procedure_roles-returns
 add_procedure_roles-returns t c =
     let p = out-Procedure c.args.p.now in
     let start = c.args.out.now.items in
-    let k = deeper_level c.args.level in
+    let k = c.args.level + 1 in
     let formals = line_roles 0 (formals_of p.formals) in
     let inner = line_roles k (block_of p.block) in
-    let same = c.deeper_level-inner.ensures in
+    let same = c.in_ok-inner.ensures in
     let a = step start (Begins k ∷ []) (Plain ∷ []) (c.in_ok-add_line_start_role.ensures ∙ ap (λ j. start ++ (Begins j ∷ [])) same) c.in_ok-add_plain_role.ensures in
     let b = step start ((Begins k ∷ []) ++ (Plain ∷ [])) formals a c.in_ok-add_formal_roles.ensures in
     let d = step start (((Begins k ∷ []) ++ (Plain ∷ [])) ++ formals) (Plain ∷ []) b c.in_ok-add_plain_role-2.ensures in
