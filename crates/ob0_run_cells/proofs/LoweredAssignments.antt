@@ -16,7 +16,7 @@ use Rattle.ob0_run_cells.specs.LoweredStatements.{IsLoneDesignatorAt, ProgressRe
 use Rattle.ob0_run_cells.specs.Lowering.{NumberMeans, PlaceMeans, Slot, TruthMeans, HoldsValue, place_of_designator, value_of_expression}
 use Rattle.ob0_run_cells.proofs.Parts.{cells-size}
 use Rattle.ob0_run_cells.proofs.Places.{HoldsSlice, WritesPlace, places_are_slices, store-size, writing_places_writes_slices}
-use Rattle.ob0_run_cells.proofs.Represented.{alone-cells, moment, moment-shown, number-in, number-read, number-stored, place-in, put-represents, truth-in, truth-stored, use-place, use-represents}
+use Rattle.ob0_run_cells.proofs.Represented.{moment, moment-shown, number-in, number-read, number-stored, place-in, put-represents, truth-in, truth-stored, use-place, use-represents}
 
 pub standard-is : (typing : StoreTyping) (q : StandardProcedure) (a : Option (Object Place (List Mode))) → RunObjectAgrees typing (Some (a_standard q)) a → a ≡ Some (a_standard q)
 standard-is typing q (Some (a_standard p)) h = ap (λ q. Some (a_standard q)) (sym h)
@@ -89,8 +89,8 @@ module _ {N : Type 0} (checked : TypeMeanings N) (slots : N → Slot) (targets :
   unfolding execution.execute execute
   block-assigned x path e q r shape hq hr b shown t low s h =
       let (w, hw, same) = hr in
-      let here = moment b s.store [] in
-      let value : evaluate b.active s.store e ≡ (w here >>= (λ p. or_stuck (read_place s.store p))) = same here (moment-shown checked slots targets b shown s.store [] h.store_fits) in
+      let here = moment b s.store in
+      let value : evaluate b.active s.store e ≡ (w here >>= (λ p. or_stuck (read_place s.store p))) = same here (moment-shown checked slots targets b shown s.store h.store_fits) in
       use-place b.typing shape low s (machine.address b.levels low.cells q) (designated_place b.active s.store x path) (λ to. execution.use_result low (machine.address b.levels low.cells r) (λ from. execution.running record low { cells = execution.cells_after_copy low.cells to from (size shape) })) (λ p. use_result s (evaluate b.active s.store e) (store_at s p)) h
       (place-in checked slots targets b shown q shape (place_of_designator x path) hq low s h)
       (λ p fit. subst (λ w. ProgressRepresents b.typing (execution.use_result low (machine.address b.levels low.cells r) (λ from. execution.running record low { cells = execution.cells_after_copy low.cells (address b.typing p) from (size shape) })) w)

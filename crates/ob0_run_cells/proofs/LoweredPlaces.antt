@@ -9,12 +9,11 @@ use Rattle.ob0_language_types.specs.WellTyped.{Mode, TypeMeanings}
 use Rattle.ob0_language_values.specs.Values.{FieldShapes, Index, Outcome, Place, Shape, Step, Store, Value, Values, array_shape, at_field, at_index, value_at_path, boolean_shape, count_values, elements, ends_run_with, succeeds_with, integer_shape, number, or_stuck, part, read_place, record_shape, truth, ◌>>=◌}
 use Rattle.ob0_language_runs.specs.TypeAgreement.{HasShape, RunObjectAgrees, PlaceHasType, StoreHasTypes, StoreTyping, part_shape, shape_at_path}
 use Rattle.ob0_language_runs.proofs.Sound.{is_elements}
-use Rattle.ob0_language_runs.proofs.SoundStatements.{slice_get-grows}
 use Rattle.ob0_run_machine.specs.Evaluation as machine
 use Rattle.ob0_run_machine.specs.Evaluation.{Levels}
 use Rattle.ob0_run_machine.specs.Lowered as lowered
 use Rattle.ob0_run_cells.specs.Cells.{address, all_cells, field_offset, offset, size, store_size, step_offset, truth_cell}
-use Rattle.ob0_run_cells.specs.Lowering.{OutcomeByMoment, PlaceOutcomeFits, Moment, NumberMeans, PlaceStartsChain, PlaceMeans, IsMomentOfModule, Slot, TruthMeans, HoldsValue, cells_in, extended_place, in_activation, by_reference, of_module, outcome_of, part_at, place_of_designator, remaining_selectors, slot_address, slot_place, value_of_expression, value_of_factor}
+use Rattle.ob0_run_cells.specs.Lowering.{OutcomeByMoment, PlaceOutcomeFits, Moment, NumberMeans, PlaceStartsChain, PlaceMeans, IsMomentOfModule, Slot, TruthMeans, HoldsValue, extended_place, in_activation, by_reference, of_module, outcome_of, part_at, place_of_designator, remaining_selectors, slot_address, slot_place, value_of_expression, value_of_factor}
 use Rattle.ob0_run_cells.proofs.LoweredNumbers.{each-then}
 use Rattle.ob0_run_cells.proofs.LoweredOutcomes.{Led, addresses, add_offset-same, given-same, gives-then, grouped-then, led-then, same, stuck-then, followed_by}
 use Rattle.ob0_run_cells.proofs.Places.{numbers_are_cells, parts_have_addresses, place-lies, places_are_slices, truths_are_cells}
@@ -171,29 +170,29 @@ value-there {N} active store x path p e =
         each-then (evaluate_selectors active store v path) (λ steps. or_stuck (value_at_path steps v)) (λ steps. or_stuck (read_place store (extended_place p steps))) (λ steps. ap or_stuck (sym (read-extended_place store p steps ∙ ap (option_and_then (value_at_path steps)) h)))
         ∙ sym (grouped-then (evaluate_selectors active store v path) (λ steps. succeeds_with (extended_place p steps)) (λ p. or_stuck (read_place store p)))
 
-pub number-there : (typing : StoreTyping) (store : Store) (passed : List ℤ) → StoreHasTypes typing store → (o : machine.StepResult ℕ) (w : Outcome Place) → Led typing integer_shape o w
-    → outcome_of number (followed_by o (λ a. machine.gives (machine.cell_at (all_cells store ++ passed) a))) ≡ (w >>= (λ p. or_stuck (read_place store p)))
-number-there typing store passed fits (machine.gives a) (succeeds_with p) h =
+pub number-there : (typing : StoreTyping) (store : Store) → StoreHasTypes typing store → (o : machine.StepResult ℕ) (w : Outcome Place) → Led typing integer_shape o w
+    → outcome_of number (followed_by o (λ a. machine.gives (machine.cell_at (all_cells store) a))) ≡ (w >>= (λ p. or_stuck (read_place store p)))
+number-there typing store fits (machine.gives a) (succeeds_with p) h =
     let (found, writes) = numbers_are_cells typing store p fits h.is_place in
     let (n, read, cell) = found in
     let e : a ≡ address typing p = given-same a (address typing p) h.is_same in
-    ap (λ n. succeeds_with (number n)) (get_or_from_slice_get (all_cells store ++ passed) a n (pos 0) (ap (slice_get (all_cells store ++ passed)) e ∙ slice_get-grows (all_cells store) passed (address typing p) n cell)) ∙ sym (ap or_stuck read)
-number-there typing store passed fits (machine.ends x) (ends_run_with y) h = ap (λ w. w >>= (λ a. ends_run_with y)) (h.is_same)
-number-there typing store passed fits _ _ h = let e = h.is_same in absurd (cc)
+    ap (λ n. succeeds_with (number n)) (get_or_from_slice_get (all_cells store) a n (pos 0) (ap (slice_get (all_cells store)) e ∙ cell)) ∙ sym (ap or_stuck read)
+number-there typing store fits (machine.ends x) (ends_run_with y) h = ap (λ w. w >>= (λ a. ends_run_with y)) (h.is_same)
+number-there typing store fits _ _ h = let e = h.is_same in absurd (cc)
 
 is_true-cell : (b : Bool) → machine.is_true (truth_cell b) ≡ b
 is_true-cell true = refl
 is_true-cell false = refl
 
-pub truth-there : (typing : StoreTyping) (store : Store) (passed : List ℤ) → StoreHasTypes typing store → (o : machine.StepResult ℕ) (w : Outcome Place) → Led typing boolean_shape o w
-    → outcome_of truth (followed_by o (λ a. machine.gives (machine.is_true (machine.cell_at (all_cells store ++ passed) a)))) ≡ (w >>= (λ p. or_stuck (read_place store p)))
-truth-there typing store passed fits (machine.gives a) (succeeds_with p) h =
+pub truth-there : (typing : StoreTyping) (store : Store) → StoreHasTypes typing store → (o : machine.StepResult ℕ) (w : Outcome Place) → Led typing boolean_shape o w
+    → outcome_of truth (followed_by o (λ a. machine.gives (machine.is_true (machine.cell_at (all_cells store) a)))) ≡ (w >>= (λ p. or_stuck (read_place store p)))
+truth-there typing store fits (machine.gives a) (succeeds_with p) h =
     let (found, writes) = truths_are_cells typing store p fits h.is_place in
     let (b, read, cell) = found in
     let e : a ≡ address typing p = given-same a (address typing p) h.is_same in
-    ap (λ n. succeeds_with (truth (machine.is_true n))) (get_or_from_slice_get (all_cells store ++ passed) a (truth_cell b) (pos 0) (ap (slice_get (all_cells store ++ passed)) e ∙ slice_get-grows (all_cells store) passed (address typing p) (truth_cell b) cell)) ∙ (ap (λ b. succeeds_with (truth b)) (is_true-cell b) ∙ sym (ap or_stuck read))
-truth-there typing store passed fits (machine.ends x) (ends_run_with y) h = ap (λ w. w >>= (λ a. ends_run_with y)) (h.is_same)
-truth-there typing store passed fits _ _ h = let e = h.is_same in absurd (cc)
+    ap (λ n. succeeds_with (truth (machine.is_true n))) (get_or_from_slice_get (all_cells store) a (truth_cell b) (pos 0) (ap (slice_get (all_cells store)) e ∙ cell)) ∙ (ap (λ b. succeeds_with (truth b)) (is_true-cell b) ∙ sym (ap or_stuck read))
+truth-there typing store fits (machine.ends x) (ends_run_with y) h = ap (λ w. w >>= (λ a. ends_run_with y)) (h.is_same)
+truth-there typing store fits _ _ h = let e = h.is_same in absurd (cc)
 
 -- an index and the selectors after it, from a place that holds something
 pub index-left : {N : Type 0} (z : Moment N) (p : Place) (e : Tree N expression) (rest : Tree N (items selector)) (u : Value) → read_place z.store p ≡ Some u
@@ -211,7 +210,7 @@ index-left z p e rest u eu =
     ∙ sym (ap (λ o. or_stuck o >>= (λ u. (value_of_expression e z >>= (λ x. element_step u x >>= (λ s. or_stuck (part u s) >>= (λ w. evaluate_selectors z.active z.store w rest >>= (λ steps. succeeds_with (s ∷ steps)))))) >>= (λ steps. succeeds_with (extended_place p steps)))) eu))))
 
 module _ {N : Type 0} (checked : TypeMeanings N) (slots : N → Slot) where
-  pub led-at : (q : lowered.Place) (s : Shape) (v : OutcomeByMoment N Place) → PlaceMeans checked slots q s v → (z : Moment N) → IsMomentOfModule checked slots z → Led z.typing s (machine.address z.levels (cells_in z) q) (v z)
+  pub led-at : (q : lowered.Place) (s : Shape) (v : OutcomeByMoment N Place) → PlaceMeans checked slots q s v → (z : Moment N) → IsMomentOfModule checked slots z → Led z.typing s (machine.address z.levels (all_cells z.store) q) (v z)
   led-at q s v h z shown = record { is_same = (h z shown).0; is_place = (h z shown).1 }
 
   pub variable-leads : (x : N) (s : Shape) (path : Tree N (items selector)) → checked.object_for x ≡ Some (a_variable s) → PlaceStartsChain checked slots (slot_place (slots x)) s path (place_of_designator x path)
@@ -223,7 +222,7 @@ module _ {N : Type 0} (checked : TypeMeanings N) (slots : N → Slot) where
         let within = (places_are_slices z.typing z.store p s shown.store_fits fit).within in
         let few : store_size z.typing < 2 ^ 64 = shown.store_is_addressable in
         let bound : slot_address z.levels (slots x) < 2 ^ 64 = omega (arith, within, there, few) in (
-          ap (outcome_of same) (slot-found z.levels (cells_in z) (slots x) bound) ∙ (ap succeeds_with there ∙ sym (ap (λ o. addresses z.typing (object_place {P = List Mode} o)) ep)),
+          ap (outcome_of same) (slot-found z.levels (all_cells z.store) (slots x) bound) ∙ (ap succeeds_with there ∙ sym (ap (λ o. addresses z.typing (object_place {P = List Mode} o)) ep)),
           subst (λ o. PlaceOutcomeFits z.typing s (object_place {P = List Mode} o)) (sym ep) fit,
         )),
     λ z shown. refl,
@@ -235,9 +234,9 @@ module _ {N : Type 0} (checked : TypeMeanings N) (slots : N → Slot) where
   field-leads q k fs x t rest whole h e =
       let (v, hv, ev) = h in (
         (λ z. v z >>= (λ p. succeeds_with (extended_place p (at_field (checked.written x) ∷ [])))),
-        (λ z shown. let l = led-then z.typing (record_shape k fs) t (machine.address z.levels (cells_in z) q) (v z) (λ a. machine.gives (machine.add_offset a (field_offset fs (checked.written x)))) (λ p. succeeds_with (extended_place p (at_field (checked.written x) ∷ [])))
+        (λ z shown. let l = led-then z.typing (record_shape k fs) t (machine.address z.levels (all_cells z.store) q) (v z) (λ a. machine.gives (machine.add_offset a (field_offset fs (checked.written x)))) (λ p. succeeds_with (extended_place p (at_field (checked.written x) ∷ [])))
             (led-at q (record_shape k fs) v hv z shown) (λ p fit. step-led z.typing z.store shown.store_fits shown.store_is_addressable p (record_shape k fs) t (at_field (checked.written x)) fit e) in
-            (ap (outcome_of same) (part-address z.levels (cells_in z) q (field_offset fs (checked.written x))) ∙ l.is_same, l.is_place)),
+            (ap (outcome_of same) (part-address z.levels (all_cells z.store) q (field_offset fs (checked.written x))) ∙ l.is_same, l.is_place)),
         λ z shown. grouped-then (v z) (λ p. succeeds_with (extended_place p (at_field (checked.written x) ∷ []))) (remaining_selectors rest z)
             ∙ (each-then (v z) (λ p. remaining_selectors rest z (extended_place p (at_field (checked.written x) ∷ []))) (remaining_selectors (more (field x) rest) z)
             (λ p. left-extended_place z p (at_field (checked.written x)) rest
@@ -252,9 +251,9 @@ module _ {N : Type 0} (checked : TypeMeanings N) (slots : N → Slot) where
   index-leads q k n t e i rest whole h hi =
       let (v, hv, ev) = h in (
         (λ z. v z >>= (λ p. value_of_expression e z >>= (λ x. or_stuck (read_place z.store p) >>= (λ u. element_step u x >>= (λ s. succeeds_with (extended_place p (s ∷ []))))))),
-        (λ z shown. let l = led-then z.typing (array_shape k n t) t (machine.address z.levels (cells_in z) q) (v z) (λ a. followed_by (machine.number z.levels (cells_in z) i) (machine.element_address a n (size t))) (λ p. value_of_expression e z >>= (λ x. or_stuck (read_place z.store p) >>= (λ u. element_step u x >>= (λ s. succeeds_with (extended_place p (s ∷ []))))))
-            (led-at q (array_shape k n t) v hv z shown) (λ p fit. index-led z.typing z.store shown.store_fits shown.store_is_addressable p k n t fit (machine.number z.levels (cells_in z) i) (value_of_expression e z) (hi z shown)) in
-            (ap (outcome_of same) (element-address z.levels (cells_in z) q i n (size t)) ∙ l.is_same, l.is_place)),
+        (λ z shown. let l = led-then z.typing (array_shape k n t) t (machine.address z.levels (all_cells z.store) q) (v z) (λ a. followed_by (machine.number z.levels (all_cells z.store) i) (machine.element_address a n (size t))) (λ p. value_of_expression e z >>= (λ x. or_stuck (read_place z.store p) >>= (λ u. element_step u x >>= (λ s. succeeds_with (extended_place p (s ∷ []))))))
+            (led-at q (array_shape k n t) v hv z shown) (λ p fit. index-led z.typing z.store shown.store_fits shown.store_is_addressable p k n t fit (machine.number z.levels (all_cells z.store) i) (value_of_expression e z) (hi z shown)) in
+            (ap (outcome_of same) (element-address z.levels (all_cells z.store) q i n (size t)) ∙ l.is_same, l.is_place)),
         λ z shown. grouped-then (v z) (λ p. value_of_expression e z >>= (λ x. or_stuck (read_place z.store p) >>= (λ u. element_step u x >>= (λ s. succeeds_with (extended_place p (s ∷ [])))))) (remaining_selectors rest z)
             ∙ (each-place z.typing (array_shape k n t) (v z) (λ p. (value_of_expression e z >>= (λ x. or_stuck (read_place z.store p) >>= (λ u. element_step u x >>= (λ s. succeeds_with (extended_place p (s ∷ [])))))) >>= remaining_selectors rest z) (remaining_selectors (more (index e) rest) z) (hv z shown).1
             (λ p fit. let (u, eu, hu, write, made, keeps, lies) = place-lies z.typing z.store p (array_shape k n t) shown.store_fits fit in index-left z p e rest u eu) ∙ ev z shown),
@@ -275,13 +274,13 @@ module _ {N : Type 0} (checked : TypeMeanings N) (slots : N → Slot) where
   unfolding evaluate designated_place
   cell-means x s path q e h z shown =
       let (p, ep, fit) = variable-is z.typing s (z.active.object_for x) (subst (λ o. RunObjectAgrees z.typing o (z.active.object_for x)) e (shown.names_fit.0 x)) in
-      number-there z.typing z.store z.passed_cells shown.store_fits (machine.address z.levels (cells_in z) q) (place_of_designator x path z) (led-at q integer_shape (place_of_designator x path) h z shown) ∙ sym (value-there z.active z.store x path p ep)
+      number-there z.typing z.store shown.store_fits (machine.address z.levels (all_cells z.store) q) (place_of_designator x path z) (led-at q integer_shape (place_of_designator x path) h z shown) ∙ sym (value-there z.active z.store x path p ep)
 
   pub flag-means : (x : N) (s : Shape) (path : Tree N (items selector)) (q : lowered.Place) → checked.object_for x ≡ Some (a_variable s) → PlaceMeans checked slots q boolean_shape (place_of_designator x path) → TruthMeans checked slots (lowered.flag q) (value_of_factor (designator x path))
   unfolding evaluate designated_place
   flag-means x s path q e h z shown =
       let (p, ep, fit) = variable-is z.typing s (z.active.object_for x) (subst (λ o. RunObjectAgrees z.typing o (z.active.object_for x)) e (shown.names_fit.0 x)) in
-      truth-there z.typing z.store z.passed_cells shown.store_fits (machine.address z.levels (cells_in z) q) (place_of_designator x path z) (led-at q boolean_shape (place_of_designator x path) h z shown) ∙ sym (value-there z.active z.store x path p ep)
+      truth-there z.typing z.store shown.store_fits (machine.address z.levels (all_cells z.store) q) (place_of_designator x path z) (led-at q boolean_shape (place_of_designator x path) h z shown) ∙ sym (value-there z.active z.store x path p ep)
 
   pub number-constant : (x : N) (n : ℤ) → checked.object_for x ≡ Some (a_constant (number n)) → NumberMeans checked slots (lowered.literal n) (value_of_factor (designator x end))
   unfolding evaluate

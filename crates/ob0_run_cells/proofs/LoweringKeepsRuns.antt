@@ -1,6 +1,6 @@
 -- The run of a lowered program is the run of its module.
 use Rattle.std.specs.Option.{IfSome}
-use Rattle.std.proofs.Common.{◌≡◌, ℕ, ◌+◌, ◌^◌, ◌<◌, true, List, [], ℤ, sym, refl, ap, ◌∙◌, subst, arith}
+use Rattle.std.proofs.Common.{◌≡◌, ℕ, ◌+◌, true, List, [], ℤ, sym, refl, ap, ◌∙◌, subst, arith}
 use Rattle.ob0_tree.specs.Tree.{Tree, is_module, module_text}
 use Rattle.ob0_language_names.specs.Names.{Naming, naming_by_label}
 use Rattle.ob0_language_names.specs.Parts.{block_statements}

@@ -1,7 +1,7 @@
 -- States when lowered statements are correct: they change the machine's cells, input and output as
 -- a module's statements change the module's store, input and output.
 -- Rule: docs/LANGUAGE.md, Runs 5 to 9.
-use Rattle.std.specs.Prelude.{◌≡◌, ℕ, ◌^◌, ◌<◌, true, List, [], ◌∷◌, ◌++◌, length, map, ℤ, Some}
+use Rattle.std.specs.Prelude.{◌≡◌, ℕ, ◌^◌, ◌<◌, List, [], ◌∷◌, ◌++◌, length, map, ℤ, Some}
 use Rattle.ob0_tree.specs.Tree.{Tree, else_part, elsif_part, expression, further_statement, items, maybe, selector, sequence, statement}
 use Rattle.ob0_language_types.specs.Expressions.{Meanings, a_procedure, a_variable}
 use Rattle.ob0_language_types.specs.Typing.{lone_designator}
@@ -9,7 +9,6 @@ use Rattle.ob0_language_types.specs.WellTyped.{FormalParameter, Mode, Signature,
 use Rattle.ob0_language_values.specs.Values.{Place, Shape, boolean_shape, integer_shape}
 use Rattle.ob0_language_runs.specs.TypeAgreement.{ArgumentsMatchSignature, RunMeaningsAgree, StoreHasTypes, StoreTyping}
 use Rattle.ob0_language_runs.specs.Runs.{Argument, CallFunction, Progress, State, PrintedItem, execute, execute_sequence, execute_else, execute_elsifs, execute_further_statements, line_out, number_out, place_argument, running, stopped, value_argument}
-use Rattle.ob0_run_machine.specs.Evaluation as machine
 use Rattle.ob0_run_machine.specs.Evaluation.{Levels}
 use Rattle.ob0_run_machine.specs.Execution as execution
 use Rattle.ob0_run_machine.specs.Lowered as lowered

@@ -3,11 +3,9 @@
 -- example `NumberMeans`, relates lowered code to a function from moments to outcomes
 -- (`OutcomeByMoment`). The fact doesn't mention the tree of an expression, so operators need no
 -- types. Only places and variables need types. The value of an array or a record is in the cells at
--- a place (`HoldsValue`), even if its expression is in parentheses. A moment may be one at which
--- arguments are passed. The cells of these arguments then follow the cells of the store
--- (`passed_cells`).
+-- a place (`HoldsValue`), even if its expression is in parentheses.
 -- Rule: docs/LANGUAGE.md, Runs 2 to 4.
-use Rattle.std.specs.Prelude.{◌≡◌, ℕ, zero, suc, ◌+◌, ◌^◌, ◌<◌, true, List, ◌++◌, ℤ, slice_index_or, Some}
+use Rattle.std.specs.Prelude.{◌≡◌, ℕ, zero, suc, ◌+◌, ◌^◌, ◌<◌, List, ◌++◌, slice_index_or, Some}
 use Rattle.ob0_tree.specs.declared.tree.Relation.{Relation}
 use Rattle.ob0_tree.specs.declared.tree.Relation.TheVariants as relation
 use Rattle.ob0_tree.specs.Tree.{Tree, addend, expression, factor, items, multiplier, selector, simple, term}
@@ -50,19 +48,13 @@ part_at (lowered.outside up at) k = lowered.outside up (machine.add_offset at k)
 part_at (lowered.passed up index at) k = lowered.passed up index (machine.add_offset at k)
 part_at (lowered.element q i n s at) k = lowered.element q i n s (machine.add_offset at k)
 
--- A moment of a run: the store and its types, the cells of arguments that are being passed, the
--- meanings of names, and the activations that lowered code can see.
+-- A moment of a run: the store and its types, the meanings of names, and the activations that
+-- lowered code can see.
 pub record Moment (N : Type 0) : Type 0 where
   pub typing : StoreTyping
   pub store : Store
-  pub passed_cells : List ℤ
   pub active : Meanings N Place (List Mode)
   pub levels : Levels
-
--- returns all cells at a moment: the cells of the store, then the cells of the arguments that are
--- being passed
-abbrev pub cells_in : {N : Type 0} → Moment N → List ℤ
-cells_in m = all_cells m.store ++ m.passed_cells
 
 -- States that a moment belongs to a run of the checked module. The values in its store have the
 -- store's types, and its names have the meanings that the checker found. Each variable is in its
@@ -105,7 +97,7 @@ abbrev pub NumberMeans : {N : Type 0}
 NumberMeans {N} checked slots n value =
     (m : Moment N)
     → IsMomentOfModule checked slots m
-    → outcome_of number (machine.number m.levels (cells_in m) n) ≡ value m
+    → outcome_of number (machine.number m.levels (all_cells m.store) n) ≡ value m
 
 -- states that a truth of lowered code and the evaluation `value` have the same outcome, at each
 -- moment that belongs to the checked module (`IsMomentOfModule`)
@@ -118,7 +110,7 @@ abbrev pub TruthMeans : {N : Type 0}
 TruthMeans {N} checked slots t value =
     (m : Moment N)
     → IsMomentOfModule checked slots m
-    → outcome_of truth (machine.truth m.levels (cells_in m) t) ≡ value m
+    → outcome_of truth (machine.truth m.levels (all_cells m.store) t) ≡ value m
 
 -- States that an outcome is an end of the run, or a place whose values have the type `s`.
 abbrev pub PlaceOutcomeFits : StoreTyping → Shape → Outcome Place → Type 0
@@ -137,7 +129,7 @@ abbrev pub PlaceMeans : {N : Type 0}
     → Type 0
 PlaceMeans {N} checked slots q s value =
     (m : Moment N) → IsMomentOfModule checked slots m
-    → (outcome_of (λ a. a) (machine.address m.levels (cells_in m) q)
+    → (outcome_of (λ a. a) (machine.address m.levels (all_cells m.store) q)
     ≡ (value m >>= (λ p. succeeds_with (address m.typing p))))
     × PlaceOutcomeFits m.typing s (value m)
 

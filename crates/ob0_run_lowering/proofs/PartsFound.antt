@@ -8,7 +8,8 @@ use Rattle.ob0_language_values.specs.Values.{Place, Shape}
 use Rattle.ob0_run_machine.specs.Evaluation as machine
 use Rattle.ob0_run_machine.specs.Evaluation.{Levels}
 use Rattle.ob0_run_machine.specs.Lowered as lowered
-use Rattle.ob0_run_cells.specs.Lowering.{OutcomeByMoment, PlaceStartsChain, Slot, cells_in, outcome_of}
+use Rattle.ob0_run_cells.specs.Cells.{all_cells}
+use Rattle.ob0_run_cells.specs.Lowering.{OutcomeByMoment, PlaceStartsChain, Slot, outcome_of}
 use Rattle.ob0_run_cells.proofs.LoweredOutcomes.{followed_by, same}
 use Rattle.ob0_run_cells.proofs.LoweredPlaces.{element-address, part-address}
 use Rattle.ob0_run_lowering.specs.Codes.{element_at_place, element_or_part}
@@ -37,4 +38,4 @@ pub leads-from : (checked : TypeMeanings Label) (slots : Label → Slot) (p q : 
     → SamePlace p q → PlaceStartsChain checked slots q s rest whole → PlaceStartsChain checked slots p s rest whole
 leads-from checked slots p q s rest whole e h =
     let (v, hv, ev) = h in
-    (v, λ z shown. (ap (outcome_of same) (e.same_address z.levels (cells_in z)) ∙ (hv z shown).0, (hv z shown).1), ev)
+    (v, λ z shown. (ap (outcome_of same) (e.same_address z.levels (all_cells z.store)) ∙ (hv z shown).0, (hv z shown).1), ev)

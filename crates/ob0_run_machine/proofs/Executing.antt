@@ -350,7 +350,7 @@ repeat_on {now = now} {t = t} {ls = ls} {r = r} {left = left} c h e = record { s
 -- calls
 
 pub call-goes : (t : ℕ) (ls : Levels) (c : call.ProcedureCall) (enters : CallEffect) (s : MachineState)
-    → statement_effect t ls (call_of c) enters s ≡ use_result s (pass_all ls (map argument_of c.arguments.items) (passed_arguments s.cells [])) (λ p. enters c.procedure (levels_in_call ls (length s.cells) c.up p) record s { cells = p.cells })
+    → statement_effect t ls (call_of c) enters s ≡ use_result s (pass_all ls s.cells (map argument_of c.arguments.items) (passed_arguments s.cells [])) (λ p. enters c.procedure (levels_in_call ls (length s.cells) c.up p) record s { cells = p.cells })
 unfolding execute
 call-goes t ls c enters s = refl
 
@@ -360,17 +360,17 @@ passing_stops m m' (Some x) memory out kept given next h = ap (λ o. use_result 
 passing_stops m m' None memory out kept given next h = ap has_failed kept ∙ h
 
 pub call_fails : {post : CallPostcondition} {m m' : Machine} (memory : Memory) (e : Stop) (t : ℕ) (ls : Levels) (c : call.ProcedureCall) (xs : List Argument) (none : List ℕ)
-    → none ≡ [] → xs ≡ c.arguments.items → StopsPassing (end_of_stop e) memory (pass_all ls (map argument_of xs) (passed_arguments m.cells.items none)) → m'.output ≡ m.output → m'.memory ≡ memory
+    → none ≡ [] → xs ≡ c.arguments.items → StopsPassing (end_of_stop e) memory (pass_all ls m.cells.items (map argument_of xs) (passed_arguments m.cells.items none)) → m'.output ≡ m.output → m'.memory ≡ memory
     → StepHasEffect post (Err e) m m' (statement_effect t ls (call_of c))
 call_fails {m = m} {m' = m'} memory e t ls c xs none empty same h out kept = record {
   has_effect = λ enters p. subst (StopsRun (end_of_stop e) m') (sym (call-goes t ls c enters (state_of m)
       ∙ ap (λ o. use_result (state_of m) o (λ p. enters c.procedure (levels_in_call ls (length m.cells.items) c.up p) record (state_of m) { cells = p.cells }))
-      (ap (λ xs. pass_all ls (map argument_of xs) (passed_arguments m.cells.items [])) (sym same) ∙ ap (λ none. pass_all ls (map argument_of xs) (passed_arguments m.cells.items none)) (sym empty))))
+      (ap (λ xs. pass_all ls m.cells.items (map argument_of xs) (passed_arguments m.cells.items [])) (sym same) ∙ ap (λ none. pass_all ls m.cells.items (map argument_of xs) (passed_arguments m.cells.items none)) (sym empty))))
       (passing_stops m m' (end_of_stop e) memory out kept _ _ h);
 }
 
 pub call_enters : {post : CallPostcondition} {m m' : Machine} {r : Result (Unit {0}) Stop} (cells : List ℤ) (addresses : List ℕ) (t : ℕ) (ls inner : Levels) (c : call.ProcedureCall) (xs : List Argument) (none : List ℕ)
-    → none ≡ [] → xs ≡ c.arguments.items → pass_all ls (map argument_of xs) (passed_arguments m.cells.items none) ≡ gives (passed_arguments cells addresses)
+    → none ≡ [] → xs ≡ c.arguments.items → pass_all ls m.cells.items (map argument_of xs) (passed_arguments m.cells.items none) ≡ gives (passed_arguments cells addresses)
     → inner ≡ levels_in_call ls (length m.cells.items) c.up (passed_arguments cells addresses)
     → ((enters : CallEffect) → PerformsCalls post enters → IsProgressAfterStep r m' (enters c.procedure inner (record (state_of m) { cells = cells })))
     → StepHasEffect post r m m' (statement_effect t ls (call_of c))
@@ -378,7 +378,7 @@ call_enters {m = m} {m' = m'} {r = r} cells addresses t ls inner c xs none empty
   has_effect = λ enters p.
       subst (IsProgressAfterStep r m') (sym (call-goes t ls c enters (state_of m)
       ∙ ap (λ o. use_result (state_of m) o (λ p. enters c.procedure (levels_in_call ls (length m.cells.items) c.up p) record (state_of m) { cells = p.cells }))
-      (ap (λ xs. pass_all ls (map argument_of xs) (passed_arguments m.cells.items [])) (sym same) ∙ ap (λ none. pass_all ls (map argument_of xs) (passed_arguments m.cells.items none)) (sym empty) ∙ h)
+      (ap (λ xs. pass_all ls m.cells.items (map argument_of xs) (passed_arguments m.cells.items [])) (sym same) ∙ ap (λ none. pass_all ls m.cells.items (map argument_of xs) (passed_arguments m.cells.items none)) (sym empty) ∙ h)
       ∙ ap (λ ls. enters c.procedure ls record (state_of m) { cells = cells }) (sym seen)))
       (done enters p);
 }

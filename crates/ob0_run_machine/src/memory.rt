@@ -6,7 +6,7 @@
 //! function that grows a list fails only if the list had too little capacity (`full`). No contract
 //! states that the run needed a larger list, or that the allocator refused the request.
 
-ghost use Rattle.std.specs.Prelude.{◌≡◌, ◌+◌, ◌++◌, ◌∷◌, ◌<◌, ◌≤◌, ◌^◌, [], OnErr, OnOk, false, length, true, vec_capacity, vec_len};
+ghost use Rattle.std.specs.Prelude.{◌≡◌, ◌+◌, ◌++◌, ◌∷◌, ◌<◌, ◌≤◌, ◌^◌, [], OnErr, OnOk, false, length, take, true, vec_capacity, vec_len};
 ghost use Rattle.ob0_run_machine.specs.Execution.{block_at, zeros};
 ghost use Rattle.ob0_run_machine.specs.Allocations.{has_failed};
 
@@ -99,25 +99,28 @@ impl Memory {
     }
 
     /// Adds at the end of `cells` a copy of the `count` cells that begin at the address `from`.
-    /// Adds `count` zeros instead if fewer than `count` cells begin at this address.
+    /// Adds `count` zeros instead if fewer than `count` of the first `base` cells begin at this
+    /// address.
     pub(crate) fn push_block(
         &mut self,
         cells: &mut Vec<i32>,
+        base: usize,
         from: usize,
         count: usize,
     ) -> Result<(), AllocError>
-        ensures items { OnOk result
-            (cells.new.items ≡ cells.old.items ++ block_at cells.old.items from count) }
+        requires { base ≤ length cells.old.items }
+        ensures items { OnOk result (cells.new.items
+            ≡ cells.old.items ++ block_at (take base cells.old.items) from count) }
         ensures failed { OnErr result (has_failed self.new ≡ true) }
         ensures full { OnErr result (vec_capacity cells.old < vec_len cells.old + count) }
     {
+        if count > base {
+            return self.push_zeros(cells, count);
+        }
+        if from > base - count {
+            return self.push_zeros(cells, count);
+        }
         let length = cells.len();
-        if count > length {
-            return self.push_zeros(cells, count);
-        }
-        if from > length - count {
-            return self.push_zeros(cells, count);
-        }
         self.push_zeros(cells, count)?;
         copy_up(cells.as_mut_slice(), length, from, count);
         Ok(())

@@ -273,6 +273,7 @@ fn run_call<F: Fn(&mut Machine<'_>, usize, &Level<'_>) -> Result<(), Stop>>(
         &mut machine.memory,
         c.arguments.as_slice(),
         level,
+        base,
         &mut machine.cells,
         &mut addresses,
     )?;
