@@ -1,7 +1,7 @@
 -- Declarations and parameters of an activation, where lowered code finds them.
 -- `Extends`: a frame with more variables, whose cells lie after those before. It composes (`extends-then`), so that
 -- declarations and parameters are each one step and the rest.
-use Rattle.std.proofs.Common.{◌≡◌, ℕ, zero, suc, ◌+◌, ◌≤◌, true, ◌&&◌, List, [], ◌∷◌, ◌++◌, drop, length, map, replicate, ℤ, pos, slice_index_or, Some, option_and_then, option_map, sym, refl, ap, ◌∙◌, subst, arith, append-nil, append_assoc}
+use Rattle.std.proofs.Common.{◌≡◌, ℕ, zero, suc, ◌+◌, true, ◌&&◌, List, [], ◌∷◌, ◌++◌, drop, length, map, replicate, ℤ, pos, slice_index_or, Some, option_and_then, option_map, sym, refl, ap, ◌∙◌, subst, arith, append-nil, append_assoc}
 use Rattle.std.proofs.lemmas.List.{replicate-append-replicate}
 use Rattle.ob0_tree.specs.Tree.{Tree, block, body, constant, declares, declares_constant, declares_type, declares_variable, end, forms_block, items, maybe, more, procedure, type_definition, variable}
 use Rattle.ob0_language_names.specs.Parts.{block_statements, constant_names, declared_type_names, names_in_list, procedure_name, section_constants, section_types, section_variables}
@@ -9,7 +9,7 @@ use Rattle.ob0_language_types.specs.Declarations.{constructors_before_variables,
 use Rattle.ob0_language_types.specs.Environments.{meanings}
 use Rattle.ob0_language_types.specs.Expressions.{a_constant, a_procedure, a_type, a_variable}
 use Rattle.ob0_language_types.specs.Typing.{constant_value, constructor_count, denoted_type}
-use Rattle.ob0_language_types.specs.WellTyped.{Signature, TypeEnvironment, TypedParameter, bind_names, bind_typed_parameters, block_is_well_typed, declare_typed_variables, bind_procedure, option_satisfies, procedure_is_well_typed, procedures_are_well_typed}
+use Rattle.ob0_language_types.specs.WellTyped.{Signature, TypeEnvironment, TypedParameter, bind_names, by_value, bind_typed_parameters, block_is_well_typed, declare_typed_variables, bind_procedure, option_satisfies, procedure_is_well_typed, procedures_are_well_typed}
 use Rattle.ob0_language_types.proofs.Literals.{some_inverse}
 use Rattle.ob0_language_values.specs.Values.{Shape, Store, Value, initial_value}
 use Rattle.ob0_language_runs.specs.TypeAgreement.{ArgumentsMatchSignature, RunEnvironmentAgrees, HasShape, StoreHasTypes, StoreTyping}
@@ -19,7 +19,7 @@ use Rattle.ob0_language_types.proofs.Conditions.{both_true}
 use Rattle.ob0_language_types.proofs.TypedElsewhere.{then_some}
 use Rattle.ob0_run_machine.specs.Evaluation.{Level, Levels}
 use Rattle.ob0_run_machine.specs.Lowered as lowered
-use Rattle.ob0_run_cells.specs.Activations.{RoutineTable, CodeMeansBlock, CodeMeansBody, PlacementState, Placement, PlacementFits, RoutinesMeanProcedures, bind_without_place, in_slot, nowhere, local_target, place_names, place_name, place_parameters, place_variables}
+use Rattle.ob0_run_cells.specs.Activations.{AreSized, RoutineTable, CodeMeansBlock, CodeMeansBody, PlacementState, Placement, PlacementFits, RoutinesMeanProcedures, bind_without_place, in_slot, nowhere, local_target, place_each, place_name, place_parameters, place_variable_declarations}
 use Rattle.ob0_run_cells.specs.Cells.{address, all_cells, cells_of, size, store_size}
 use Rattle.ob0_run_cells.specs.LoweredStatements.{argument_addresses, argument_cells}
 use Rattle.ob0_run_cells.specs.Lowering.{Slot, in_activation, by_reference, slot_address}
@@ -45,6 +45,11 @@ pub record Extends {N : Type 0} (table : RoutineTable N) (typing : StoreTyping) 
   pub is_grown : typing_now ≡ typing ++ others
   pub frame : FramePlaced table typing_now ls base checked p g
   pub cells_added : all_cells g.store ≡ all_cells before ++ added
+
+-- names that are bound before others are sized if those are
+names-sized : {N : Type 0} (size_of : N → ℕ) (xs : List N) (s : Shape) (env : TypeEnvironment N) → AreSized size_of (bind_names xs (a_variable s) env) → AreSized size_of env
+names-sized size_of [] s env sized = sized
+names-sized size_of (x ∷ xs) s env sized = (names-sized size_of xs s ((x, a_variable s) ∷ env) sized).1
 
 module _ {N : Type 0} (table : RoutineTable N) where
   pub extends-here : (typing : StoreTyping) (ls : Levels) (base : ℕ) (checked : TypeEnvironment N) (p : PlacementState N) (f : Frame N) → FramePlaced table typing ls base checked p f → Extends table typing ls base checked p f.store [] f
@@ -86,10 +91,10 @@ module _ {N : Type 0} (table : RoutineTable N) where
       types-placed typing ls (k + constructor_count u) ds ((x, a_type v) ∷ checked) after ((x, nowhere) ∷ placement) ((x, a_type w) ∷ active) d e₁ e₂ record { activation_name_agrees = refl; placement_name_agrees = refl; here = tt; further = h }
 
   -- one variable more, at the end of the store
-  pub variable-placed : (typing : StoreTyping) (ls : Levels) (base : ℕ) (checked : TypeEnvironment N) (p : PlacementState N) (f : Frame N) (x : N) (slot : Slot) (s : Shape) (v : Value) → slot_address ls slot ≡ base + p.cells → HasShape v s → FramePlaced table typing ls base checked p f
-      → FramePlaced table (typing ++ s ∷ []) ls base ((x, a_variable s) ∷ checked) (record p { placement = (x, in_slot slot) ∷ p.placement; cells = p.cells + size s }) (record { env = (x, a_variable record { variable = length f.store; path = [] }) ∷ f.env; store = f.store ++ v ∷ [] })
+  pub variable-placed : (typing : StoreTyping) (ls : Levels) (base : ℕ) (checked : TypeEnvironment N) (p : PlacementState N) (f : Frame N) (x : N) (slot : Slot) (s : Shape) (n : ℕ) (v : Value) → n ≡ size s → slot_address ls slot ≡ base + p.cells → HasShape v s → FramePlaced table typing ls base checked p f
+      → FramePlaced table (typing ++ s ∷ []) ls base ((x, a_variable s) ∷ checked) (record p { placement = (x, in_slot slot) ∷ p.placement; cells = p.cells + n }) (record { env = (x, a_variable record { variable = length f.store; path = [] }) ∷ f.env; store = f.store ++ v ∷ [] })
       × (all_cells (f.store ++ v ∷ []) ≡ all_cells f.store ++ cells_of v)
-  variable-placed typing ls base checked p f x slot s v at hv h =
+  variable-placed typing ls base checked p f x slot s n v sized at hv h =
       let added = variables_are_added typing f.store s v h.store_fits hv in
       let counted : base + p.cells ≡ store_size typing = h.cells_counted in
       let total : store_size (typing ++ s ∷ []) ≡ store_size typing + size s = store_size-append typing s in (
@@ -97,43 +102,50 @@ module _ {N : Type 0} (table : RoutineTable N) where
           store_fits = added.store_fits;
           environment_fits = (refl, added.place_fits, environments-grow table.naming typing (s ∷ []) checked f.env h.environment_fits);
           placing_fits = record { activation_name_agrees = refl; placement_name_agrees = refl; here = (added.place_fits, at ∙ (counted ∙ sym added.address_is)); further = placement-grows table typing (s ∷ []) checked f.env ls p.placement h.placing_fits };
-          cells_counted = omega (arith, counted, total);
+          cells_counted = omega (arith, counted, total, sized);
         },
         added.cells_added,
       )
 
-  pub names-placed : (typing : StoreTyping) (ls : Levels) (base : ℕ) (at : ℕ → Slot) → ((c : ℕ) → slot_address ls (at c) ≡ base + c) → (xs : List N) (s : Shape) (checked : TypeEnvironment N) (p : PlacementState N) (f : Frame N) → FramePlaced table typing ls base checked p f
-      → (n : ℕ) × ((place_names at xs (size s) p).cells ≡ p.cells + n) × Extends table typing ls base (bind_names xs (a_variable s) checked) (place_names at xs (size s) p) f.store (replicate n (pos 0)) (allocate xs (initial_value s) f)
-  names-placed typing ls base at is [] s checked p f h = (0, omega arith, extends-here typing ls base checked p f h)
-  names-placed typing ls base at is (x ∷ xs) s checked p f h =
+  variables-sized : (size_of : N → ℕ) (k : ℕ) (gs : Tree N (items variable)) (env inner : TypeEnvironment N) → declare_typed_variables table.naming k gs env ≡ Some inner → AreSized size_of inner → AreSized size_of env
+  unfolding declare_typed_variables
+  variables-sized size_of k end env inner e sized = subst (AreSized size_of) (sym (some_inverse {a = env} {b = inner} e)) sized
+  variables-sized size_of k (more (declares_variable ns u) gs) env inner e sized =
+      let (s, es, e₁) = then_some (denoted_type (meanings table.naming env) k u) (λ s. declare_typed_variables table.naming (k + constructor_count u) gs (bind_names (names_in_list ns) (a_variable s) env)) inner e in
+      names-sized size_of (names_in_list ns) s env (variables-sized size_of (k + constructor_count u) gs (bind_names (names_in_list ns) (a_variable s) env) inner e₁ sized)
+
+  pub names-placed : (typing : StoreTyping) (ls : Levels) (base : ℕ) (at : ℕ → Slot) → ((c : ℕ) → slot_address ls (at c) ≡ base + c) → (size_of : N → ℕ) (xs : List N) (s : Shape) (checked : TypeEnvironment N) (p : PlacementState N) (f : Frame N) → AreSized size_of (bind_names xs (a_variable s) checked) → FramePlaced table typing ls base checked p f
+      → (n : ℕ) × ((place_each at size_of by_value xs p).cells ≡ p.cells + n) × Extends table typing ls base (bind_names xs (a_variable s) checked) (place_each at size_of by_value xs p) f.store (replicate n (pos 0)) (allocate xs (initial_value s) f)
+  names-placed typing ls base at is size_of [] s checked p f sized h = (0, omega arith, extends-here typing ls base checked p f h)
+  names-placed typing ls base at is size_of (x ∷ xs) s checked p f sized h =
       let (fits, zero_cells) = initial_cells_are_zero s in
-      let (one, cells) = variable-placed typing ls base checked p f x (at p.cells) s (initial_value s) (is p.cells) fits h in
-      let (n, count, more_of) = names-placed (typing ++ s ∷ []) ls base at is xs s ((x, a_variable s) ∷ checked) (record p { placement = (x, in_slot (at p.cells)) ∷ p.placement; cells = p.cells + size s }) (record { env = (x, a_variable record { variable = length f.store; path = [] }) ∷ f.env; store = f.store ++ initial_value s ∷ [] }) one in (
+      let has_size : size_of x ≡ size s = (names-sized size_of xs s ((x, a_variable s) ∷ checked) sized).0 in
+      let q : PlacementState N = place_name at by_value x (size_of x) p in
+      let (one, cells) = variable-placed typing ls base checked p f x (at p.cells) s (size_of x) (initial_value s) has_size (is p.cells) fits h in
+      let (n, count, more_of) = names-placed (typing ++ s ∷ []) ls base at is size_of xs s ((x, a_variable s) ∷ checked) q (record { env = (x, a_variable record { variable = length f.store; path = [] }) ∷ f.env; store = f.store ++ initial_value s ∷ [] }) sized one in (
         size s + n,
-        omega (arith, count),
-        extends-by typing ls base (bind_names xs (a_variable s) ((x, a_variable s) ∷ checked)) (place_names at (x ∷ xs) (size s) p) f.store (replicate (size s) (pos 0) ++ replicate n (pos 0)) (replicate (size s + n) (pos 0)) (allocate (x ∷ xs) (initial_value s) f) (replicate-append-replicate (size s) n (pos 0))
-            (extends-then typing (typing ++ s ∷ []) (s ∷ []) ls base (bind_names xs (a_variable s) ((x, a_variable s) ∷ checked)) (place_names at (x ∷ xs) (size s) p) f.store (f.store ++ initial_value s ∷ []) (replicate (size s) (pos 0)) (replicate n (pos 0)) (allocate (x ∷ xs) (initial_value s) f) refl (cells ∙ ap (λ l. all_cells f.store ++ l) zero_cells) more_of),
+        omega (arith, count, has_size),
+        extends-by typing ls base (bind_names xs (a_variable s) ((x, a_variable s) ∷ checked)) (place_each at size_of by_value xs q) f.store (replicate (size s) (pos 0) ++ replicate n (pos 0)) (replicate (size s + n) (pos 0)) (allocate (x ∷ xs) (initial_value s) f) (replicate-append-replicate (size s) n (pos 0))
+            (extends-then typing (typing ++ s ∷ []) (s ∷ []) ls base (bind_names xs (a_variable s) ((x, a_variable s) ∷ checked)) (place_each at size_of by_value xs q) f.store (f.store ++ initial_value s ∷ []) (replicate (size s) (pos 0)) (replicate n (pos 0)) (allocate (x ∷ xs) (initial_value s) f) refl (cells ∙ ap (λ l. all_cells f.store ++ l) zero_cells) more_of),
       )
 
-  pub variables-placed : (typing : StoreTyping) (ls : Levels) (base : ℕ) (at : ℕ → Slot) → ((c : ℕ) → slot_address ls (at c) ≡ base + c) → (k : ℕ) (gs : Tree N (items variable)) (checked inner : TypeEnvironment N) (p q : PlacementState N) (f : Frame N) → FramePlaced table typing ls base checked p f
-      → declare_typed_variables table.naming k gs checked ≡ Some inner → place_variables table.naming at checked k gs p ≡ Some q
-      → (g : Frame N) × (n : ℕ) × (declare_variables table.naming k gs f ≡ Some g) × (q.cells ≡ p.cells + n) × Extends table typing ls base inner q f.store (replicate n (pos 0)) g
-  unfolding declare_typed_variables declare_variables place_variables
-  variables-placed typing ls base at is k end checked inner p q f h e e' =
-      let same : p ≡ q = some_inverse e' in
-      (f, 0, refl, ap (λ q. q.cells) (sym same) ∙ omega arith, subst (λ q. Extends table typing ls base inner q f.store [] f) same (subst (λ c. Extends table typing ls base c p f.store [] f) (some_inverse {a = checked} {b = inner} e) (extends-here typing ls base checked p f h)))
-  variables-placed typing ls base at is k (more (declares_variable ns u) gs) checked inner p q f h e e' =
+  pub variables-placed : (typing : StoreTyping) (ls : Levels) (base : ℕ) (at : ℕ → Slot) → ((c : ℕ) → slot_address ls (at c) ≡ base + c) → (size_of : N → ℕ) (k : ℕ) (gs : Tree N (items variable)) (checked inner : TypeEnvironment N) (p : PlacementState N) (f : Frame N) → FramePlaced table typing ls base checked p f
+      → declare_typed_variables table.naming k gs checked ≡ Some inner → AreSized size_of inner
+      → (g : Frame N) × (n : ℕ) × (declare_variables table.naming k gs f ≡ Some g) × ((place_variable_declarations at size_of gs p).cells ≡ p.cells + n) × Extends table typing ls base inner (place_variable_declarations at size_of gs p) f.store (replicate n (pos 0)) g
+  unfolding declare_typed_variables declare_variables
+  variables-placed typing ls base at is size_of k end checked inner p f h e sized =
+      (f, 0, refl, omega arith, subst (λ c. Extends table typing ls base c p f.store [] f) (some_inverse {a = checked} {b = inner} e) (extends-here typing ls base checked p f h))
+  variables-placed typing ls base at is size_of k (more (declares_variable ns u) gs) checked inner p f h e sized =
       let (s, es, e₁) = then_some (denoted_type (meanings table.naming checked) k u) (λ s. declare_typed_variables table.naming (k + constructor_count u) gs (bind_names (names_in_list ns) (a_variable s) checked)) inner e in
-      let e₂ : place_variables table.naming at (bind_names (names_in_list ns) (a_variable s) checked) (k + constructor_count u) gs (place_names at (names_in_list ns) (size s) p) ≡ Some q =
-      sym (ap (option_and_then (λ s. place_variables table.naming at (bind_names (names_in_list ns) (a_variable s) checked) (k + constructor_count u) gs (place_names at (names_in_list ns) (size s) p))) es) ∙ e' in
-      let (m, count, part) = names-placed typing ls base at is (names_in_list ns) s checked p f h in
-      let (g, n, eg, counts, rest) = variables-placed part.typing_now ls base at is (k + constructor_count u) gs (bind_names (names_in_list ns) (a_variable s) checked) inner (place_names at (names_in_list ns) (size s) p) q (allocate (names_in_list ns) (initial_value s) f) part.frame e₁ e₂ in (
+      let q : PlacementState N = place_each at size_of by_value (names_in_list ns) p in
+      let (m, count, part) = names-placed typing ls base at is size_of (names_in_list ns) s checked p f (variables-sized size_of (k + constructor_count u) gs (bind_names (names_in_list ns) (a_variable s) checked) inner e₁ sized) h in
+      let (g, n, eg, counts, rest) = variables-placed part.typing_now ls base at is size_of (k + constructor_count u) gs (bind_names (names_in_list ns) (a_variable s) checked) inner q (allocate (names_in_list ns) (initial_value s) f) part.frame e₁ sized in (
         g,
         m + n,
         ap (option_and_then (λ s. declare_variables table.naming (k + constructor_count u) gs (allocate (names_in_list ns) (initial_value s) f))) (denoted_type-same table.naming typing checked f.env h.environment_fits k u ∙ es) ∙ eg,
         omega (arith, count, counts),
-        extends-by typing ls base inner q f.store (replicate m (pos 0) ++ replicate n (pos 0)) (replicate (m + n) (pos 0)) g (replicate-append-replicate m n (pos 0))
-            (extends-then typing part.typing_now part.others ls base inner q f.store (allocate (names_in_list ns) (initial_value s) f).store (replicate m (pos 0)) (replicate n (pos 0)) g part.is_grown part.cells_added rest),
+        extends-by typing ls base inner (place_variable_declarations at size_of gs q) f.store (replicate m (pos 0) ++ replicate n (pos 0)) (replicate (m + n) (pos 0)) g (replicate-append-replicate m n (pos 0))
+            (extends-then typing part.typing_now part.others ls base inner (place_variable_declarations at size_of gs q) f.store (allocate (names_in_list ns) (initial_value s) f).store (replicate m (pos 0)) (replicate n (pos 0)) g part.is_grown part.cells_added rest),
       )
 
   -- procedures
@@ -162,8 +174,6 @@ module _ {N : Type 0} (table : RoutineTable N) where
       let b : Tree N block = forms_block (declares cs ts vs ps) statements in
       let first : TypeEnvironment N = means.first in
       let inner : TypeEnvironment N = means.inner in
-      let q : PlacementState N = means.placed in
-      let total : p.cells + cells ≡ q.cells = means.cells_counted in
       let fits : procedures_are_well_typed table.naming inner (constructors_before_procedures k b) statements ps ≡ true =
       subst (λ o. option_satisfies o (λ inner. procedures_are_well_typed table.naming inner (constructors_before_procedures k b) statements ps) ≡ true) (ap (option_and_then (declare_typed_variables table.naming (constructors_before_variables k b) (section_variables vs))) means.first_declared ∙ means.variables_declared) e in
       let (consts, ec, e₄) = then_some (declare_constants table.naming checked (section_constants cs)) (λ env. declare_types table.naming env k (section_types ts)) first means.first_declared in
@@ -172,8 +182,10 @@ module _ {N : Type 0} (table : RoutineTable N) where
       let (d₂, ed₂, fit₂) = types-run table.naming typing consts d₁ k (section_types ts) first fit₁ e₄ in
       let placed₂ = types-placed typing ls k (section_types ts) consts first (bind_without_place (constant_names (section_constants cs)) p.placement) d₁ d₂ e₄ ed₂ placed₁ in
       let p₂ : PlacementState N = record p { placement = bind_without_place (declared_type_names (section_types ts)) (bind_without_place (constant_names (section_constants cs)) p.placement) } in
+      let q : PlacementState N = place_variable_declarations at means.size_of (section_variables vs) p₂ in
+      let total : p.cells + cells ≡ q.cells = means.cells_counted in
       let f₂ : Frame N = record { env = d₂; store = f.store } in
-      let (g, n, eg, counts, part) = variables-placed typing ls base at is (constructors_before_variables k b) (section_variables vs) first inner p₂ q f₂ record { store_fits = h.store_fits; environment_fits = fit₂; placing_fits = placed₂; cells_counted = h.cells_counted } means.variables_declared means.variables_placed in
+      let (g, n, eg, counts, part) = variables-placed typing ls base at is means.size_of (constructors_before_variables k b) (section_variables vs) first inner p₂ f₂ record { store_fits = h.store_fits; environment_fits = fit₂; placing_fits = placed₂; cells_counted = h.cells_counted } means.variables_declared means.are_sized in
       let (after, placed, fit₄, placed₄, body_means) = procedures-placed part.typing_now ls (constructors_before_procedures k b) code statements ps inner q.placement g.env part.frame.environment_fits part.frame.placing_fits fits means.inside in
       let n_is : n ≡ cells = omega (arith, counts, total) in (
         declare_procedures_in_frame (constructors_before_procedures k b) ps g,
@@ -222,7 +234,7 @@ module _ {N : Type 0} (table : RoutineTable N) where
       )
   parameters-placed typing l ls (q ∷ ps) (value_argument v ∷ args) checked p f h fit there =
       let s = q.formal.shape in
-      let (one, cells) = variable-placed table typing (l ∷ ls) l.base checked p f q.name (in_activation 0 p.cells) s v refl fit.1 h in
+      let (one, cells) = variable-placed table typing (l ∷ ls) l.base checked p f q.name (in_activation 0 p.cells) s (size s) v refl refl fit.1 h in
       let p₁ : PlacementState N = record p { placement = (q.name, in_slot (in_activation 0 p.cells)) ∷ p.placement; cells = p.cells + size s } in
       let f₁ : Frame N = record { env = (q.name, a_variable record { variable = length f.store; path = [] }) ∷ f.env; store = f.store ++ v ∷ [] } in
       let (g, eg, part) = parameters-placed (typing ++ s ∷ []) l ls ps args ((q.name, a_variable s) ∷ checked) p₁ f₁ one (ArgumentsMatchSignature-grows typing (s ∷ []) (map (λ p. p.formal) ps) args fit.2) (there ∙ sym (arguments-stay typing (s ∷ []) (map (λ p. p.formal) ps) args fit.2)) in (

@@ -8,15 +8,14 @@
 -- has the right place. For a procedure, this is stated with the placement at its declaration
 -- (`BindingIsPlaced`). So no slot has to be translated back to an outer level.
 -- Rule: docs/LANGUAGE.md, Runs 1, 6.
-use Rattle.std.specs.Prelude.{◌≡◌, ℕ, suc, ◌+◌, ◌≤◌, true, false, List, [], ◌∷◌, drop, slice_get, Some, Option, option_and_then}
+use Rattle.std.specs.Prelude.{◌≡◌, ℕ, suc, ◌+◌, true, false, List, [], ◌∷◌, drop, slice_get, Some}
 use Rattle.ob0_tree.specs.Tree.{Tree, begins, block, body, declares, declares_procedure, declares_variable, end, forms_block, item, items, maybe, module_text, more, none, one, procedure, variable}
 use Rattle.ob0_language_names.specs.Names.{Label, Naming, naming_by_label}
 use Rattle.ob0_language_names.specs.Parts.{block_constants, block_types, block_variables, constant_names, formal_sections, module_block, declared_type_names, names_in_list, procedure_formals, procedure_name}
 use Rattle.ob0_language_types.specs.Declarations.{constructors_before_variables, constructors_before_procedures, declare_constants_and_types, formals_constructor_count, procedure_constructor_count}
 use Rattle.ob0_language_types.specs.Environments.{meanings, outermost_environment}
 use Rattle.ob0_language_types.specs.Expressions.{Object, a_constant, a_procedure, a_standard, a_type, a_variable}
-use Rattle.ob0_language_types.specs.Typing.{constructor_count, denoted_type}
-use Rattle.ob0_language_types.specs.WellTyped.{Mode, Signature, TypeEnvironment, TypedParameter, bind_names, bind_typed_parameters, by_place, by_value, declare_typed_variables, bind_procedure, typed_parameters}
+use Rattle.ob0_language_types.specs.WellTyped.{Mode, Signature, TypeEnvironment, TypedParameter, bind_typed_parameters, by_place, by_value, declare_typed_variables, bind_procedure, typed_parameters}
 use Rattle.ob0_language_values.specs.Values.{Place, Shape}
 use Rattle.ob0_language_runs.specs.TypeAgreement.{PlaceHasType, StoreTyping}
 use Rattle.ob0_language_runs.specs.Runs.{Activation, ProcedureText}
@@ -114,27 +113,24 @@ place_name at by_place x n p =
       var_parameters_so_far = suc p.var_parameters_so_far;
     }
 
--- Adds the names of variables with one type to a placement. Each variable gets `n` cells.
-abbrev pub place_names : {N : Type 0} → (ℕ → Slot) → List N → ℕ → PlacementState N → PlacementState N
-place_names at [] n p = p
-place_names at (x ∷ xs) n p = place_names at xs n (place_name at by_value x n p)
+-- Adds the names of one declaration to a placement, one by one. `size_of` returns the number of
+-- cells of a name, and `at` converts the offset of a variable to its slot.
+abbrev pub place_each : {N : Type 0} → (ℕ → Slot) → (N → ℕ) → Mode → List N → PlacementState N
+    → PlacementState N
+place_each at size_of mode [] p = p
+place_each at size_of mode (x ∷ xs) p =
+    place_each at size_of mode xs (place_name at mode x (size_of x) p)
 
--- Adds the variables of a block to a placement. `k` is the number of words ARRAY and RECORD before
--- these variables. Returns None if the type expression of a variable denotes no type.
-unfoldable pub place_variables : {N : Type 0}
-    → Naming N
+-- adds the variables of a block to a placement, one by one
+abbrev pub place_variable_declarations : {N : Type 0}
     → (ℕ → Slot)
-    → TypeEnvironment N
-    → ℕ
+    → (N → ℕ)
     → Tree N (items variable)
     → PlacementState N
-    → Option (PlacementState N)
-unfolding denoted_type
-place_variables naming at checked k end p = Some p
-place_variables naming at checked k (more (declares_variable ns u) gs) p =
-    option_and_then (λ s. place_variables naming at
-    (bind_names (names_in_list ns) (a_variable s) checked) (k + constructor_count u) gs
-    (place_names at (names_in_list ns) (size s) p)) (denoted_type (meanings naming checked) k u)
+    → PlacementState N
+place_variable_declarations at size_of end p = p
+place_variable_declarations at size_of (more (declares_variable ns u) gs) p =
+    place_variable_declarations at size_of gs (place_each at size_of by_value (names_in_list ns) p)
 
 -- Adds the parameters of a procedure to a placement, one by one.
 abbrev pub place_parameters : {N : Type 0} → List (TypedParameter N) → PlacementState N → PlacementState N
@@ -147,6 +143,26 @@ place_parameters (q ∷ ps) p =
 abbrev pub bind_without_place : {N : Type 0} → List N → Placement N → Placement N
 bind_without_place [] placement = placement
 bind_without_place (x ∷ xs) placement = bind_without_place xs ((x, nowhere) ∷ placement)
+
+-- Adds the names that a block declares to a placement, except the names of its procedures.
+abbrev pub place_declarations : {N : Type 0} → (ℕ → Slot) → (N → ℕ) → Tree N block → PlacementState N
+    → PlacementState N
+place_declarations at size_of b p =
+    place_variable_declarations at size_of (block_variables b) record p {
+      placement
+          = bind_without_place (declared_type_names (block_types b))
+          (bind_without_place (constant_names (block_constants b)) p.placement);
+    }
+
+-- States that an object is a variable of `n` cells, or no variable.
+abbrev pub HasSize : ℕ → Object Shape Signature → Type 0
+HasSize n (a_variable s) = n ≡ size s
+HasSize n other = Unit {0}
+
+-- States that `size_of` returns the number of cells of each variable in an environment.
+abbrev pub AreSized : {N : Type 0} → (N → ℕ) → TypeEnvironment N → Type 0
+AreSized size_of [] = Unit {0}
+AreSized size_of (b ∷ env) = HasSize (size_of b.0) b.1 × AreSized size_of env
 
 -- returns the target of the procedure with this index, as seen from the activation in which the
 -- procedure is declared
@@ -198,26 +214,21 @@ pub record HasRoutine {N : Type 0} (table : RoutineTable N) (checked : TypeEnvir
       (parameter_placement parameters ((x, local_target index) ∷ placement)) routine
 
 -- Runs 1 and 6: states that the variables of a block have `cells` cells, which follow the cells of
--- `p`. `Inside` is the fact that has to hold for the procedures and statements of the block, in the
--- environment and the placement that include the block's declarations.
+-- `p`. `size_of` returns the number of cells of each variable. `Inside` is the fact that has to hold
+-- for the procedures and statements of the block, in the environment and the placement that include
+-- the block's declarations.
 pub record BlockIsPlaced {N : Type 0} (table : RoutineTable N) (at : ℕ → Slot)
     (checked : TypeEnvironment N) (p : PlacementState N) (k cells : ℕ) (b : Tree N block)
     (Inside : TypeEnvironment N → Placement N → Type 0) : Type 0 where
   pub first : TypeEnvironment N
   pub inner : TypeEnvironment N
-  pub placed : PlacementState N
+  pub size_of : N → ℕ
   pub first_declared : declare_constants_and_types table.naming checked k b ≡ Some first
   pub variables_declared : declare_typed_variables table.naming (constructors_before_variables k b) (block_variables b) first
       ≡ Some inner
-  pub variables_placed : place_variables table.naming at first (constructors_before_variables k b)
-      (block_variables b) record p {
-        placement
-            = bind_without_place (declared_type_names (block_types b))
-            (bind_without_place (constant_names (block_constants b)) p.placement);
-      }
-      ≡ Some placed
-  pub cells_counted : p.cells + cells ≡ placed.cells
-  pub inside : Inside inner placed.placement
+  pub are_sized : AreSized size_of inner
+  pub cells_counted : p.cells + cells ≡ (place_declarations at size_of b p).cells
+  pub inside : Inside inner (place_declarations at size_of b p).placement
 
 -- States that code is correct for a block, for its procedures, and for the procedures inside them.
 -- `cells` is the number of cells of the variables that the block declares outside its procedures.

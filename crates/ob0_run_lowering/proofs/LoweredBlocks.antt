@@ -29,7 +29,7 @@ use Rattle.ob0_run_machine.specs.Lowered as lowered
 use Rattle.ob0_run_machine.specs.View.{procedure_of, program_of, sequence_of}
 use Rattle.ob0_run_machine.specs.declared.code.Routine.{Routine}
 use Rattle.ob0_run_machine.specs.declared.code.LoweredCode.{LoweredCode}
-use Rattle.ob0_run_cells.specs.Activations.{CodeMeansBlock, PlacementState, Placement, RoutinesMeanProcedures, ProgramMeans, at_target, parameter_placement, bind_without_place, inward_placement, label_table, outermost_placement, local_target, place_parameters, place_variables}
+use Rattle.ob0_run_cells.specs.Activations.{CodeMeansBlock, PlacementState, Placement, RoutinesMeanProcedures, ProgramMeans, at_target, parameter_placement, bind_without_place, inward_placement, label_table, outermost_placement, local_target, place_parameters}
 use Rattle.ob0_run_cells.specs.Lowering.{in_activation, of_module}
 use Rattle.ob0_run_lowering.specs.LoweredBodies.{LowersBody}
 use Rattle.ob0_run_lowering.specs.Scenes.{place_seen_from, location_at}
@@ -42,7 +42,7 @@ use Rattle.ob0_run_lowering.specs.declared.programs.Lowering.{Lowering}
 use Rattle.ob0_run_lowering.specs.declared.visible_locations.Frame.{Frame}
 use Rattle.ob0_run_lowering.specs.declared.visible_locations.VisibleLocations.{VisibleLocations}
 use Rattle.ob0_run_lowering.proofs.DeclaredBlocks.{module-declared}
-use Rattle.ob0_run_lowering.proofs.Placings.{first_match, groups_match, groups_placed, holds_bound, holds_hidden, holds_inward, holds_same, matches_inward, parameters_match, sections_placed, sees, typed_before}
+use Rattle.ob0_run_lowering.proofs.Placings.{first_match, groups_match, holds_bound, holds_hidden, holds_inward, holds_same, matches_inward, parameters_match, sections_placed, sees, sizes_declared, typed_before}
 use Rattle.ob0_run_lowering.proofs.FollowingSites.{follows_back, follows_itself, follows_then}
 
 -- one after the other
@@ -224,10 +224,10 @@ block_lowers t w v inside cs ts vs ps statements f own scene entry places goes t
         means = λ table later. record {
           first = first;
           inner = inner;
-          placed = q;
+          size_of = declared_size t;
           first_declared = declared_parts.1;
           variables_declared = declared_parts.2;
-          variables_placed = groups_placed t at (section_variables vs) (constructors_before_variables k b) first inner start declared_parts.2 known_parts.0;
+          are_sized = sizes_declared t inner known_parts.0;
           cells_counted = omega (arith, cells, laid.cells, frame.cells, places.has_no_fewer_cells);
           inside = gone.composes_meaning table (sequence_of entry.body.items) later (lowers now.env now.placement seen (body-fits now.env now.next statements last.fits));
         };

@@ -13,7 +13,7 @@ use Rattle.ob0_language_types.specs.WellTyped.{Mode, Signature, TypeEnvironment,
 use Rattle.ob0_language_types.proofs.Literals.{some_inverse}
 use Rattle.ob0_language_types.proofs.TypedElsewhere.{then_some}
 use Rattle.ob0_language_values.specs.Values.{Shape}
-use Rattle.ob0_run_cells.specs.Activations.{PlacementState, Placement, BindingPlace, at_target, first_slot, first_target, suffix_from_name, bind_without_place, in_slot, inward_placement, inward_slot, inward_binding_place, nowhere, place_names, place_parameters, place_variables, slot_of, slot_in_placement, target_of, target_in_placement, place_name}
+use Rattle.ob0_run_cells.specs.Activations.{AreSized, HasSize, PlacementState, Placement, BindingPlace, at_target, first_slot, first_target, suffix_from_name, bind_without_place, in_slot, inward_placement, inward_slot, inward_binding_place, nowhere, place_parameters, slot_of, slot_in_placement, target_of, target_in_placement, place_name}
 use Rattle.ob0_run_cells.specs.Cells.{size}
 use Rattle.ob0_run_cells.specs.LoweredStatements.{Target}
 use Rattle.ob0_run_cells.specs.Lowering.{Slot, in_activation, by_reference}
@@ -161,19 +161,16 @@ first_match b k env first placement h m =
 
 -- names of one type
 
-pub names_before : (objects : ObjectByOrdinal) (xs : List Label) (o : Object Shape Signature) (env : TypeEnvironment Label) → AreDeclared objects (bind_names xs o env) → AreDeclared objects env
-names_before objects [] o env a = a
-names_before objects (x ∷ xs) o env a = (names_before objects xs o ((x, o) ∷ env) a).1
-
 one_size : (t : Tables) (x : Label) (s : Shape) → ((k : ℕ) × (x ≡ declared k) × (declared_object_in t k ≡ Some (a_variable s))) → declared_size t x ≡ size s
 one_size t x s f = ap (declared_size t) f.1 ∙ ap (λ o. optional_shape_size (type_of_object o)) f.2
 
-names_placed : (t : Tables) (at : ℕ → Slot) (xs : List Label) (s : Shape) (env : TypeEnvironment Label) (p : PlacementState Label) → AreDeclared (declared_object_in t) (bind_names xs (a_variable s) env) → place_names at xs (size s) p ≡ place_each at (declared_size t) by_value xs p
-names_placed t at [] s env p a = refl
-names_placed t at (x ∷ xs) s env p a =
-    let head = names_before (declared_object_in t) xs (a_variable s) ((x, a_variable s) ∷ env) a in
-    ap (λ n. place_names at xs (size s) (place_name at by_value x n p)) (sym (one_size t x s head.0))
-    ∙ names_placed t at xs s ((x, a_variable s) ∷ env) (place_name at by_value x (declared_size t x) p) a
+has_size : (t : Tables) (x : Label) (o : Object Shape Signature) → ((k : ℕ) × (x ≡ declared k) × (declared_object_in t k ≡ Some o)) → HasSize (declared_size t x) o
+has_size t x (a_variable s) f = one_size t x s f
+has_size t x _ f = tt
+
+pub sizes_declared : (t : Tables) (env : TypeEnvironment Label) → AreDeclared (declared_object_in t) env → AreSized (declared_size t) env
+sizes_declared t [] a = tt
+sizes_declared t (b ∷ env) a = (has_size t b.0 b.1 a.0, sizes_declared t env a.1)
 
 one_matches : (at : ℕ → Slot) (mode : Mode) (x : Label) (n : ℕ) (s : Shape) (env : TypeEnvironment Label) (p : PlacementState Label) → PlacementMatches env p.placement → PlacementMatches ((x, a_variable s) ∷ env) (place_name at mode x n p).placement
 one_matches at by_value x n s env p m = (refl, (at p.cells, refl), m)
@@ -184,24 +181,6 @@ names_match at size_of mode [] s env p m = m
 names_match at size_of mode (x ∷ xs) s env p m = names_match at size_of mode xs s ((x, a_variable s) ∷ env) (place_name at mode x (size_of x) p) (one_matches at mode x (size_of x) s env p m)
 
 -- the variables of a block
-
-groups_before : (objects : ObjectByOrdinal) (gs : Tree Label (items variable)) (k : ℕ) (env inner : TypeEnvironment Label) → declare_typed_variables naming_by_label k gs env ≡ Some inner → AreDeclared objects inner → AreDeclared objects env
-unfolding declare_typed_variables
-groups_before objects end k env inner h a = subst (AreDeclared objects) (sym (some_inverse h)) a
-groups_before objects (more (declares_variable ns u) gs) k env inner h a =
-    let f = then_some (denoted_type (meanings naming_by_label env) k u) (λ s. declare_typed_variables naming_by_label (k + constructor_count u) gs (bind_names (names_in_list ns) (a_variable s) env)) inner h in
-    names_before objects (names_in_list ns) (a_variable f.0) env (groups_before objects gs (k + constructor_count u) (bind_names (names_in_list ns) (a_variable f.0) env) inner f.2 a)
-
-pub groups_placed : (t : Tables) (at : ℕ → Slot) (gs : Tree Label (items variable)) (k : ℕ) (env inner : TypeEnvironment Label) (p : PlacementState Label) → declare_typed_variables naming_by_label k gs env ≡ Some inner → AreDeclared (declared_object_in t) inner
-    → place_variables naming_by_label at env k gs p ≡ Some (place_variable_declarations at (declared_size t) gs p)
-unfolding declare_typed_variables place_variables
-groups_placed t at end k env inner p h a = refl
-groups_placed t at (more (declares_variable ns u) gs) k env inner p h a =
-    let f = then_some (denoted_type (meanings naming_by_label env) k u) (λ s. declare_typed_variables naming_by_label (k + constructor_count u) gs (bind_names (names_in_list ns) (a_variable s) env)) inner h in
-    let env' : TypeEnvironment Label = bind_names (names_in_list ns) (a_variable f.0) env in
-    ap (option_and_then (λ s. place_variables naming_by_label at (bind_names (names_in_list ns) (a_variable s) env) (k + constructor_count u) gs (place_names at (names_in_list ns) (size s) p))) f.1
-    ∙ ap (place_variables naming_by_label at env' (k + constructor_count u) gs) (names_placed t at (names_in_list ns) f.0 env p (groups_before (declared_object_in t) gs (k + constructor_count u) env' inner f.2 a))
-    ∙ groups_placed t at gs (k + constructor_count u) env' inner (place_each at (declared_size t) by_value (names_in_list ns) p) f.2 a
 
 pub groups_match : (at : ℕ → Slot) (size_of : Label → ℕ) (gs : Tree Label (items variable)) (k : ℕ) (env inner : TypeEnvironment Label) (p : PlacementState Label) → declare_typed_variables naming_by_label k gs env ≡ Some inner → PlacementMatches env p.placement → PlacementMatches inner (place_variable_declarations at size_of gs p).placement
 unfolding declare_typed_variables

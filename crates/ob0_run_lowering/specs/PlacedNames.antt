@@ -4,21 +4,22 @@
 -- name has the number of levels out instead, as seen from one activation. Constants and types need
 -- no code, so their place is `nowhere`, and `LocationsMatchPlacement` claims nothing about them.
 -- `place_variable_declarations` and `place_sections` depend only on names and their sizes, so loops
--- over names need no types or environments. The lemmas `groups_placed` and `sections_placed` show
+-- over names need no types or environments. The lemmas `sizes_declared` and `sections_placed` show
 -- that these sizes are the sizes of the declared types, if the declarations are well-typed. A frame
 -- (`Frame`: depth, cells, VAR parameters) has the counts of a placement so far, without its names
 -- (`FrameMatchesPlacement`).
 -- Rule: none; used in contracts of lowering.
 use Rattle.std.specs.Prelude.{◌≡◌, ℕ, zero, suc, ◌≤◌, List, [], ◌∷◌, ◌++◌, length, if◌then◌else◌, ◌==◌, Some, None, Option}
-use Rattle.ob0_tree.specs.Tree.{Tree, declares_variable, end, further_section, items, more, then_section, variable}
+use Rattle.ob0_tree.specs.Tree.{Tree, end, further_section, items, more, then_section}
 use Rattle.ob0_language_names.specs.Names.{Label, naming_by_label, declared}
-use Rattle.ob0_language_names.specs.Parts.{names_in_list, section_names}
+use Rattle.ob0_language_names.specs.Parts.{section_names}
 use Rattle.ob0_types_table.specs.KnownTables.{Tables}
 use Rattle.ob0_language_types.specs.Expressions.{Object, a_procedure, a_variable}
 use Rattle.ob0_language_types.specs.Typing.{type_of_object}
-use Rattle.ob0_language_types.specs.WellTyped.{Mode, Signature, TypeEnvironment, by_value, section_mode}
+use Rattle.ob0_language_types.specs.WellTyped.{Signature, TypeEnvironment, section_mode}
 use Rattle.ob0_language_values.specs.Values.{Shape}
-use Rattle.ob0_run_cells.specs.Activations.{PlacementState, Placement, BindingPlace, at_target, suffix_from_name, in_slot, nowhere, place_name}
+use Rattle.ob0_run_cells.specs.Activations.{PlacementState, Placement, BindingPlace, at_target, suffix_from_name, in_slot, nowhere}
+pub use Rattle.ob0_run_cells.specs.Activations.{place_each, place_variable_declarations}
 use Rattle.ob0_run_cells.specs.Cells.{size}
 use Rattle.ob0_run_cells.specs.LoweredStatements.{Target}
 use Rattle.ob0_run_cells.specs.Lowering.{Slot, in_activation, of_module}
@@ -93,23 +94,6 @@ variable_slot (suc depth) = in_activation 0
 abbrev pub IsLocationOfNextVariable : Frame → LoweredLocation → Type 0
 IsLocationOfNextVariable f s =
     (depth_of_location s ≤ f.depth) × (place_seen_from f.depth s ≡ in_slot (variable_slot f.depth f.cells))
-
--- Adds the names of one declaration to a placement, one by one. `size_of` returns the number of
--- cells of a name, and `at` converts the offset of a variable to its slot.
-abbrev pub place_each : (ℕ → Slot) → (Label → ℕ) → Mode → List Label → PlacementState Label → PlacementState Label
-place_each at size_of mode [] p = p
-place_each at size_of mode (x ∷ xs) p =
-    place_each at size_of mode xs (place_name at mode x (size_of x) p)
-
--- adds the variables of a block to a placement, one by one
-abbrev pub place_variable_declarations : (ℕ → Slot)
-    → (Label → ℕ)
-    → Tree Label (items variable)
-    → PlacementState Label
-    → PlacementState Label
-place_variable_declarations at size_of end p = p
-place_variable_declarations at size_of (more (declares_variable ns u) gs) p =
-    place_variable_declarations at size_of gs (place_each at size_of by_value (names_in_list ns) p)
 
 -- adds the parameters of a heading to a placement, one by one
 abbrev pub place_sections : (ℕ → Slot)
