@@ -67,9 +67,12 @@ module _ {N : Type 0} (table : RoutineTable N) where
   body-represents c t known typing ls checked placement active env placed few code none means low s h = subst (λ code. ProgressRepresents typing (execution.execute_sequence (execution.call table.routines c t) t ls code low) (running s)) (sym means) h
   body-represents c t known typing ls checked placement active env placed few code (one (begins statements)) means low s h =
       means (body_of c t typing ls active) record {
-        names_fit = (names-fit table.naming typing checked active env, λ x. refl);
-        variables_in_slots = λ x p e. slots-fit table typing ls (environment_from_binding table.naming checked x) (suffix_from_name table.naming placement x) (environment_from_binding table.naming active x) (from-placed table typing ls checked placement active x placed) p e;
-        store_is_addressable = few;
+        is_moment = λ store fits. record {
+          store_fits = fits;
+          names_fit = (names-fit table.naming typing checked active env, λ x. refl);
+          variables_in_slots = λ x p e. slots-fit table typing ls (environment_from_binding table.naming checked x) (suffix_from_name table.naming placement x) (environment_from_binding table.naming active x) (from-placed table typing ls checked placement active x placed) p e;
+          store_is_addressable = few;
+        };
         calls_represent = known typing ls checked placement active env placed;
       } t low s h
 

@@ -14,11 +14,11 @@ use Rattle.ob0_run_machine.specs.Evaluation as machine
 use Rattle.ob0_run_machine.specs.Execution as execution
 use Rattle.ob0_run_machine.specs.Lowered as lowered
 use Rattle.ob0_run_cells.specs.Cells.{address, all_cells, cells_of, size, store_size}
-use Rattle.ob0_run_cells.specs.LoweredStatements.{CodeMeansArgument, CodeMeansArguments, Body, ProgressRepresents, Represents, IsBodyOfModule, CodeMeansStatement, Target, argument_addresses, argument_cells}
+use Rattle.ob0_run_cells.specs.LoweredStatements.{CodeMeansArgument, CodeMeansArguments, Body, ProgressRepresents, Represents, IsBodyOfModule, CodeMeansStatement, Target, argument_addresses, argument_cells, moment}
 use Rattle.ob0_run_cells.specs.Lowering.{Slot, end_of, outcome_of, place_of_designator, value_of_expression}
 use Rattle.ob0_run_cells.proofs.LoweredOutcomes.{Led, ended-same, given-same, grouped-then}
 use Rattle.ob0_run_cells.proofs.Places.{HoldsSlice, places_are_slices, store-size}
-use Rattle.ob0_run_cells.proofs.Represented.{as_cell-same, moment, moment-shown, number-in, place-in, truth-in}
+use Rattle.ob0_run_cells.proofs.Represented.{as_cell-same, number-in, place-in, truth-in}
 
 -- both give what is related, or both end alike
 abbrev pub Both : {A B : Type 0} → (A → B → Type 0) → machine.StepResult A → Outcome B → Type 0
@@ -41,13 +41,9 @@ both-led typing shape (machine.gives a) (succeeds_with p) h = (given-same a (add
 both-led typing shape (machine.ends x) (ends_run_with y) h = ended-same (end_of x) y h.is_same
 both-led typing shape _ _ h = let e = h.is_same in absurd (cc)
 
-pub both-number : (o : machine.StepResult ℤ) (w : Outcome Value) → outcome_of number o ≡ w → Both (λ n v. number n ≡ v) o w
-both-number (machine.gives n) w e = subst (λ w. Both (λ n v. number n ≡ v) (machine.gives n) w) e refl
-both-number (machine.ends x) w e = subst (λ w. Both (λ n v. number n ≡ v) (machine.ends x) w) e refl
-
-pub both-truth : (o : machine.StepResult Bool) (w : Outcome Value) → outcome_of truth o ≡ w → Both (λ b v. truth b ≡ v) o w
-both-truth (machine.gives b) w e = subst (λ w. Both (λ b v. truth b ≡ v) (machine.gives b) w) e refl
-both-truth (machine.ends x) w e = subst (λ w. Both (λ b v. truth b ≡ v) (machine.ends x) w) e refl
+pub both-same : {A B : Type 0} (f : A → B) (o : machine.StepResult A) (w : Outcome B) → outcome_of f o ≡ w → Both (λ a b. f a ≡ b) o w
+both-same f (machine.gives a) w e = subst (λ w. Both (λ a b. f a ≡ b) (machine.gives a) w) e refl
+both-same f (machine.ends x) w e = subst (λ w. Both (λ a b. f a ≡ b) (machine.ends x) w) e refl
 
 pub use-both : {A B : Type 0} (typing : StoreTyping) (R : A → B → Type 0) (low : execution.MachineState) (s : State) (o : machine.StepResult A) (w : Outcome B) (k : A → execution.MachineProgress) (j : B → Progress) → Represents typing low s → Both R o w
     → ((a : A) (b : B) → R a b → ProgressRepresents typing (k a) (j b)) → ProgressRepresents typing (execution.use_result low o k) (use_result s w j)
@@ -100,7 +96,7 @@ module _ {N : Type 0} (checked : TypeMeanings N) (slots : N → Slot) (targets :
       let is = number-in checked slots targets b shown n (value_of_expression e) h.2 low s represents in
       subst (λ m. Both (λ p a. Passes b.typing (f ∷ []) done p (a ∷ [])) (execution.pass_argument b.levels low.cells (lowered.by_number n) done) (evaluate_argument b.active s.store m e)) (sym h.0)
       (both-then (λ n v. number n ≡ v) (λ p a. Passes b.typing (f ∷ []) done p (a ∷ [])) (machine.number b.levels low.cells n) (evaluate b.active s.store e) (λ a. machine.gives (execution.pass_cells done (a ∷ []))) (λ v. succeeds_with (value_argument v))
-      (both-number (machine.number b.levels low.cells n) (evaluate b.active s.store e) is)
+      (both-same number (machine.number b.levels low.cells n) (evaluate b.active s.store e) is)
       (λ a v r. record {
         arguments_match = (h.0, subst (λ v. HasShape v f.shape) r (subst (λ s. HasShape (number a) s) (sym h.1) tt), tt);
         cells_passed = ap (λ v. done.cells ++ (cells_of v ++ [])) r;
@@ -109,7 +105,7 @@ module _ {N : Type 0} (checked : TypeMeanings N) (slots : N → Slot) (targets :
   argument-passed f (lowered.by_truth t) e h done =
       subst (λ m. Both (λ p a. Passes b.typing (f ∷ []) done p (a ∷ [])) (execution.pass_argument b.levels low.cells (lowered.by_truth t) done) (evaluate_argument b.active s.store m e)) (sym h.0)
       (both-then (λ b v. truth b ≡ v) (λ p a. Passes b.typing (f ∷ []) done p (a ∷ [])) (machine.truth b.levels low.cells t) (evaluate b.active s.store e) (λ a. machine.gives (execution.pass_cells done (machine.as_cell a ∷ []))) (λ v. succeeds_with (value_argument v))
-      (both-truth (machine.truth b.levels low.cells t) (evaluate b.active s.store e) (truth-in checked slots targets b shown t (value_of_expression e) h.2 low s represents))
+      (both-same truth (machine.truth b.levels low.cells t) (evaluate b.active s.store e) (truth-in checked slots targets b shown t (value_of_expression e) h.2 low s represents))
       (λ a v r. record {
         arguments_match = (h.0, subst (λ v. HasShape v f.shape) r (subst (λ s. HasShape (truth a) s) (sym h.1) tt), tt);
         cells_passed = ap (λ n. done.cells ++ n ∷ []) (as_cell-same a) ∙ ap (λ v. done.cells ++ (cells_of v ++ [])) r;
@@ -118,7 +114,7 @@ module _ {N : Type 0} (checked : TypeMeanings N) (slots : N → Slot) (targets :
   argument-passed f (lowered.by_block q n) e h done =
       let (place, hq, reads_it) = h.2 in
       let here = moment b s.store in
-      let value : evaluate b.active s.store e ≡ (place here >>= (λ p. or_stuck (read_place s.store p))) = reads_it here (moment-shown checked slots targets b shown s.store represents.store_fits) in
+      let value : evaluate b.active s.store e ≡ (place here >>= (λ p. or_stuck (read_place s.store p))) = reads_it here (shown.is_moment s.store represents.store_fits) in
       subst (λ m. Both (λ p a. Passes b.typing (f ∷ []) done p (a ∷ [])) (execution.pass_argument b.levels low.cells (lowered.by_block q n) done) (evaluate_argument b.active s.store m e)) (sym h.0)
       (subst (λ w. Both (λ p a. Passes b.typing (f ∷ []) done p (a ∷ [])) (execution.pass_argument b.levels low.cells (lowered.by_block q n) done) (w >>= (λ v. succeeds_with (value_argument v)))) (sym value)
       (subst (λ w. Both (λ p a. Passes b.typing (f ∷ []) done p (a ∷ [])) (execution.pass_argument b.levels low.cells (lowered.by_block q n) done) w) (sym (grouped-then (place here) (λ p. or_stuck (read_place s.store p)) (λ v. succeeds_with (value_argument v))))
@@ -155,7 +151,7 @@ pub call-means : {N : Type 0} (checked : TypeMeanings N) (slots : N → Slot) (t
     → CodeMeansStatement checked slots targets (lowered.calls (targets x).procedure (targets x).up cs) (calls x es)
 unfolding execution.execute execute
 call-means {N} checked slots targets x es signature cs st ha b shown t low s h =
-    let is_bound : b.active.object_for x ≡ Some (a_procedure (signature_modes signature)) = procedure-is b.typing signature (b.active.object_for x) (subst (λ o. RunObjectAgrees b.typing o (b.active.object_for x)) st (shown.names_fit.0 x)) in
+    let is_bound : b.active.object_for x ≡ Some (a_procedure (signature_modes signature)) = procedure-is b.typing signature (b.active.object_for x) (subst (λ o. RunObjectAgrees b.typing o (b.active.object_for x)) st ((shown.is_moment s.store h.store_fits).names_fit.0 x)) in
     let enter = λ (p : execution.CallArguments). b.lowered_call_effect (targets x).procedure (execution.levels_in_call b.levels (length low.cells) (targets x).up p) (record low { cells = p.cells }) in
     let start : execution.CallArguments = record { cells = low.cells; addresses = [] } in
     subst (λ o. ProgressRepresents b.typing (execution.use_result low (execution.pass_all b.levels low.cells cs start) enter) (use_result s (modes_of o >>= (λ modes. evaluate_arguments b.active s.store modes (arguments_listed es))) (λ args. perform_call o (b.enters x) args s))) (sym is_bound)

@@ -9,7 +9,7 @@ use Rattle.ob0_run_machine.specs.Evaluation as machine
 use Rattle.ob0_run_machine.specs.Execution as execution
 use Rattle.ob0_run_machine.specs.Lowered as lowered
 use Rattle.ob0_run_cells.specs.Cells.{address, all_cells, truth_cell}
-use Rattle.ob0_run_cells.specs.LoweredStatements.{Body, ProgressRepresents, Represents, IsBodyOfModule, Target, printed_item_of}
+use Rattle.ob0_run_cells.specs.LoweredStatements.{Body, ProgressRepresents, Represents, IsBodyOfModule, Target, moment, printed_item_of}
 use Rattle.ob0_run_cells.specs.Lowering.{OutcomeByMoment, Moment, NumberMeans, PlaceMeans, IsMomentOfModule, Slot, TruthMeans, end_of, outcome_of}
 use Rattle.ob0_run_cells.proofs.LoweredOutcomes.{Led, ended-same, given-same}
 use Rattle.ob0_run_cells.proofs.Places.{numbers_are_cells, truths_are_cells}
@@ -111,30 +111,19 @@ put-represents typing low s i h = record {
   same_output = map-append printed_item_of low.output (i ∷ []) ∙ ap (λ l. l ++ printed_item_of i ∷ []) h.same_output;
 }
 
--- moments of a body
-
-abbrev pub moment : {N : Type 0} → Body N → Store → Moment N
-moment b store = record { typing = b.typing; store = store; active = b.active; levels = b.levels }
+-- evaluations at a moment of a body
 
 module _ {N : Type 0} (checked : TypeMeanings N) (slots : N → Slot) (targets : N → Target) (b : Body N) (shown : IsBodyOfModule checked slots targets b) where
-  pub moment-shown : (store : Store) → StoreHasTypes b.typing store → IsMomentOfModule checked slots (moment b store)
-  moment-shown store fits = record {
-    store_fits = fits;
-    names_fit = shown.names_fit;
-    variables_in_slots = shown.variables_in_slots;
-    store_is_addressable = shown.store_is_addressable;
-  }
-
   pub number-in : (n : lowered.Number) (w : OutcomeByMoment N Value) → NumberMeans checked slots n w → (low : execution.MachineState) (s : State) → Represents b.typing low s
       → outcome_of number (machine.number b.levels low.cells n) ≡ w (moment b s.store)
   number-in n w hn low s h =
-      subst (λ l. outcome_of number (machine.number b.levels l n) ≡ w (moment b s.store)) (sym h.same_cells) (hn (moment b s.store) (moment-shown s.store h.store_fits))
+      subst (λ l. outcome_of number (machine.number b.levels l n) ≡ w (moment b s.store)) (sym h.same_cells) (hn (moment b s.store) (shown.is_moment s.store h.store_fits))
 
   pub truth-in : (t : lowered.Truth) (w : OutcomeByMoment N Value) → TruthMeans checked slots t w → (low : execution.MachineState) (s : State) → Represents b.typing low s → outcome_of truth (machine.truth b.levels low.cells t) ≡ w (moment b s.store)
   truth-in t w ht low s h =
-      subst (λ l. outcome_of truth (machine.truth b.levels l t) ≡ w (moment b s.store)) (sym h.same_cells) (ht (moment b s.store) (moment-shown s.store h.store_fits))
+      subst (λ l. outcome_of truth (machine.truth b.levels l t) ≡ w (moment b s.store)) (sym h.same_cells) (ht (moment b s.store) (shown.is_moment s.store h.store_fits))
 
   pub place-in : (q : lowered.Place) (shape : Shape) (w : OutcomeByMoment N Place) → PlaceMeans checked slots q shape w → (low : execution.MachineState) (s : State) → Represents b.typing low s → Led b.typing shape (machine.address b.levels low.cells q) (w (moment b s.store))
   place-in q shape w hq low s h =
-      let m = hq (moment b s.store) (moment-shown s.store h.store_fits) in
+      let m = hq (moment b s.store) (shown.is_moment s.store h.store_fits) in
       subst (λ l. Led b.typing shape (machine.address b.levels l q) (w (moment b s.store))) (sym h.same_cells) record { is_same = m.0; is_place = m.1 }
