@@ -6,7 +6,6 @@ use Rattle.std.proofs.lemmas.Bool.{le-ltb}
 use Rattle.ob0_scan.specs.declared.lexeme.TokenKind.{TokenKind}
 use Rattle.ob0_scan.specs.declared.lexeme.TokenKind.TheVariants as kind
 use Rattle.ob0_scan.specs.declared.lexeme.ReservedWord.TheVariants as reserved
-use Rattle.ob0_scan.specs.declared.tokens.RescanInPlace.{RescanInPlace}
 use Rattle.ob0_scan.specs.declared.tokens.SameParts.{SameParts}
 use Rattle.ob0_scan.specs.Reused.{kinds, words_of_tokens}
 use Rattle.ob0_scan.specs.SameKinds.{HasSameKinds, HasSameWords}
@@ -32,12 +31,9 @@ use Rattle.ob0_scope_table.proofs.Moved.{moved_above, moved_below, out_cases}
 use Rattle.ob0_scope_table.specs.declared.one_body.BodyPlace.{BodyPlace}
 use Rattle.ob0_scope_table.specs.declared.resolved.Bindings.{Bindings}
 use Rattle.ob0_types.specs.NewBody.{WereTypesBeforeNewBody}
-use Rattle.ob0_types.specs.declared.checked.ModuleTypes.{ModuleTypes}
-use Rattle.ob0_analysis.specs.ReuseConditions.{WasModuleBeforeChange}
-use Rattle.ob0_analysis.specs.LastModule.{IsEarlierModule, IsLastModuleOf}
+use Rattle.ob0_analysis.specs.LastModule.{IsLastModuleOf}
 use Rattle.ob0_analysis.specs.NewBody.{IsSameBody}
 use Rattle.ob0_analysis.specs.declared.last_module.LastModule.{LastModule}
-use Rattle.ob0_analysis.specs.declared.fault_places.FaultPlaces.{FaultPlaces}
 use Rattle.ob0_analysis.proofs.Marked.{drop_marked, marked, moved_on, name_index, spelled_marked, take_marked}
 use Rattle.ob0_analysis.proofs.OneBody.{get_dropped, get_taken}
 use Rattle.ob0_analysis.proofs.NoBegin.{NoBegin, begin_mark, first_part, last_begin, no_begin}
@@ -256,19 +252,6 @@ body_replaced old new s old_scan new_scan old_parsed new_parsed tokens written p
     }
 
 -- ---- the reused results
-
--- If the previous text was a module, `IsEarlierModule` holds for it; all other facts about it are dropped.
-abbrev pub had_module : (c : RescanInPlace) (tree : ModuleTree) (b : Bindings) (types : ModuleTypes) (places : FaultPlaces) → WasModuleBeforeChange c tree b types places → IsEarlierModule c.rescan.tokens tree b types c.same
-had_module c tree b types places h = record {
-  old = h.old;
-  old_scan = h.old_scan;
-  new_scan = h.new_scan;
-  parsed = h.was.parsed;
-  resolved = h.was.resolved;
-  types_are = h.was.types_are;
-  same = h.same;
-  written = h.written;
-}
 
 module _ (new : TextWithTokens) (tree : ModuleTree) (last : LastModule) (now : Option BodyPlace) (h : IsLastModuleOf new last) (placed : now ≡ body_place_of_range last.same.prefix last.same.new_suffix (module_tree_of tree)) (parsed : IsParsed (parsed_module new tree)) (one_body : IsSameBody last.place now last.same) where
   abbrev before_it : ParsedModule

@@ -1,7 +1,7 @@
 -- States the conditions under which the analysis of a changed text may reuse results for the
 -- previous text.
 -- Rule: none; used in private contracts about the results that an analysis reuses.
-use Rattle.std.specs.Prelude.{◌≡◌, ◌==◌, ℕ, true, IfSome, List, Option, map}
+use Rattle.std.specs.Prelude.{◌≡◌, ℕ, true, IfSome, List, Option}
 use Rattle.ob0_scan.specs.Refused.{AreFaults}
 use Rattle.ob0_scan.specs.Reused.{kinds, names_in, words_of_tokens}
 use Rattle.ob0_scan.specs.SameKinds.{HasSameKinds, HasSameWords}
@@ -12,9 +12,7 @@ use Rattle.ob0_scan.specs.declared.tokens.RescanInPlace.{RescanInPlace}
 use Rattle.ob0_tree.specs.declared.tree.ModuleTree.{ModuleTree}
 use Rattle.ob0_tree.specs.ParsedModule.{IsParsed, parsed_module}
 use Rattle.ob0_scope_table.specs.Bindings.{resolution_with}
-use Rattle.ob0_scope_table.specs.FaultTokens.{AreWrittenAlike, fault_at, first_token_start, fault_by_tokens}
 use Rattle.ob0_scope_table.specs.Resolution.{IsResolution}
-use Rattle.ob0_scope_table.specs.declared.fault_tokens.FaultByTokens.{FaultByTokens}
 use Rattle.ob0_scope_table.specs.declared.resolved.Bindings.{Bindings}
 use Rattle.ob0_parse.specs.KeptTokens.{AreInPlace}
 use Rattle.ob0_parse.specs.declared.kept.KeptTrees.{KeptTrees}
@@ -22,9 +20,8 @@ use Rattle.ob0_parse_descent.specs.declared.refusal.ParseRefusal.{ParseRefusal}
 use Rattle.ob0_types.specs.CheckedModules.{AreTypesOf}
 use Rattle.ob0_types.specs.declared.checked.ModuleTypes.{ModuleTypes}
 use Rattle.ob0_analysis.specs.AnalysisInvariants.{IsRefusedByParser}
-use Rattle.ob0_analysis.specs.LastModule.{IsLastModuleOf}
+use Rattle.ob0_analysis.specs.LastModule.{IsEarlierModule, IsLastModuleOf}
 use Rattle.ob0_analysis.specs.declared.last_module.LastModule.{LastModule}
-use Rattle.ob0_analysis.specs.declared.fault_places.FaultPlaces.{FaultPlaces}
 
 -- States that the results kept for a previous text `old` are right:
 -- - The scan `c` of the changed text reports correctly which tokens both texts share.
@@ -40,74 +37,19 @@ pub record AreKeptResultsBeforeChange (c : RescanInPlace) (kept_trees : KeptTree
   pub same_kinds : c.same_kinds ≡ true → AreInPlace c.rescan.tokens.tokens kept_trees
   pub was : IfSome last (IsLastModuleOf old)
 
--- States that `places` has the faults of a module's names (`b.faults`) and types (`types.faults`), each
--- with the indexes of its first and last token instead of its span. `starts_with_token` must be true
--- exactly if the first token starts at byte 0 or the text has no tokens.
-pub record AreFaultPlacesOf
-    (source : TextWithTokens) (b : Bindings) (types : ModuleTypes) (places : FaultPlaces) : Type 0 where
-  pub names : places.names.items ≡ map (fault_by_tokens source.tokens) b.faults.items
-  pub of_types : places.types.items ≡ map (fault_by_tokens source.tokens) types.faults.items
-  pub front : places.starts_with_token ≡ (first_token_start source == 0)
-
--- States that the bindings `c` equal `b`, except for their faults. The faults of `c` have the codes
--- and tokens in `places`, and their spans are computed from these tokens of the text `source`.
-pub record HasSameBindingsWithFaultsAt
-    (source : TextWithTokens) (b : Bindings) (places : List FaultByTokens) (c : Bindings) : Type 0 where
-  pub ordinals : c.ordinals.items ≡ b.ordinals.items
-  pub declaration_tokens : c.declaration_tokens.items ≡ b.declaration_tokens.items
-  pub occurrences : c.occurrences.items ≡ b.occurrences.items
-  pub faults : c.faults.items ≡ map (fault_at source) places
-
--- States that `moved` equals `types`, except for the faults. The faults of `moved` have the codes
--- and tokens in `places`, and their spans are computed from these tokens of the text `source`.
-pub record HasSameTypesWithFaultsAt
-    (source : TextWithTokens) (types : ModuleTypes) (places : List FaultByTokens) (moved : ModuleTypes)
-    : Type 0 where
-  pub known : moved.known ≡ types.known
-  pub fields : moved.fields ≡ types.fields
-  pub bodies_with_faults : moved.bodies_with_faults ≡ types.bodies_with_faults
-  pub faults : moved.faults.items ≡ map (fault_at source) places
-
--- States that the text `source` is a module with this tree, these bindings and this result of
--- checking its types. `places` must have the module's faults with their first and last tokens.
-pub record IsModuleWithFaultPlaces
-    (source : TextWithTokens) (tree : ModuleTree) (b : Bindings) (types : ModuleTypes)
-    (places : FaultPlaces) : Type 0 where
-  pub parsed : IsParsed (parsed_module source tree)
-  pub resolved : IsResolution (resolution_with (parsed_module source tree) b)
-  pub types_are : AreTypesOf (resolution_with (parsed_module source tree) b) types
-  pub places_are : AreFaultPlacesOf source b types places
-
--- States that the previous text (`old`) was a module with this tree, these bindings and this result of
--- checking its types, and that `places` has its faults with their first and last tokens. The scan `c` of
--- the changed text must be right about the tokens that both texts share. If `c` reports that all kinds,
--- all names or all spellings are the same, `c` must also be right about that.
+-- States that the previous text was a module with this tree, these bindings and this result of checking
+-- its types. The scan `c` of the changed text must be right about the tokens that both texts share. If
+-- `c` reports that all kinds, all names or all spellings are the same, `c` must also be right about that.
 pub record WasModuleBeforeChange
-    (c : RescanInPlace) (tree : ModuleTree) (b : Bindings) (types : ModuleTypes)
-    (places : FaultPlaces) : Type 0 where
-  pub old : TextWithTokens
-  pub was : IsModuleWithFaultPlaces old tree b types places
-  pub old_scan : IsScan old
-  pub new_scan : IsScan c.rescan.tokens
-  pub same : HasSameKinds c.same old.tokens c.rescan.tokens.tokens
-  pub written : HasSameWords c.same old c.rescan.tokens
-  pub same_kinds : c.same_kinds ≡ true → kinds c.rescan.tokens.tokens ≡ kinds old.tokens
+    (c : RescanInPlace) (tree : ModuleTree) (b : Bindings) (types : ModuleTypes) : Type 0 where
+  pub earlier_module : IsEarlierModule c.rescan.tokens tree b types c.same
+  pub same_kinds : c.same_kinds ≡ true → kinds c.rescan.tokens.tokens ≡ kinds earlier_module.old.tokens
   pub same_names : c.same_names ≡ true
-      → names_in c.rescan.tokens.text c.rescan.tokens.tokens ≡ names_in old.text old.tokens
+      → names_in c.rescan.tokens.text c.rescan.tokens.tokens
+      ≡ names_in earlier_module.old.text earlier_module.old.tokens
   pub same_words : c.same_words ≡ true
-      → words_of_tokens c.rescan.tokens.text c.rescan.tokens.tokens ≡ words_of_tokens old.text old.tokens
-
--- States that the previous text (`old`) was a module with this tree, these bindings and this result of
--- checking its types, and that `places` has its faults with their first and last tokens. The tokens of
--- the previous text must have the same spellings as the tokens of `new`, and both texts must begin with a
--- token, or neither (`AreWrittenAlike`). The tree must also be the tree of `new`.
-pub record IsModuleWithSameSpelling
-    (new : TextWithTokens) (tree : ModuleTree) (b : Bindings) (types : ModuleTypes) (places : FaultPlaces)
-    : Type 0 where
-  pub old : TextWithTokens
-  pub was : IsModuleWithFaultPlaces old tree b types places
-  pub texts_alike : AreWrittenAlike old new
-  pub parsed : IsParsed (parsed_module new tree)
+      → words_of_tokens c.rescan.tokens.text c.rescan.tokens.tokens
+      ≡ words_of_tokens earlier_module.old.text earlier_module.old.tokens
 
 -- States that a failed scan of the changed text is right, if the parser refused the previous text.
 -- If the changed text has lexical faults, the scan returns these faults and the previous text's

@@ -31,12 +31,10 @@
 //!   the parser refuses. Meanwhile the results for the earlier module are kept (`last_module.rt`).
 //!
 //! If all tokens have the same spelling (`words_of_tokens`), for example after a change of blanks,
-//! line endings or comments, everything is kept (`reanalyse_with_same_spellings`). The tree has the
-//! same names and numbers, and each fault is at the same tokens (`bindings_move_with_tokens` of
-//! `ob0_scope`, `types_depend_on_tokens` of `ob0_types`). Faults are stored with spans. So the
-//! tokens of each fault are found by binary search before the scan, and the spans are computed
-//! again after the scan (`FaultPlaces`). A fault without tokens is at the text's start. So
-//! everything is kept only if both texts begin with a token, or neither does (`AreWrittenAlike`).
+//! line endings or comments, everything is kept. The tree has the same names and numbers, and the
+//! kept faults are at tokens (`bindings_depend_on_spellings` of `ob0_scope`,
+//! `types_depend_on_spellings` of `ob0_types`). Faults get their spans only when they are asked
+//! for.
 //!
 //! If a new text has lexical faults, all results for the last text that had lexemes are kept,
 //! because a failing scan returns the old tokens (`IsRightRescanRefusal`). The next successful scan

@@ -11,7 +11,7 @@ ghost use Rattle.ob0_scope_table.specs.Bindings.{resolution_with};
 ghost use Rattle.ob0_scope_table.specs.Resolution.{IsResolution};
 ghost use Rattle.ob0_parse.specs.KeptTokens.{AreInPlace};
 ghost use Rattle.ob0_analysis.specs.AnalysisInvariants.{IsValidOutcome, IsRefusedByParser, IsReanalysisFailure};
-ghost use Rattle.ob0_analysis.specs.ReuseConditions.{AreKeptResultsBeforeChange, WasModuleBeforeChange, IsFailureAfterModule, IsFailureAfterRefusal, IsModuleWithSameSpelling};
+ghost use Rattle.ob0_analysis.specs.ReuseConditions.{AreKeptResultsBeforeChange, WasModuleBeforeChange, IsFailureAfterModule, IsFailureAfterRefusal};
 ghost use Rattle.ob0_analysis.specs.LastModule.{IsEarlierModule, IsLastModuleOf};
 ghost use Rattle.ob0_analysis.specs.declared.scanned_text.ReanalysisFailure.TheVariants as reanalysis_failure;
 ghost use Rattle.ob0_analysis.specs.declared.scanned_text.ParseOutcome.TheVariants.{NoTree};
@@ -21,7 +21,6 @@ ghost use Rattle.ob0_types.specs.OneBody.{WereTypesBeforeChange};
 
 use crate::diagnoses::Diagnosis;
 use crate::differences::Difference;
-use crate::fault_places::{FaultPlaces, move_binding_faults, move_type_faults};
 use crate::last_module::LastModule;
 use crate::new_body::reuse_last_module;
 use crate::one_body::{differs_in_one_body, rebind_names, recheck_types};
@@ -31,11 +30,11 @@ use ob0_parse::{KeptTrees, reparse_tree};
 use ob0_parse_descent::ParseRefusal;
 use ob0_scan::laws::scan_is_unique;
 use ob0_scan::{Fault, RescanInPlace, RescanRefusal, SameParts, Tokens, rescan_in_place};
-use ob0_scope::laws::{bindings_depend_on_names, bindings_move_with_tokens};
+use ob0_scope::laws::{bindings_depend_on_names, bindings_depend_on_spellings};
 use ob0_scope_table::Bindings;
 use ob0_tree::ModuleTree;
 use ob0_types::ModuleTypes;
-use ob0_types::laws::types_depend_on_tokens;
+use ob0_types::laws::types_depend_on_spellings;
 use std::alloc::{AllocError, Global};
 use std::marker::Model;
 
@@ -154,7 +153,7 @@ impl ScannedText {
     /// - if all tokens have the same kinds as before, the tree or the parser's refusal;
     /// - if also all identifiers have the same spelling and no name has a fault, the bindings;
     /// - if all differences lie in one body, the bindings and types outside this body;
-    /// - if all tokens have the same spelling, everything, with the faults at the same tokens.
+    /// - if all tokens have the same spelling, everything.
     ///
     /// If the new text has lexical faults, the error has these faults and the analysis of the
     /// previous text.
@@ -274,12 +273,11 @@ impl ScannedText {
         ensures err { IfErr result (IsReanalysisFailure text.now) }
     {
         let (tokens, tree, bindings, types) = old.into_parts();
-        let places = FaultPlaces::from_faults(alloc, &tokens, &bindings, &types)?;
         // The proof needs the invariant of the tokens, which this call's contract states.
         let _text = tokens.text();
         match rescan_text(alloc, tokens, text) {
             Ok(changed) => Ok(ScannedText::reanalyse_module(
-                alloc, changed, tree, bindings, types, places,
+                alloc, changed, tree, bindings, types,
             )?),
             Err(unread) => Err(ScannedText::failure_after_module(
                 text, unread, tree, bindings, types,
@@ -309,20 +307,21 @@ impl ScannedText {
     }
 
     /// Analyses a changed text, given its scan (`changed`). The previous text was a module with the
-    /// tree `tree`, and `places` has the tokens of its faults. If all tokens have the same kinds as
-    /// before, the tree is kept. The bindings and types are reused if possible.
+    /// tree `tree`. If all tokens have the same spellings as before, everything is kept. If they
+    /// have the same kinds, the tree is kept. The bindings and types are reused if possible.
     fn reanalyse_module(
         alloc: Global,
         changed: RescanInPlace,
         tree: ModuleTree,
         bindings: Bindings,
         types: ModuleTypes,
-        places: FaultPlaces,
     ) -> Result<ScannedText, AllocError>
-        requires { WasModuleBeforeChange changed tree bindings types places }
+        requires { WasModuleBeforeChange changed tree bindings types }
         ensures { IfOk result (λ r. r ≡ changed.rescan.tokens.text) }
     {
         bindings_depend_on_names();
+        bindings_depend_on_spellings();
+        types_depend_on_spellings();
         let RescanInPlace {
             rescan,
             same,
@@ -335,11 +334,8 @@ impl ScannedText {
             return ScannedText::reanalyse_changed_kinds(alloc, tokens, tree, bindings, types, same);
         }
         if same_words {
-            if places.begins_like_module_text(&tokens) {
-                return ScannedText::reanalyse_with_same_spellings(
-                    alloc, tokens, tree, bindings, types, places,
-                );
-            }
+            let parts = ModuleParts::from_parts(tokens, tree, bindings, types);
+            return Ok(ScannedText::from_module(parts));
         }
         ScannedText::reanalyse_same_tree(alloc, tokens, tree, bindings, types, same, same_names)
     }
@@ -366,8 +362,7 @@ impl ScannedText {
 
     /// Analyses a text that has the same tree as the previous text. If the identifiers have the
     /// same spellings as before (`same_names`) and no name has a fault, the bindings are kept.
-    /// Otherwise names are bound again, because their bindings or the spans of their faults may
-    /// have changed.
+    /// Otherwise names are bound again, because their bindings or their faults may have changed.
     fn reanalyse_same_tree(
         alloc: Global,
         tokens: Tokens,
@@ -413,28 +408,6 @@ impl ScannedText {
         ensures { IfOk result (λ r. r ≡ tokens.text) }
     {
         let types = recheck_types(alloc, &tokens, &tree, &bindings, types, same, in_body)?;
-        let parts = ModuleParts::from_parts(tokens, tree, bindings, types);
-        Ok(ScannedText::from_module(parts))
-    }
-
-    /// Analyses a changed text whose tokens have the same spellings as the previous text's tokens.
-    /// The tree, bindings and types are kept. Only the spans of the faults are computed again, from
-    /// each fault's first and last token (`places`) in the changed text.
-    fn reanalyse_with_same_spellings(
-        alloc: Global,
-        tokens: Tokens,
-        tree: ModuleTree,
-        bindings: Bindings,
-        types: ModuleTypes,
-        places: FaultPlaces,
-    ) -> Result<ScannedText, AllocError>
-        requires { IsModuleWithSameSpelling tokens tree bindings types places }
-        ensures { IfOk result (λ r. r ≡ tokens.text) }
-    {
-        bindings_move_with_tokens();
-        types_depend_on_tokens();
-        let bindings = move_binding_faults(alloc, &tokens, bindings, &places)?;
-        let types = move_type_faults(alloc, &tokens, types, &places)?;
         let parts = ModuleParts::from_parts(tokens, tree, bindings, types);
         Ok(ScannedText::from_module(parts))
     }

@@ -43,6 +43,9 @@ pub(crate) fn diagnose_module(
     tree_is_unique();
     // The proof needs the invariant of the tokens, which this call's contract states.
     let _text = parts.tokens().text();
-    let reported = diagnoses_of_faults(alloc, parts.faults())?;
+    let module = parts.module();
+    let resolved = parts.resolved(&module);
+    let checked = parts.checked(alloc, &resolved)?;
+    let reported = diagnoses_of_faults(alloc, checked.faults())?;
     Ok(reported)
 }

@@ -10,7 +10,6 @@ use Rattle.std.proofs.lemmas.Bool.Decides.{nat_tests}
 use Rattle.std.proofs.lemmas.List.{map-append}
 use Rattle.std.proofs.lemmas.List.Folds.{list_any-append}
 use Rattle.std.specs.List.{list_any}
-use Rattle.ob0_scan.specs.declared.fault.Fault.{Fault}
 use Rattle.ob0_scan.specs.declared.tokens.SameParts.{SameParts}
 use Rattle.ob0_scan.specs.TextWithTokens.{TextWithTokens}
 use Rattle.ob0_tree.specs.declared.tree.Role.{Role}
@@ -31,6 +30,7 @@ use Rattle.ob0_scope_table.specs.BodyReplaced.{IsBodyReplaced, PathToBody, body_
 use Rattle.ob0_scope_table.specs.DuplicatesAndEndNames.{declaration_faults}
 use Rattle.ob0_scope_table.specs.OneBody.{is_outside_range}
 use Rattle.ob0_scope_table.specs.Resolution.{IsBindingTable, IsResolution, ordinal_and_spelling_at, declaring_names, ordinal_in, undeclared_faults_by_table, ordinal_and_spelling}
+use Rattle.ob0_scope_table.specs.declared.faults.FaultAtTokens.{FaultAtTokens}
 use Rattle.ob0_scope_table.specs.declared.resolved.Bindings.{Bindings}
 use Rattle.ob0_scope_table.proofs.BodyReplaced.{names_outside, without_mapped}
 use Rattle.ob0_scope_table.proofs.Moved.{moved_above, moved_below}
@@ -345,10 +345,10 @@ module _ (old new : ParsedModule) (path : PathToBody) (range : BodyRange) (known
 
 -- ---- the complete result
 
-pub new_body_bound : (m : ParsedModule) (b : Bindings) (range : BodyRange) (own : List ℕ) (ordinals : List (Option ℕ)) (declaration_tokens uses : List ℕ) (once faults : List Fault) → IsRangeOfNewBody m b range own
+pub new_body_bound : (m : ParsedModule) (b : Bindings) (range : BodyRange) (own : List ℕ) (ordinals : List (Option ℕ)) (declaration_tokens uses : List ℕ) (once faults : List FaultAtTokens) → IsRangeOfNewBody m b range own
     → length m.source.tokens ≤ length (carried_ordinals range b.ordinals.items) → declaration_tokens ≡ carried_tokens range b.declaration_tokens.items []
     → ordinals ≡ (renumber_module declaration_tokens range.first (tree_of m) (initial_walk_state_with_table (original_spellings m.source) (carried_ordinals range b.ordinals.items))).marks → uses ≡ carried_tokens range b.occurrences.items own
-    → once ≡ declaration_faults m → faults ≡ once ++ undeclared_faults_by_table m.source ordinals uses
+    → once ≡ declaration_faults m → faults ≡ once ++ undeclared_faults_by_table ordinals uses
     → IsResolution (record { module_read = m; ordinals = ordinals; declaration_tokens = declaration_tokens; uses = uses; faults = faults })
 new_body_bound m b range own ordinals declaration_tokens uses once faults n long declared numbered used twice all =
     let was = n.was_bound in

@@ -30,7 +30,7 @@ pub fn bindings_of(alloc: Global, module: &Module<'_>) -> Result<Bindings, Alloc
     let numbering = number_identifiers(alloc, module, Spellings::original_spellings(tokens))?;
     let (declaration_tokens, occurrences, ordinals) = numbering.into_parts();
     let mut faults = check_declarations(alloc, module)?;
-    report_undeclared(&mut faults, tokens, &ordinals, &occurrences)?;
+    report_undeclared(&mut faults, &ordinals, &occurrences)?;
     Ok(Bindings {
         ordinals,
         declaration_tokens,

@@ -34,4 +34,4 @@ module _ (old r : Resolution) (types : ModuleTypes) (path : PathToBody) (s : Sam
       let led : path_to_body_in_module s.prefix (tree_of r.module_read) ≡ path = is.new_path in
       let first = (λ i. token_of_first_identifier (identifiers role.Declaring (body_at_path (sym led i) (tree_of r.module_read)))) ∙ at.first in
       let closing = sym at.closes ∙ ap (λ w. closing_name_at_path w (tree_of r.module_read)) led in
-      fields_elsewhere old r path s is were.checked.resolved named (were.checked.reported.0 none) typed types.fields f t (were.fields none) holds statements here place.first place.closing first closing declared all
+      fields_elsewhere old r path s is were.resolved named (were.reported.0 none) typed types.fields f t (were.fields (were.reported.0 none)) holds statements here place.first place.closing first closing declared all

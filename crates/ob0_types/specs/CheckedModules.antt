@@ -1,15 +1,16 @@
 -- A checked module: its names, its faults, and the table of its declarations.
 -- Rule: docs/LANGUAGE.md, Types 8, Faults of scopes and types 1.
-use Rattle.std.specs.Prelude.{◌≡◌, ◌≤◌, true, List, [], length, ◌↔◌, IfSome, is_some, Option}
+use Rattle.std.specs.Prelude.{◌≡◌, ◌≤◌, true, List, [], length, map, ◌↔◌, IfSome, is_some, Option}
 use Rattle.ob0_scan.specs.TextWithTokens.{max_faults}
 use Rattle.ob0_scan.specs.declared.fault.Fault.{Fault}
+use Rattle.ob0_scope_table.specs.FaultsAtTokens.{fault_with_span}
 use Rattle.ob0_scope_table.specs.Resolution.{Resolution, IsResolution}
 use Rattle.ob0_tree.specs.ParsedModule.{named_tree_of}
 use Rattle.ob0_types_check.specs.ModuleLaws.{HasDeclarations}
 use Rattle.ob0_types_check.specs.SomeBodies.{AllPass, faulty_bodies, is_among}
 use Rattle.ob0_types_table.specs.KnownTables.{Tables}
 use Rattle.ob0_language_types.specs.WellTyped.{WellTyped}
-use Rattle.ob0_types.specs.FaultOrder.{AreFirstFaults}
+use Rattle.ob0_types.specs.FaultOrder.{AreFirstFaults, AreFirstFaultsByTokens}
 use Rattle.ob0_types.specs.declared.checked.ModuleTypes.{ModuleTypes}
 use Rattle.ob0_types_fields.specs.FieldLists.{AreFieldListsOf, FieldLists}
 
@@ -29,22 +30,14 @@ pub record IsChecked (c : CheckedModule) : Type 0 where
   pub few : length c.faults ≤ max_faults
   pub first : AreFirstFaults c.names c.faults
 
--- states that the module `names` and the faults `faults`, with some table of declarations or None, form a checked
--- module (`IsChecked`)
-abbrev pub AreCheckedFaults : Resolution → List Fault → Type 0
-AreCheckedFaults names faults =
-    (known : Option Tables) × IsChecked (record { names = names; faults = faults; known = known })
-
--- returns the checked module that consists of a module and the result of checking it
+-- returns the checked module that consists of a module and the result of checking it; the faults get their spans
 abbrev pub checked_module : Resolution → ModuleTypes → CheckedModule
-checked_module names types = record { names = names; faults = types.faults.items; known = types.known }
-
--- States that `types` is the result of checking a module. If the module has no fault, the lists of fields have the
--- module's fields. Each body with a fault of types is listed in `types.bodies_with_faults`.
-pub record AreTypesOf (names : Resolution) (types : ModuleTypes) : Type 0 where
-  pub checked : IsChecked (checked_module names types)
-  pub fields : types.faults.items ≡ [] → AreFieldListsOf names types.fields
-  pub bodies_with_faults : AllPass (is_among types.bodies_with_faults.items) (faulty_bodies names)
+checked_module names types =
+    record {
+      names = names;
+      faults = map (fault_with_span names.module_read.source) types.faults.items;
+      known = types.known;
+    }
 
 -- States that the table `known` has the module's declarations or is None. If the module is well-typed, the table isn't
 -- None.
@@ -56,6 +49,16 @@ pub record IsTableIfTyped (names : Resolution) (known : Option Tables) : Type 0 
 abbrev pub AreFieldsIfTyped : Resolution → FieldLists → Type 0
 AreFieldsIfTyped names fields =
     WellTyped (named_tree_of names.module_read) → AreFieldListsOf names fields
+
+-- States that `types` is the result of checking a module. It has the module's first 100 faults, and no fault exactly if
+-- the module is well-typed. Each body with a fault of types is listed in `types.bodies_with_faults`.
+pub record AreTypesOf (names : Resolution) (types : ModuleTypes) : Type 0 where
+  pub resolved : IsResolution names
+  pub reported : (types.faults.items ≡ []) ↔ WellTyped (named_tree_of names.module_read)
+  pub first : AreFirstFaultsByTokens names types.faults.items
+  pub table : IsTableIfTyped names types.known
+  pub fields : AreFieldsIfTyped names types.fields
+  pub bodies_with_faults : AllPass (is_among types.bodies_with_faults.items) (faulty_bodies names)
 
 -- states that `names` has the right bindings of its module (`IsResolution`), and that this module is well-typed
 pub record IsWellTyped (names : Resolution) : Type 0 where

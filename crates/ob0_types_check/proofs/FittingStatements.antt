@@ -100,10 +100,10 @@ module _ {T N : Type 0} (facts : Facts T) (shape : T → Option Shape) (types : 
   -- Arguments and calls fit if no fault is reported for them.
 
   required_type_of_argument-fits : (b : Bool) (of : T) (g : FormalParameter) (e : Tree ℕ expression) (o : Operand T) → OperandAgrees shape meaning o (here e) → g.mode ≡ mode_of b → shape of ≡ Some g.shape
-      → (if b && not o.may_be_variable then record { known = facts.types.unknown; faults = fault_at_operand facts code.NotVariable o } else required_type facts of o).faults ≡ [] → argument_matches meaning g (here e) ≡ true
+      → (if b && not o.may_be_variable then record { known = facts.types.unknown; faults = fault_at_operand code.NotVariable o } else required_type facts of o).faults ≡ [] → argument_matches meaning g (here e) ≡ true
   unfolding argument_matches
   required_type_of_argument-fits true of g e o fe mode wanted h =
-      let parts = second-reported (not o.may_be_variable) (record { known = facts.types.unknown; faults = fault_at_operand facts code.NotVariable o }) (required_type facts of o) _ refl h in
+      let parts = second-reported (not o.may_be_variable) (record { known = facts.types.unknown; faults = fault_at_operand code.NotVariable o }) (required_type facts of o) _ refl h in
       let (given, same) = requested-fits facts shape types of o fe.of g.shape fe.known wanted parts.1 in
       (λ i. same_known_shape (Some g.shape) (elim (mode i) [ by_value ↦ type_of meaning (here e) | by_place ↦ variable_type meaning (lone_designator (here e)) ]))
       ∙ same_known_shape-same g.shape (Some g.shape) (variable_type meaning (lone_designator (here e))) refl (fe.placed (not-false o.may_be_variable parts.0) ∙ ap (λ s. Some s) same)

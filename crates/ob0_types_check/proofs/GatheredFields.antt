@@ -4,7 +4,7 @@
 -- with the size capped at this limit.
 use Rattle.std.proofs.Common.{◌≡◌, ℕ, ◌+◌, ◌-◌, ◌^◌, ◌<◌, ◌≤◌, min, max, List, [], ◌∷◌, ◌++◌, length, get_or, drop, refl, sym, ap, ◌∙◌, subst, arith}
 use Rattle.std.proofs.lemmas.List.{drop_all, drop_more}
-use Rattle.ob0_scan.specs.declared.fault.Fault.{Fault}
+use Rattle.ob0_scope_table.specs.declared.faults.FaultAtTokens.{FaultAtTokens}
 use Rattle.ob0_types_table.specs.declared.types.TypeId.{TypeId}
 use Rattle.ob0_tree.specs.Places.{token_text_at}
 use Rattle.ob0_tree.specs.View.{fields_of, further_fields_of_group}
@@ -56,19 +56,19 @@ names_end {t = t} {s = s} {xs = xs} {done = done} {now = now} n over =
     subst (λ g. HasKnownFields g s now) (sym (ap (with_known_fields t n.out) (drop_all done xs over)) ∙ n.left) n.is
 
 -- holds if the groups gathered so far and the remaining groups are all groups
-pub record GroupsGathered (around : ℕ) (start : KnownFields) (before : List Fault) (xs : List Fields) (done : ℕ) (now : List Fault) (s : CheckerState) (gathered : gathering.KnownFields) : Type 0 where
+pub record GroupsGathered (around : ℕ) (start : KnownFields) (before : List FaultAtTokens) (xs : List Fields) (done : ℕ) (now : List FaultAtTokens) (s : CheckerState) (gathered : gathering.KnownFields) : Type 0 where
   pub out : KnownFields
   pub is : HasKnownFields out s gathered
   pub reported : Chained (reported_groups around) further_fields_of_group before start xs done now out
 
-pub gathers : {before after : List Fault} {s : CheckerState} {gathered : gathering.KnownFields} {x : KnownFields} {t : Reported KnownFields} → ReturnsAndReports before after x t → HasKnownFields x s gathered → AddsKnownFields before after s gathered t
+pub gathers : {before after : List FaultAtTokens} {s : CheckerState} {gathered : gathering.KnownFields} {x : KnownFields} {t : Reported KnownFields} → ReturnsAndReports before after x t → HasKnownFields x s gathered → AddsKnownFields before after s gathered t
 gathers {s = s} {gathered = gathered} reports is = record { reported = reports.reported; now = subst (λ z. HasKnownFields z s gathered) reports.known is }
 
-pub groups_begin : {around : ℕ} {before : List Fault} {xs : List Fields} (s : CheckerState) (gathered : gathering.KnownFields) → fields_in gathered.fields.items ≡ [] → size_of gathered.size ≡ zero_size
+pub groups_begin : {around : ℕ} {before : List FaultAtTokens} {xs : List Fields} (s : CheckerState) (gathered : gathering.KnownFields) → fields_in gathered.fields.items ≡ [] → size_of gathered.size ≡ zero_size
     → GroupsGathered around (no_known_fields (declarations_in_state s)) before xs 0 before s gathered
 groups_begin s gathered fields size = record { out = no_known_fields (declarations_in_state s); is = record { fields = fields; size = size; following = refl }; reported = record { so_far = refl } }
 
-pub groups_go_on : {around : ℕ} {start : KnownFields} {before : List Fault} {xs : List Fields} {done : ℕ} {now next : List Fault} {s s2 : CheckerState} {gathered gathered2 : gathering.KnownFields} (x : Fields)
+pub groups_go_on : {around : ℕ} {start : KnownFields} {before : List FaultAtTokens} {xs : List Fields} {done : ℕ} {now next : List FaultAtTokens} {s s2 : CheckerState} {gathered gathered2 : gathering.KnownFields} (x : Fields)
     → GroupsGathered around start before xs done now s gathered → done < length xs → x ≡ get_or xs done x
     → ((g : KnownFields) → HasKnownFields g s gathered → AddsKnownFields now next s2 gathered2 (reported_fields around g (fields_of x))) → GroupsGathered around start before xs (done + 1) next s2 gathered2
 groups_go_on {around = around} {now = now} {next = next} x n less here step =

@@ -145,7 +145,7 @@ module _ {T : Type 0} (facts : Facts T) (shape : T → Option Shape) (types : Ty
       → ((required_type_of_both facts wanted a b).known ≡ wanted) × (s ≡ w) × (t ≡ w)
   apply_to_both-requested wanted a b s t w hs ht hw h =
       let left : Reported T = record { known = if facts.types.same a.of wanted then (required_type facts wanted b).known else facts.types.unknown; faults = (required_type facts wanted b).faults } in
-      let wrong : Reported T = record { known = facts.types.unknown; faults = fault_at_operand facts code.TypeMismatch a } in
+      let wrong : Reported T = record { known = facts.types.unknown; faults = fault_at_operand code.TypeMismatch a } in
       let (fit, none) = first-reported (may_be_same_type facts.types a.of wanted) left wrong _ refl h in
       let same : facts.types.same a.of wanted ≡ true = same-where-fits a.of wanted s w hs hw fit in
       let (known, right) = requested-fits wanted b t w ht hw none in

@@ -1,9 +1,9 @@
 -- The report at the end of a module's walk has its faults and, if there are none, the table of its declarations.
 use Rattle.std.proofs.Common.{◌≡◌, ◌==◌, ℕ, Bool, true, false, List, [], ◌++◌, length, eq-eqb, eqb-true, true≢false, sym, ap, ◌∙◌, subst}
 use Rattle.std.specs.List.{filter}
-use Rattle.ob0_scan.specs.declared.fault.Fault.{Fault}
 use Rattle.ob0_tree.specs.ParsedModule.{named_tree_of}
 use Rattle.ob0_scope_table.specs.Resolution.{IsResolution, Resolution, is_undeclared_fault}
+use Rattle.ob0_scope_table.specs.declared.faults.FaultAtTokens.{FaultAtTokens}
 use Rattle.ob0_types_table.specs.Tables.{AreEntriesInOrder}
 use Rattle.ob0_types_check.specs.DeclarationFaults.{module_faults}
 use Rattle.ob0_types_check.specs.ModuleLaws.{WalkWithoutFaultFindsMeanings, HasDeclarations, KnowsDeclarations}
@@ -19,14 +19,14 @@ use Rattle.ob0_types_check.proofs.ReportedDeclarations.{module_reported}
 use Rattle.ob0_types_check.proofs.ReportedWith.{module_forgets}
 
 -- A list is empty if its length is 0, and not empty otherwise.
-pub is_nothing : (xs : List Fault) (n : ℕ) (b : Bool) → n ≡ length xs → b ≡ (n == 0) → b ≡ true → xs ≡ []
+pub is_nothing : (xs : List FaultAtTokens) (n : ℕ) (b : Bool) → n ≡ length xs → b ≡ (n == 0) → b ≡ true → xs ≡ []
 is_nothing xs n b long e h = nothing_left xs (sym long ∙ eqb-true n 0 (sym e ∙ h))
 
-pub is_something : (xs : List Fault) (n : ℕ) (b : Bool) → n ≡ length xs → b ≡ (n == 0) → b ≡ false → xs ≡ [] → ⊥
+pub is_something : (xs : List FaultAtTokens) (n : ℕ) (b : Bool) → n ≡ length xs → b ≡ (n == 0) → b ≡ false → xs ≡ [] → ⊥
 is_something xs n b long e h none = true≢false (sym (eq-eqb n 0 (long ∙ ap length none)) ∙ (sym e ∙ h))
 
 -- A walk over some bodies ends with the faults of the module if it reports the same as the walk over all bodies.
-pub walked : (r : Resolution) (before after : List Fault) (s : CheckerState) (bodies_with_faults : List ℕ) (t : Reported WalkProgress) → before ≡ filter is_undeclared_fault r.faults → reported_module_with_bodies every_body r ≡ t → ReturnsAndReports before after (walk_progress_of s bodies_with_faults) t → IsFinishedWalk r after s bodies_with_faults
+pub walked : (r : Resolution) (before after : List FaultAtTokens) (s : CheckerState) (bodies_with_faults : List ℕ) (t : Reported WalkProgress) → before ≡ filter is_undeclared_fault r.faults → reported_module_with_bodies every_body r ≡ t → ReturnsAndReports before after (walk_progress_of s bodies_with_faults) t → IsFinishedWalk r after s bodies_with_faults
 walked r before after s bodies_with_faults t first is reported =
     let all = sym (module_forgets r) in
     record {
@@ -35,7 +35,7 @@ walked r before after s bodies_with_faults t first is reported =
       faulty_bodies_are = ap (λ (w : WalkProgress). w.bodies_with_faults) (reported.known ∙ ap (λ (x : Reported WalkProgress). x.known) (sym is));
     }
 
-module _ (r : Resolution) (after : List Fault) (s : CheckerState) (bodies_with_faults : List ℕ) (w : IsFinishedWalk r after s bodies_with_faults) (law : WalkWithoutFaultFindsMeanings) (is : IsResolution r) (none : after ≡ []) where
+module _ (r : Resolution) (after : List FaultAtTokens) (s : CheckerState) (bodies_with_faults : List ℕ) (w : IsFinishedWalk r after s bodies_with_faults) (law : WalkWithoutFaultFindsMeanings) (is : IsResolution r) (none : after ≡ []) where
   pub nothing : module_faults r ≡ []
   nothing = sym w.faults ∙ none
 

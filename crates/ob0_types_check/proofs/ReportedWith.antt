@@ -1,9 +1,9 @@
 -- The code reports the faults of declarations and of some bodies part by part, as the definitions do. With all bodies
 -- these are the faults of the module.
 use Rattle.std.proofs.Common.{◌≡◌, ◌<◌, ◌≤◌, ℕ, ◌+◌, Bool, true, List, [], ◌∷◌, ◌++◌, length, refl, sym, ap, ◌∙◌, subst, arith, length-append}
-use Rattle.ob0_scan.specs.declared.fault.Fault.{Fault}
 use Rattle.ob0_language_names.specs.Parts.{formal_sections, module_block, section_constants, section_types, section_variables}
 use Rattle.ob0_scope_table.specs.Resolution.{Resolution}
+use Rattle.ob0_scope_table.specs.declared.faults.FaultAtTokens.{FaultAtTokens}
 use Rattle.ob0_tree.specs.ParsedModule.{tree_of}
 use Rattle.ob0_tree.specs.Tree.{Tree, block, body, constants, declares, declares_procedure, end, formals, forms_block, item, items, maybe, more, procedure, type_definitions, variables}
 use Rattle.ob0_tree.specs.View.{block_of, formals_of, procedure_of}
@@ -53,16 +53,16 @@ module _ (wanted : ℕ → Bool) where
 
 -- ---- one body
 
-with_some : (faults : List Fault) (own : ℕ) (xs : List ℕ) → 0 < length faults → with_body_if_faulty faults own xs ≡ xs ++ own ∷ []
+with_some : (faults : List FaultAtTokens) (own : ℕ) (xs : List ℕ) → 0 < length faults → with_body_if_faulty faults own xs ≡ xs ++ own ∷ []
 with_some [] own xs less = absurd (omega (arith, less))
 with_some (fault ∷ faults) own xs less = refl
 
-with_none : (faults : List Fault) (own : ℕ) (xs : List ℕ) → length faults ≤ 0 → with_body_if_faulty faults own xs ≡ xs
+with_none : (faults : List FaultAtTokens) (own : ℕ) (xs : List ℕ) → length faults ≤ 0 → with_body_if_faulty faults own xs ≡ xs
 with_none [] own xs le = refl
 with_none (fault ∷ faults) own xs le = absurd (omega (arith, le))
 
-module _ (wanted : Bool) (own : ℕ) (w : WalkProgress) (a : Tree ℕ (maybe body)) (before after : List Fault) (p : KnownDeclarations) (is_wanted : wanted ≡ true) (r : ReturnsAndReports before after p (reported_body w.so_far a)) where
-  abbrev of_body : List Fault
+module _ (wanted : Bool) (own : ℕ) (w : WalkProgress) (a : Tree ℕ (maybe body)) (before after : List FaultAtTokens) (p : KnownDeclarations) (is_wanted : wanted ≡ true) (r : ReturnsAndReports before after p (reported_body w.so_far a)) where
+  abbrev of_body : List FaultAtTokens
   of_body = (reported_body w.so_far a).faults
 
   body_if_with : (bodies_with_faults : List ℕ) → bodies_with_faults ≡ with_body_if_faulty of_body own w.bodies_with_faults → ReturnsAndReports before after (record { so_far = p; bodies_with_faults = bodies_with_faults }) (report_body_if_wanted wanted own w a)

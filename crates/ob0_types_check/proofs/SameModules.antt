@@ -1,20 +1,19 @@
--- If the tokens of a part are alike in two texts, its faults of types are at the same tokens in both. The parts are
--- written types, declarations and bodies.
-use Rattle.std.proofs.Common.{◌≡◌, ℕ, suc, Bool, true, false, List, [], ◌∷◌, ◌++◌, Option, Some, None, length, map, slice_index_or, refl, sym, ap, ◌∙◌, subst, if◌then◌else◌}
-use Rattle.ob0_scan.specs.declared.fault.FaultCode.TheVariants as code
-use Rattle.ob0_scan.specs.declared.fault.Fault.{Fault}
+-- If the tokens of a part are alike in two texts, it has the same faults of types in both. The parts are written types,
+-- declarations and bodies.
+use Rattle.std.proofs.Common.{◌≡◌, ℕ, suc, Bool, true, false, List, [], ◌∷◌, ◌++◌, Option, Some, None, map, slice_index_or, refl, sym, ap, ◌∙◌, subst, if◌then◌else◌}
+use Rattle.std.specs.List.{filter}
+use Rattle.ob0_scan.specs.Reused.{words_of_tokens}
 use Rattle.ob0_scan.specs.TextWithTokens.{TextWithTokens}
 use Rattle.ob0_language_names.specs.Parts.{formal_sections, further_names, module_block, names_in_list, section_constants, section_types, section_variables}
 use Rattle.ob0_tree.specs.ParsedModule.{parsed_module, tree_of}
 use Rattle.ob0_tree.specs.Tree.{Sort, Tree, no_formals, some_formals, listed, then_name, further_name, constants, type_definitions, variables, formals, declares_constants, declares_types, declares_variables, array_type, begins, block, body, constant, declares, declares_constant, declares_procedure, declares_type, declares_variable, end, fields, further_fields, further_section, forms_block, item, items, maybe, more, named_type, names, no_fields, none, one, procedure, record_type, some_fields, then_fields, then_section, type_definition, value_section, variable, variable_section, written_type}
 use Rattle.ob0_tree.specs.declared.tree.ModuleTree.{ModuleTree}
-use Rattle.std.proofs.lemmas.List.{length-map}
-use Rattle.ob0_scan.specs.TextWithTokens.{word_of_token}
+use Rattle.ob0_scope_table.specs.Bindings.{resolution_with}
 use Rattle.ob0_scope_table.specs.TokenProperty.{EachTokenHas}
-use Rattle.ob0_scope_table.specs.FaultTokens.{AreFaultsAtSameTokens, AreWrittenAlike}
 use Rattle.ob0_scope_table.specs.Resolution.{is_undeclared_fault, ordinal_in}
+use Rattle.ob0_scope_table.specs.declared.resolved.Bindings.{Bindings}
 use Rattle.ob0_scope_table.proofs.Placed.{each_token}
-use Rattle.ob0_scope_table.proofs.FaultTokens.{both_same, filter_same, none_same, texts_stay, values_stay}
+use Rattle.ob0_scope_table.proofs.SameWords.{same_count, same_texts, same_values}
 use Rattle.ob0_types_table.specs.declared.types.TypeId.{TypeId}
 use Rattle.ob0_types_table.specs.declared.types.TypeId.TheVariants as type
 use Rattle.ob0_types_check.specs.DeclarationFaults.{KnownHeading, state_after_heading, reported_constant_declaration, reported_block, reported_body, reported_constants, module_faults, reported_parameters, reported_procedure, reported_procedures, reported_section, reported_sections, reported_types, reported_variables, reported_type_declaration, reported_variable_group, with_parameters}
@@ -23,7 +22,7 @@ use Rattle.ob0_types_check.specs.Operations.{without_fault, token_before, ◌>>=
 use Rattle.ob0_types_check.specs.KnownDeclarations.{PartTypes, Size, KnownDeclarations, TypeWithState, state_at_start, define, define_all, facts_at, is_within_limits, append_composite, make_type, of_elements, of_fields, size_of_type_so_far, reported_too_large_type, types_so_far, with_meaning}
 use Rattle.ob0_types_check.specs.TypeFaults.{length_of}
 use Rattle.ob0_types_check.specs.WrittenTypeFaults.{KnownFields, made_array_type, array_size, with_field_group, no_known_fields, next_type_ordinal, made_record_type, record_size, record_keyword, reported_fields, reported_groups, reported_type, with_known_fields, with_known_field, token_before_group}
-use Rattle.ob0_types_check.proofs.SameFaults.{Alike, Alikeness, at_same, constant_same, expression_same, goes_on, length_same, rightly, sequence_same, type_named_same}
+use Rattle.ob0_types_check.proofs.SameFaults.{Alike, Alikeness, constant_same, expression_same, goes_on, goes_on_equally, rightly, sequence_same, type_named_same}
 
 -- returns the state, or the type and the state after it, with another text
 abbrev pub so_over : TextWithTokens → List (Option ℕ) → KnownDeclarations → KnownDeclarations
@@ -72,16 +71,16 @@ module _ (old new : TextWithTokens) (os ns : List (Option ℕ)) (P : ℕ → Typ
   heading_new h = heading_over new ns h
 
   abbrev pub So : Reported KnownDeclarations → Reported KnownDeclarations → Type 0
-  So r s = Alike old new so_old so_new r s
+  So r s = Alike so_old so_new r s
 
   abbrev Typed : Reported TypeWithState → Reported TypeWithState → Type 0
-  Typed r s = Alike old new typed_old typed_new r s
+  Typed r s = Alike typed_old typed_new r s
 
   abbrev AddsKnownFields : Reported KnownFields → Reported KnownFields → Type 0
-  AddsKnownFields r s = Alike old new gathered_old gathered_new r s
+  AddsKnownFields r s = Alike gathered_old gathered_new r s
 
   abbrev pub Heads : Reported KnownHeading → Reported KnownHeading → Type 0
-  Heads r s = Alike old new heading_old heading_new r s
+  Heads r s = Alike heading_old heading_new r s
 
   abbrev Each : {s : Sort} → Tree ℕ s → Type 0
   Each t = EachTokenHas P t
@@ -92,7 +91,7 @@ module _ (old new : TextWithTokens) (os ns : List (Option ℕ)) (P : ℕ → Typ
   AllOf (x ∷ xs) = P x × AllOf xs
 
   so : (z a b : KnownDeclarations) → a ≡ so_old z → b ≡ so_new z → So (without_fault a) (without_fault b)
-  so z a b e f = record { value = z; before = e; after = f; faults = none_same old new }
+  so z a b e f = record { value = z; before = e; after = f; faults = refl }
 
   -- Declaring a name in both texts sets the declaration with the same ordinal.
   define_before : (p : KnownDeclarations) (m : Meaning TypeId) (x : ℕ) → define (so_old p) m x ≡ so_old (define (so_old p) m x)
@@ -124,19 +123,19 @@ module _ (old new : TextWithTokens) (os ns : List (Option ℕ)) (P : ℕ → Typ
 
   made_within : (b : Bool) (p : KnownDeclarations) (word ordinal : ℕ) (parts : PartTypes) (size : Size)
       → Typed (if b then without_fault (append_composite (so_old p) ordinal parts size) else reported_too_large_type (so_old p) word) (if b then without_fault (append_composite (so_new p) ordinal parts size) else reported_too_large_type (so_new p) word)
-  made_within true p word ordinal parts size = rightly old new typed_old typed_new (append_composite p ordinal parts size)
+  made_within true p word ordinal parts size = rightly typed_old typed_new (append_composite p ordinal parts size)
   made_within false p word ordinal parts size = record {
     value = record { of = type.Unknown; following = p };
     before = refl;
     after = refl;
-    faults = at_same old new os ns P w (types_so_far p.made) (declared_at p) false code.TypeTooLarge word word;
+    faults = refl;
   }
 
   made_same : (p : KnownDeclarations) (word ordinal : ℕ) (parts : PartTypes) (size : Size) → Typed (make_type (so_old p) word ordinal parts size) (make_type (so_new p) word ordinal parts size)
   made_same p word ordinal parts size = made_within (is_within_limits size) p word ordinal parts size
 
   array_same : (ordinal : ℕ) (o : Operand TypeId) (n : Option ℕ) (t : TypeWithState) → Typed (made_array_type ordinal o n (typed_old t)) (made_array_type ordinal o n (typed_new t))
-  array_same ordinal o None t = rightly old new typed_old typed_new (record { of = type.Unknown; following = t.following })
+  array_same ordinal o None t = rightly typed_old typed_new (record { of = type.Unknown; following = t.following })
   array_same ordinal o (Some n) t = made_same t.following (token_before o.first) ordinal (of_elements n t.of) (array_size n (size_of_type_so_far t.following.made t.of))
 
   name_over : (t : TypeId) (g : KnownFields) (x : ℕ) → P x → with_known_field t (gathered_new g) x ≡ gathered_new (with_known_field t (gathered_old g) x)
@@ -155,41 +154,41 @@ module _ (old new : TextWithTokens) (os ns : List (Option ℕ)) (P : ℕ → Typ
   gathered_same : (g : KnownFields) (xs : List ℕ) (t : TypeWithState) → AllOf xs → AddsKnownFields (without_fault (with_field_group (gathered_old g) xs (typed_old t))) (without_fault (with_field_group (gathered_new g) xs (typed_new t)))
   gathered_same g xs t each =
       let h : KnownFields = record { fields = g.fields; size = g.size; following = t.following } in
-      record { value = with_known_fields t.of (gathered_old h) xs; before = names_old t.of h xs; after = names_new t.of h xs each; faults = none_same old new }
+      record { value = with_known_fields t.of (gathered_old h) xs; before = names_old t.of h xs; after = names_new t.of h xs each; faults = refl }
 
   mutual
     unfolding reported_type
 
     written_same : (around : ℕ) (p : KnownDeclarations) (t : Tree ℕ written_type) → Each t → Typed (reported_type around (so_old p) t) (reported_type around (so_new p) t)
     written_same around p (named_type x) h =
-        goes_on old new (λ t. without_fault (record { of = t; following = so_old p })) (λ t. without_fault (record { of = t; following = so_new p })) (type_named_same old new os ns P w (types_so_far p.made) (declared_at p) false x h)
-        (λ t. rightly old new typed_old typed_new (record { of = t; following = p }))
+        goes_on_equally (λ t. without_fault (record { of = t; following = so_old p })) (λ t. without_fault (record { of = t; following = so_new p })) (type_named_same old new os ns P w (types_so_far p.made) (declared_at p) false x h)
+        (λ t. rightly typed_old typed_new (record { of = t; following = p }))
     written_same around p (array_type e u) h =
-        goes_on old new (λ o. length_of (facts_at (so_old p) false) o >>= (λ n. reported_type (suc around) (so_old p) u >>= made_array_type (next_type_ordinal around p) o n))
+        goes_on_equally (λ o. length_of (facts_at (so_old p) false) o >>= (λ n. reported_type (suc around) (so_old p) u >>= made_array_type (next_type_ordinal around p) o n))
         (λ o. length_of (facts_at (so_new p) false) o >>= (λ n. reported_type (suc around) (so_new p) u >>= made_array_type (next_type_ordinal around p) o n))
         (expression_same old new os ns P w (types_so_far p.made) (declared_at p) true e h.0)
         (λ o.
-        goes_on old new (λ n. reported_type (suc around) (so_old p) u >>= made_array_type (next_type_ordinal around p) o n) (λ n. reported_type (suc around) (so_new p) u >>= made_array_type (next_type_ordinal around p) o n)
-        (length_same old new os ns P w (types_so_far p.made) (declared_at p) false o)
-        (λ n. goes_on old new (made_array_type (next_type_ordinal around p) o n) (made_array_type (next_type_ordinal around p) o n) (written_same (suc around) p u h.1) (λ t. array_same (next_type_ordinal around p) o n t)))
+        let lengths : length_of (facts_at (so_old p) false) o ≡ length_of (facts_at (so_new p) false) o = refl in
+        goes_on_equally (λ n. reported_type (suc around) (so_old p) u >>= made_array_type (next_type_ordinal around p) o n) (λ n. reported_type (suc around) (so_new p) u >>= made_array_type (next_type_ordinal around p) o n) lengths
+        (λ n. goes_on (made_array_type (next_type_ordinal around p) o n) (made_array_type (next_type_ordinal around p) o n) (written_same (suc around) p u h.1) (λ t. array_same (next_type_ordinal around p) o n t)))
     written_same around p (record_type g rest) h =
-        goes_on old new (λ first. reported_groups (suc around) first rest >>= made_record_type (token_before_group g (record_keyword rest)) (next_type_ordinal around p))
+        goes_on (λ first. reported_groups (suc around) first rest >>= made_record_type (token_before_group g (record_keyword rest)) (next_type_ordinal around p))
         (λ first. reported_groups (suc around) first rest >>= made_record_type (token_before_group g (record_keyword rest)) (next_type_ordinal around p))
         (group_same (suc around) (no_known_fields p) g h.0)
         (λ first.
-        goes_on old new (made_record_type (token_before_group g (record_keyword rest)) (next_type_ordinal around p)) (made_record_type (token_before_group g (record_keyword rest)) (next_type_ordinal around p)) (groups_same (suc around) first rest h.1)
+        goes_on (made_record_type (token_before_group g (record_keyword rest)) (next_type_ordinal around p)) (made_record_type (token_before_group g (record_keyword rest)) (next_type_ordinal around p)) (groups_same (suc around) first rest h.1)
         (λ all. made_same all.following (token_before_group g (record_keyword rest)) (next_type_ordinal around p) (of_fields all.fields) (record_size all.size)))
 
     group_same : (around : ℕ) (so_far : KnownFields) (g : Tree ℕ fields) → Each g → AddsKnownFields (reported_fields around (gathered_old so_far) g) (reported_fields around (gathered_new so_far) g)
-    group_same around so_far no_fields h = rightly old new gathered_old gathered_new so_far
+    group_same around so_far no_fields h = rightly gathered_old gathered_new so_far
     group_same around so_far (some_fields ns t) h =
-        goes_on old new (λ u. without_fault (with_field_group (gathered_old so_far) (names_in_list ns) u)) (λ u. without_fault (with_field_group (gathered_new so_far) (names_in_list ns) u)) (written_same around so_far.following t h.1)
+        goes_on (λ u. without_fault (with_field_group (gathered_old so_far) (names_in_list ns) u)) (λ u. without_fault (with_field_group (gathered_new so_far) (names_in_list ns) u)) (written_same around so_far.following t h.1)
         (λ u. gathered_same so_far (names_in_list ns) u (names_each ns h.0))
 
     groups_same : (around : ℕ) (so_far : KnownFields) (gs : Tree ℕ (items further_fields)) → Each gs → AddsKnownFields (reported_groups around (gathered_old so_far) gs) (reported_groups around (gathered_new so_far) gs)
-    groups_same around so_far end h = rightly old new gathered_old gathered_new so_far
+    groups_same around so_far end h = rightly gathered_old gathered_new so_far
     groups_same around so_far (more (then_fields g) rest) h =
-        goes_on old new (λ next. reported_groups around next rest) (λ next. reported_groups around next rest) (group_same around so_far g h.0) (λ next. groups_same around next rest h.1)
+        goes_on (λ next. reported_groups around next rest) (λ next. reported_groups around next rest) (group_same around so_far g h.0) (λ next. groups_same around next rest h.1)
 
   -- ---- declarations
 
@@ -203,35 +202,35 @@ module _ (old new : TextWithTokens) (os ns : List (Option ℕ)) (P : ℕ → Typ
   constant_after : (p : KnownDeclarations) (c : Tree ℕ (item constant)) → Each c → So (reported_constant_declaration (so_old p) c) (reported_constant_declaration (so_new p) c)
   unfolding reported_constant_declaration
   constant_after p (declares_constant x e) h =
-      goes_on old new (λ v. without_fault (define (so_old p) (a_constant v) x)) (λ v. without_fault (define (so_new p) (a_constant v) x)) (constant_same old new os ns P w (types_so_far p.made) (declared_at p) true e h.1)
+      goes_on_equally (λ v. without_fault (define (so_old p) (a_constant v) x)) (λ v. without_fault (define (so_new p) (a_constant v) x)) (constant_same old new os ns P w (types_so_far p.made) (declared_at p) true e h.1)
       (λ v. defined p (a_constant v) x h.0)
 
   pub constants_same : (p : KnownDeclarations) (cs : Tree ℕ (items constant)) → Each cs → So (reported_constants (so_old p) cs) (reported_constants (so_new p) cs)
   unfolding reported_constants
-  constants_same p end h = rightly old new so_old so_new p
-  constants_same p (more c rest) h = goes_on old new (λ q. reported_constants q rest) (λ q. reported_constants q rest) (constant_after p c h.0) (λ q. constants_same q rest h.1)
+  constants_same p end h = rightly so_old so_new p
+  constants_same p (more c rest) h = goes_on (λ q. reported_constants q rest) (λ q. reported_constants q rest) (constant_after p c h.0) (λ q. constants_same q rest h.1)
 
   select_type : (p : KnownDeclarations) (d : Tree ℕ (item type_definition)) → Each d → So (reported_type_declaration (so_old p) d) (reported_type_declaration (so_new p) d)
   unfolding reported_type_declaration
   select_type p (declares_type x t) h =
-      goes_on old new (λ u. without_fault (define u.following (a_type u.of) x)) (λ u. without_fault (define u.following (a_type u.of) x)) (written_same 0 p t h.1)
+      goes_on (λ u. without_fault (define u.following (a_type u.of) x)) (λ u. without_fault (define u.following (a_type u.of) x)) (written_same 0 p t h.1)
       (λ u. defined u.following (a_type u.of) x h.0)
 
   pub types_same : (p : KnownDeclarations) (ds : Tree ℕ (items type_definition)) → Each ds → So (reported_types (so_old p) ds) (reported_types (so_new p) ds)
   unfolding reported_types
-  types_same p end h = rightly old new so_old so_new p
-  types_same p (more d rest) h = goes_on old new (λ q. reported_types q rest) (λ q. reported_types q rest) (select_type p d h.0) (λ q. types_same q rest h.1)
+  types_same p end h = rightly so_old so_new p
+  types_same p (more d rest) h = goes_on (λ q. reported_types q rest) (λ q. reported_types q rest) (select_type p d h.0) (λ q. types_same q rest h.1)
 
   variables_after : (p : KnownDeclarations) (g : Tree ℕ (item variable)) → Each g → So (reported_variable_group (so_old p) g) (reported_variable_group (so_new p) g)
   unfolding reported_variable_group
   variables_after p (declares_variable ns t) h =
-      goes_on old new (λ u. without_fault (define_all u.following (a_variable u.of) (names_in_list ns))) (λ u. without_fault (define_all u.following (a_variable u.of) (names_in_list ns))) (written_same 0 p t h.1)
+      goes_on (λ u. without_fault (define_all u.following (a_variable u.of) (names_in_list ns))) (λ u. without_fault (define_all u.following (a_variable u.of) (names_in_list ns))) (written_same 0 p t h.1)
       (λ u. all_defined u.following (a_variable u.of) (names_in_list ns) (names_each ns h.0))
 
   pub variables_same : (p : KnownDeclarations) (gs : Tree ℕ (items variable)) → Each gs → So (reported_variables (so_old p) gs) (reported_variables (so_new p) gs)
   unfolding reported_variables
-  variables_same p end h = rightly old new so_old so_new p
-  variables_same p (more g rest) h = goes_on old new (λ q. reported_variables q rest) (λ q. reported_variables q rest) (variables_after p g h.0) (λ q. variables_same q rest h.1)
+  variables_same p end h = rightly so_old so_new p
+  variables_same p (more g rest) h = goes_on (λ q. reported_variables q rest) (λ q. reported_variables q rest) (variables_after p g h.0) (λ q. variables_same q rest h.1)
 
   -- ---- headings
 
@@ -242,13 +241,13 @@ module _ (old new : TextWithTokens) (os ns : List (Option ℕ)) (P : ℕ → Typ
         value = with_parameters (heading_old h) by_place xs (typed_old t);
         before = ap more_formals (all_before t.following (a_variable t.of) xs);
         after = ap more_formals (all_after t.following (a_variable t.of) xs each);
-        faults = none_same old new;
+        faults = refl;
       }
 
   parameters_same : (h : KnownHeading) (by_place : Bool) (ns : Tree ℕ names) (t : Tree ℕ written_type) → Each ns → Each t → Heads (reported_parameters (heading_old h) by_place ns t) (reported_parameters (heading_new h) by_place ns t)
   unfolding reported_parameters
   parameters_same h by_place ns t of_names of_type =
-      goes_on old new (λ u. without_fault (with_parameters (heading_old h) by_place (names_in_list ns) u)) (λ u. without_fault (with_parameters (heading_new h) by_place (names_in_list ns) u)) (written_same 0 h.following t of_type)
+      goes_on (λ u. without_fault (with_parameters (heading_old h) by_place (names_in_list ns) u)) (λ u. without_fault (with_parameters (heading_new h) by_place (names_in_list ns) u)) (written_same 0 h.following t of_type)
       (λ u. parameters_after h by_place (names_in_list ns) u (names_each ns of_names))
 
   section_same : (h : KnownHeading) (s : Tree ℕ (item further_section)) → Each s → Heads (reported_section (heading_old h) s) (reported_section (heading_new h) s)
@@ -258,8 +257,8 @@ module _ (old new : TextWithTokens) (os ns : List (Option ℕ)) (P : ℕ → Typ
 
   pub sections_same : (h : KnownHeading) (ss : Tree ℕ (items further_section)) → Each ss → Heads (reported_sections (heading_old h) ss) (reported_sections (heading_new h) ss)
   unfolding reported_sections
-  sections_same h end each = rightly old new heading_old heading_new h
-  sections_same h (more s rest) each = goes_on old new (λ g. reported_sections g rest) (λ g. reported_sections g rest) (section_same h s each.0) (λ g. sections_same g rest each.1)
+  sections_same h end each = rightly heading_old heading_new h
+  sections_same h (more s rest) each = goes_on (λ g. reported_sections g rest) (λ g. reported_sections g rest) (section_same h s each.0) (λ g. sections_same g rest each.1)
 
   -- The states within a procedure, after its heading, are alike in both texts.
   pub heading_after : (x : ℕ) (h : KnownHeading) → P x → So (without_fault (state_after_heading x (heading_old h))) (without_fault (state_after_heading x (heading_new h)))
@@ -288,7 +287,7 @@ module _ (old new : TextWithTokens) (os ns : List (Option ℕ)) (P : ℕ → Typ
 
   pub body_same : (p : KnownDeclarations) (b : Tree ℕ (maybe body)) → Each b → So (reported_body (so_old p) b) (reported_body (so_new p) b)
   unfolding reported_body
-  body_same p none h = rightly old new so_old so_new p
+  body_same p none h = rightly so_old so_new p
   body_same p (one (begins statements)) h = record { value = p; before = refl; after = refl; faults = sequence_same old new os ns P w (types_so_far p.made) (declared_at p) false statements h }
 
   -- ---- blocks and procedures
@@ -304,41 +303,35 @@ module _ (old new : TextWithTokens) (os ns : List (Option ℕ)) (P : ℕ → Typ
 
     pub block_same : (p : KnownDeclarations) (b : Tree ℕ block) → Each b → So (reported_block (so_old p) b) (reported_block (so_new p) b)
     block_same p (forms_block (declares cs ts vs ps) statements) h =
-        goes_on old new (λ q. reported_types q (section_types ts) >>= (λ r. reported_variables r (section_variables vs) >>= (λ s. reported_procedures s ps >>= (λ t. reported_body t statements))))
+        goes_on (λ q. reported_types q (section_types ts) >>= (λ r. reported_variables r (section_variables vs) >>= (λ s. reported_procedures s ps >>= (λ t. reported_body t statements))))
         (λ q. reported_types q (section_types ts) >>= (λ r. reported_variables r (section_variables vs) >>= (λ s. reported_procedures s ps >>= (λ t. reported_body t statements))))
         (constants_same p (section_constants cs) (constants_each cs h.0.0))
         (λ q.
-        goes_on old new (λ r. reported_variables r (section_variables vs) >>= (λ s. reported_procedures s ps >>= (λ t. reported_body t statements)))
+        goes_on (λ r. reported_variables r (section_variables vs) >>= (λ s. reported_procedures s ps >>= (λ t. reported_body t statements)))
         (λ r. reported_variables r (section_variables vs) >>= (λ s. reported_procedures s ps >>= (λ t. reported_body t statements)))
         (types_same q (section_types ts) (types_each ts h.0.1))
         (λ r.
-        goes_on old new (λ s. reported_procedures s ps >>= (λ t. reported_body t statements)) (λ s. reported_procedures s ps >>= (λ t. reported_body t statements))
+        goes_on (λ s. reported_procedures s ps >>= (λ t. reported_body t statements)) (λ s. reported_procedures s ps >>= (λ t. reported_body t statements))
         (variables_same r (section_variables vs) (variables_each vs h.0.2))
-        (λ s. goes_on old new (λ t. reported_body t statements) (λ t. reported_body t statements) (procedures_same s ps h.0.3) (λ t. body_same t statements h.1))))
+        (λ s. goes_on (λ t. reported_body t statements) (λ t. reported_body t statements) (procedures_same s ps h.0.3) (λ t. body_same t statements h.1))))
 
     procedures_same : (p : KnownDeclarations) (ps : Tree ℕ (items procedure)) → Each ps → So (reported_procedures (so_old p) ps) (reported_procedures (so_new p) ps)
-    procedures_same p end h = rightly old new so_old so_new p
-    procedures_same p (more d rest) h = goes_on old new (λ q. reported_procedures q rest) (λ q. reported_procedures q rest) (procedure_same p d h.0) (λ q. procedures_same q rest h.1)
+    procedures_same p end h = rightly so_old so_new p
+    procedures_same p (more d rest) h = goes_on (λ q. reported_procedures q rest) (λ q. reported_procedures q rest) (procedure_same p d h.0) (λ q. procedures_same q rest h.1)
 
     procedure_same : (p : KnownDeclarations) (d : Tree ℕ (item procedure)) → Each d → So (reported_procedure (so_old p) d) (reported_procedure (so_new p) d)
     procedure_same p (declares_procedure x fs b closing) h =
-        goes_on old new (λ g. reported_block (state_after_heading x g) b) (λ g. reported_block (state_after_heading x g) b) (sections_same (record { formals = []; following = p }) (formal_sections fs) (formals_each fs h.1))
+        goes_on (λ g. reported_block (state_after_heading x g) b) (λ g. reported_block (state_after_heading x g) b) (sections_same (record { formals = []; following = p }) (formal_sections fs) (formals_each fs h.1))
         (λ g. block_after b (λ q. block_same q b h.2) g x h.0)
 
 -- ---- a module
 
-same_count : (old new : TextWithTokens) → AreWrittenAlike old new → length new.tokens ≡ length old.tokens
-same_count old new w = sym (length-map new.tokens (word_of_token new.text)) ∙ (ap length w.same_words ∙ length-map old.tokens (word_of_token old.text))
-
--- If all tokens of two texts have the same spellings, the undeclared names and the faults of types are at the same
--- tokens.
-pub module_same : (old new : TextWithTokens) (w : AreWrittenAlike old new) (tree : ModuleTree) (ordinals : List (Option ℕ)) (declaration_tokens uses : List ℕ) (before after : List Fault) → AreFaultsAtSameTokens old new before after
-    → AreFaultsAtSameTokens old new (module_faults (record { module_read = parsed_module old tree; ordinals = ordinals; declaration_tokens = declaration_tokens; uses = uses; faults = before }))
-    (module_faults (record { module_read = parsed_module new tree; ordinals = ordinals; declaration_tokens = declaration_tokens; uses = uses; faults = after }))
+-- If all tokens of two texts have the same spellings, both modules have the same undeclared names and faults of types.
+pub module_same : (old new : TextWithTokens) → words_of_tokens new.text new.tokens ≡ words_of_tokens old.text old.tokens → (tree : ModuleTree) (b : Bindings)
+    → module_faults (resolution_with (parsed_module old tree) b) ≡ module_faults (resolution_with (parsed_module new tree) b)
 unfolding module_faults
-module_same old new w tree ordinals declaration_tokens uses before after h =
-    let first : KnownDeclarations = state_at_start (record { module_read = parsed_module old tree; ordinals = ordinals; declaration_tokens = declaration_tokens; uses = uses; faults = before }) in
+module_same old new same tree b =
     let P : ℕ → Type 0 = λ k. Unit {0} in
-    let likeness : Alikeness old new ordinals ordinals P = record { count = same_count old new w; written = λ k u. λ j. texts_stay old new w j k; value = λ k u. λ j. values_stay old new w j k; bound = λ k u. refl } in
-    let b : Tree ℕ block = module_block (tree_of (parsed_module old tree)) in
-    both_same old new (filter_same old new is_undeclared_fault (λ f. refl) h) (block_same old new ordinals ordinals P likeness first b (each_token P (λ k. tt) b)).faults
+    let likeness : Alikeness old new b.ordinals.items b.ordinals.items P = record { count = same_count old new same; written = λ k u. λ j. same_texts old new same j k; value = λ k u. λ j. same_values old new same j k; bound = λ k u. refl } in
+    let whole : Tree ℕ block = module_block (tree_of (parsed_module old tree)) in
+    ap (λ fs. filter is_undeclared_fault b.faults.items ++ fs) (block_same old new b.ordinals.items b.ordinals.items P likeness (state_at_start (resolution_with (parsed_module old tree) b)) whole (each_token P (λ k. tt) whole)).faults

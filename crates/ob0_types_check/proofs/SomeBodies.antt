@@ -1,15 +1,13 @@
 -- A body that has no faults still has none after the tokens of the module changed in other bodies.
-use Rattle.std.proofs.Common.{◌≡◌, ℕ, Bool, true, false, List, [], ◌∷◌, ◌++◌, map, Option, None, length, refl, sym, ap, ◌∙◌, subst, arith, true≢false}
-use Rattle.std.proofs.lemmas.List.{length-map, nil_from_length}
+use Rattle.std.proofs.Common.{◌≡◌, ℕ, Bool, true, false, List, [], ◌∷◌, ◌++◌, map, Option, None, refl, sym, ap, ◌∙◌, subst, true≢false}
 use Rattle.ob0_scan.specs.TextWithTokens.{TextWithTokens}
-use Rattle.ob0_scan.specs.declared.fault.Fault.{Fault}
 use Rattle.ob0_tree.specs.declared.tree.Role.TheVariants as role
 use Rattle.ob0_tree.specs.ParsedModule.{tree_of}
 use Rattle.ob0_tree.specs.Tree.{Tree, block, body, declares, declares_procedure, end, forms_block, identifiers, is_module, item, items, maybe, module_text, more, procedure}
 use Rattle.ob0_language_names.specs.Parts.{formal_sections, module_block, section_constants, section_types, section_variables}
 use Rattle.ob0_scope_table.specs.TokenProperty.{EachTokenHas}
-use Rattle.ob0_scope_table.specs.FaultTokens.{AreFaultsAtSameTokens, fault_at}
 use Rattle.ob0_scope_table.specs.Resolution.{IsResolution, Resolution, declaring_names}
+use Rattle.ob0_scope_table.specs.declared.faults.FaultAtTokens.{FaultAtTokens}
 use Rattle.ob0_types_check.specs.EqualExceptBodies.{EachTokenOfBlockHasExceptInBodies, IsSameTokenAt, EachTokenOfProcedureHasExceptInBodies, EachTokenOfProceduresHasExceptInBodies, Unless}
 use Rattle.ob0_types_check.specs.DeclarationFaults.{KnownHeading, state_after_heading, reported_body, reported_constants, reported_sections, reported_types, reported_variables}
 use Rattle.ob0_types_check.specs.Known.{Reported}
@@ -37,7 +35,7 @@ module _ (test : ℕ → Bool) where
   all_and (x ∷ xs) y h q = (h.0, all_and xs y h.1 q)
 
   -- If all bodies in the list are wanted after one was added, they were wanted before.
-  faulty_before : (faults : List Fault) (own : ℕ) (xs : List ℕ) → AllPass test (with_body_if_faulty faults own xs) → AllPass test xs
+  faulty_before : (faults : List FaultAtTokens) (own : ℕ) (xs : List ℕ) → AllPass test (with_body_if_faulty faults own xs) → AllPass test xs
   faulty_before [] own xs h = h
   faulty_before (fault ∷ faults) own xs h = all_before xs (own ∷ []) h
 
@@ -69,7 +67,7 @@ module _ (wanted : ℕ → Bool) where
   faulty_wanted : (w : WalkProgress) (own : ℕ) (a : Tree ℕ (maybe body)) → Wants w.bodies_with_faults → Wants (report_body_if_wanted (wanted own) own w a).known.bodies_with_faults
   faulty_wanted w own a h = one (wanted own) refl
     where
-      added : (faults : List Fault) → wanted own ≡ true → Wants (with_body_if_faulty faults own w.bodies_with_faults)
+      added : (faults : List FaultAtTokens) → wanted own ≡ true → Wants (with_body_if_faulty faults own w.bodies_with_faults)
       added [] e = h
       added (fault ∷ faults) e = all_and wanted w.bodies_with_faults own h e
 
@@ -105,7 +103,7 @@ pub record One {Z A : Type 0} (f g : Z → A) (r s d : Reported A) : Type 0 wher
   pub after : s.known ≡ g value
   pub same : s ≡ d
 
-of_alike : {Z A : Type 0} {old new : TextWithTokens} {f g : Z → A} {r s : Reported A} → Alike old new f g r s → One f g r s s
+of_alike : {Z A : Type 0} {f g : Z → A} {r s : Reported A} → Alike f g r s → One f g r s s
 of_alike p = record { value = p.value; before = p.before; after = p.after; same = refl }
 
 -- Joins two steps. The final state in the old text has a property that then holds for each earlier state.
@@ -123,13 +121,6 @@ one_then {Z} {A} {Y} {B} {f} {g} {h} {k} {t} {u} {v} J K next other another down
       after = ap (λ x. (other x).known) a.after ∙ b.after;
       same = reported_equal (ap (λ (x : Reported B). x.known) last) (λ i. (a.same i).faults ++ (last i).faults);
     }
-
--- If a list of faults is empty, the list of faults at the same tokens of another text is also empty.
-none_same_tokens : (old new : TextWithTokens) (before after : List Fault) → AreFaultsAtSameTokens old new before after → before ≡ [] → after ≡ []
-none_same_tokens old new before after h none =
-    let count : length before ≡ length h.tokens = ap length h.in_old ∙ length-map h.tokens (fault_at old) in
-    let nothing : length before ≡ 0 = ap length none in
-    h.in_new ∙ ap (map (fault_at new)) (nil_from_length h.tokens (omega (arith, count, nothing)))
 
 -- the state that both texts share, and the lists of bodies with faults in each of them
 record Both : Type 0 where
@@ -163,7 +154,7 @@ module _ (old new : TextWithTokens) (os ns : List (Option ℕ)) (P : ℕ → Typ
   abbrev nothing_of : {A : Type 0} → A → Type 0
   nothing_of x = Unit {0}
 
-  none_unless : (faults : List Fault) (own : ℕ) (xs : List ℕ) → wanted own ≡ false → Wants wanted (with_body_if_faulty faults own xs) → faults ≡ []
+  none_unless : (faults : List FaultAtTokens) (own : ℕ) (xs : List ℕ) → wanted own ≡ false → Wants wanted (with_body_if_faulty faults own xs) → faults ≡ []
   none_unless [] own xs e h = refl
   none_unless (fault ∷ faults) own xs e h = absurd (true≢false (sym (all_last wanted xs own h) ∙ e))
 
@@ -171,10 +162,10 @@ module _ (old new : TextWithTokens) (os ns : List (Option ℕ)) (P : ℕ → Typ
       → With (report_body_if_wanted true own (walked_before z) a) (report_body_if_wanted true own (walked_now z) a) (report_body_if_wanted (wanted own) own (walked_now z) a)
   body_with own z a each were = one (wanted own) refl each
     where
-      before_faults : List Fault
+      before_faults : List FaultAtTokens
       before_faults = (reported_body (so_before z.so) a).faults
 
-      now_faults : List Fault
+      now_faults : List FaultAtTokens
       now_faults = (reported_body (so_now z.so) a).faults
 
       at_end : Both
@@ -183,7 +174,7 @@ module _ (old new : TextWithTokens) (os ns : List (Option ℕ)) (P : ℕ → Typ
       one : (b : Bool) → wanted own ≡ b → Unless b (EachTokenHas P a) → With (report_body_if_wanted true own (walked_before z) a) (report_body_if_wanted true own (walked_now z) a) (report_body_if_wanted b own (walked_now z) a)
       one true e each = record { value = at_end; before = refl; after = refl; same = refl }
       one false e each =
-          let none : now_faults ≡ [] = none_same_tokens old new before_faults now_faults (body_same old new os ns P w z.so a each).faults (none_unless before_faults own z.in_old e were) in
+          let none : now_faults ≡ [] = sym (body_same old new os ns P w z.so a each).faults ∙ none_unless before_faults own z.in_old e were in
           record {
             value = at_end;
             before = refl;

@@ -59,13 +59,13 @@ module _ {T N : Type 0} (facts : Facts T) (shape : T → Option Shape) (apart : 
       let value : (reported_expression facts e).known.value ≡ Some v = fe.value_agrees ∙ (ap (λ m. outcome_value (evaluate {P = Unit {0}} m [] here)) (constants-again meaning) ∙ given) in
       record { none = none; of = fe.of; known = fe.known; value = value; scalar = fe.scalar v value }
 
-operand_value-right : {T : Type 0} (facts : Facts T) (o : Operand T) (b : Bool) (c : Option Value) (v : Value) → c ≡ Some v → (if b then without_fault None else value_or_fault facts o c).faults ≡ []
-operand_value-right facts o true c v h = refl
-operand_value-right facts o false c v h = ap (λ c. (value_or_fault facts o c).faults) h
+operand_value-right : {T : Type 0} (o : Operand T) (b : Bool) (c : Option Value) (v : Value) → c ≡ Some v → (if b then without_fault None else value_or_fault o c).faults ≡ []
+operand_value-right o true c v h = refl
+operand_value-right o false c v h = ap (λ c. (value_or_fault o c).faults) h
 
-bounds-right : {T : Type 0} (facts : Facts T) (o : Operand T) (b : Bool) (c : Option Value) (v : Value) (n : ℕ) → c ≡ Some v → array_length v ≡ Some n → (if b then length_by_value facts o c else without_fault None).faults ≡ []
-bounds-right facts o true c v n h k = ap (λ c. (length_by_value facts o c).faults) h ∙ ap (λ m. (length_or_fault facts o m).faults) k
-bounds-right facts o false c v n h k = refl
+bounds-right : {T : Type 0} (o : Operand T) (b : Bool) (c : Option Value) (v : Value) (n : ℕ) → c ≡ Some v → array_length v ≡ Some n → (if b then length_by_value o c else without_fault None).faults ≡ []
+bounds-right o true c v n h k = ap (λ c. (length_by_value o c).faults) h ∙ ap (λ m. (length_or_fault o m).faults) k
+bounds-right o false c v n h k = refl
 
 length-integer : (v : Value) (n : ℕ) (s : Shape) → array_length v ≡ Some n → value_type v ≡ Some s → s ≡ integer_shape
 length-integer (number (pos (suc m))) n s h k = some-same s integer_shape (sym k)
@@ -90,7 +90,7 @@ valued_constants_have_no_fault-holds p shapes label meaning e agrees h =
     let (v, hv) = is-there (constant_value meaning (mapped_tree label (token_value_at p.source) e)) h in
     let c = value-known facts (shape_in shapes) (types-apart p.made shapes) label meaning e agrees refl v hv in
     let o : Operand _ = (reported_expression facts e).known in
-    none-of-both (reported_expression facts e).faults (operand_value facts o).faults c.none (operand_value-right facts o (facts.types.same o.of facts.types.unknown) o.value v c.value)
+    none-of-both (reported_expression facts e).faults (operand_value facts o).faults c.none (operand_value-right o (facts.types.same o.of facts.types.unknown) o.value v c.value)
 
 pub valid_lengths_have_no_fault-holds : {N : Type 0} → ValidLengthsHaveNoFault N
 valid_lengths_have_no_fault-holds p shapes label meaning e agrees h =
@@ -105,4 +105,4 @@ valid_lengths_have_no_fault-holds p shapes label meaning e agrees h =
     let t = (required_type after after.types.integer o).known in
     none-of-both (reported_expression facts e).faults (length_of after o).faults c.none
     (none-of-both (required_type after after.types.integer o).faults _ (required_type-right after (shape_in shapes) agrees.types apart after.types.integer o integer)
-    (bounds-right after o (after.types.same t after.types.integer) o.value v n c.value counted))
+    (bounds-right o (after.types.same t after.types.integer) o.value v n c.value counted))

@@ -73,7 +73,7 @@ module _ {T : Type 0} (facts : Facts T) (shape : T → Option Shape) where
   no-procedure (Some (meant.a_procedure p)) signature s e h = some-none s (sym h)
   no-procedure (Some (meant.a_standard p)) signature s e h = some-none s (sym h)
 
-  variable-named : (x : ℕ) (t : T) (b : Bool) → b ≡ false → (if b then record { known = typed_name_operand facts.types.unknown x; faults = fault_at_token facts code.NotConstant x } else without_fault (typed_name_operand t x)).faults ≡ []
+  variable-named : (x : ℕ) (t : T) (b : Bool) → b ≡ false → (if b then record { known = typed_name_operand facts.types.unknown x; faults = fault_at_token code.NotConstant x } else without_fault (typed_name_operand t x)).faults ≡ []
   variable-named x t true e = absurd (true≢false e)
   variable-named x t false e = refl
 

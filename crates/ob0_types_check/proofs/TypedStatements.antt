@@ -67,7 +67,7 @@ module _ {T N : Type 0} (facts : Facts T) (shape : T → Option Shape) (types : 
 
   -- No fault is reported for a well-typed call.
 
-  variable-place : (x : ℕ) (t : T) (b : Bool) → (if b then record { known = typed_name_operand facts.types.unknown x; faults = fault_at_token facts code.NotConstant x } else without_fault (typed_name_operand t x)).known.may_be_variable ≡ true
+  variable-place : (x : ℕ) (t : T) (b : Bool) → (if b then record { known = typed_name_operand facts.types.unknown x; faults = fault_at_token code.NotConstant x } else without_fault (typed_name_operand t x)).known.may_be_variable ≡ true
   variable-place x t true = refl
   variable-place x t false = refl
 
@@ -112,7 +112,7 @@ module _ {T N : Type 0} (facts : Facts T) (shape : T → Option Shape) (types : 
       let (s, own, given) = same_known_shape-true (Some g.shape) (variable_type meaning (lone_designator (here e))) (sym (λ i. same_known_shape (Some g.shape) (elim (mode i) [ by_value ↦ type_of meaning (here e) | by_place ↦ variable_type meaning (lone_designator (here e)) ])) ∙ h) in
       let p : CanCountFrom e g.shape = place-known e k g.shape (given ∙ sym own) in
       none-of-both (reported_expression facts e).faults _ (expression-typed facts shape types apart only label meaning e k g.shape p.typed)
-      (ap (λ b. (if not b then record { known = facts.types.unknown; faults = fault_at_operand facts code.NotVariable o } else required_type facts of o).faults) p.placed
+      (ap (λ b. (if not b then record { known = facts.types.unknown; faults = fault_at_operand code.NotVariable o } else required_type facts of o).faults) p.placed
       ∙ required_type-right facts shape types apart of o (alike o.of of g.shape (operand-typed facts shape types apart only label meaning e k g.shape p.typed) wanted))
   required_type_of_argument-right false of g e mode wanted k h =
       let o : Operand T = (reported_expression facts e).known in
@@ -150,7 +150,7 @@ module _ {T N : Type 0} (facts : Facts T) (shape : T → Option Shape) (types : 
   called-right x (Some (a_variable t)) o es (s, reported, holds) k h = not-called o (Some (meant.a_variable s)) es holds refl h
   called-right x (Some (a_procedure fs)) o es (signature, holds, formals) k h =
       let parts = arguments-right fs signature es formals k (sym (ap (λ s. call_is_well_typed meaning s (map here es)) holds) ∙ h) in
-      ap (λ b. if b then argument_faults facts fs es else fault_at_token facts code.ArgumentCount x) (eq-eqb (length fs) (length es) parts.0) ∙ parts.1
+      ap (λ b. if b then argument_faults facts fs es else fault_at_token code.ArgumentCount x) (eq-eqb (length fs) (length es) parts.0) ∙ parts.1
 
   call-right : (x : ℕ) (es : Tree ℕ (maybe arguments)) → Named (calls x es) → statement_is_well_typed meaning (here (calls x es)) ≡ true → call_faults facts x (arguments_listed es) ≡ []
   unfolding statement_is_well_typed

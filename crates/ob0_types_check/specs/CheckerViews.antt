@@ -2,9 +2,9 @@
 -- definitions.
 -- Rule: none; used in contracts of the walk that reports faults.
 use Rattle.std.specs.Prelude.{◌≡◌, ℕ, ◌-◌, ◌^◌, Bool, List, map, ◌++◌, min, slice_get, slice_index_or, slice_set, string_bytes, Option, Some, None, option_and_then, option_map}
-use Rattle.ob0_scan.specs.declared.fault.Fault.{Fault}
 use Rattle.ob0_language_names.specs.Names.{Name}
 use Rattle.ob0_scope_table.specs.Resolution.{ordinal_in}
+use Rattle.ob0_scope_table.specs.declared.faults.FaultAtTokens.{FaultAtTokens}
 use Rattle.ob0_types_table.specs.FieldIndex.{first_field_type}
 use Rattle.ob0_types_table.specs.declared.known.Field.{Field}
 use Rattle.ob0_types_table.specs.declared.known.FormalParameter as formal
@@ -150,7 +150,7 @@ pub record HasKnownFields (g : KnownFields) (s : CheckerState) (now : gathering.
 -- States that the code has found the fields of the result `t` and reported its faults. `gathered` has these fields, and
 -- `s` is the state after them. The list of faults was `before`, and `after` is this list followed by the faults of `t`.
 pub record AddsKnownFields
-    (before after : List Fault) (s : CheckerState) (gathered : gathering.KnownFields)
+    (before after : List FaultAtTokens) (s : CheckerState) (gathered : gathering.KnownFields)
     (t : Reported KnownFields) : Type 0 where
   pub reported : after ≡ before ++ t.faults
   pub now : HasKnownFields t.known s gathered

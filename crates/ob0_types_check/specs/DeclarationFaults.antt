@@ -3,9 +3,9 @@
 -- Rule: docs/LANGUAGE.md, Faults of scopes and types 2 to 11.
 use Rattle.std.specs.Prelude.{ℕ, Bool, true, false, List, [], ◌++◌, map}
 use Rattle.std.specs.List.{filter}
-use Rattle.ob0_scan.specs.declared.fault.Fault.{Fault}
 use Rattle.ob0_language_names.specs.Parts.{formal_sections, module_block, names_in_list, section_constants, section_types, section_variables}
 use Rattle.ob0_scope_table.specs.Resolution.{Resolution, is_undeclared_fault}
+use Rattle.ob0_scope_table.specs.declared.faults.FaultAtTokens.{FaultAtTokens}
 use Rattle.ob0_types_table.specs.declared.types.TypeId.{TypeId}
 use Rattle.ob0_tree.specs.ParsedModule.{tree_of}
 use Rattle.ob0_tree.specs.Tree.{Tree, begins, block, body, constant, declares, declares_constant, declares_procedure, declares_type, declares_variable, end, further_section, forms_block, item, items, maybe, more, names, none, one, procedure, then_section, type_definition, value_section, variable, variable_section, written_type}
@@ -150,7 +150,7 @@ unfoldable mutual
     reported_block (state_after_heading x h) b
 
 -- returns the faults at the undeclared names of a module, in text order, and then the module's faults of types
-unfoldable pub module_faults : Resolution → List Fault
+unfoldable pub module_faults : Resolution → List FaultAtTokens
 unfolding reported_block
 module_faults r =
     filter is_undeclared_fault r.faults

@@ -194,7 +194,7 @@ abbrev pub reported_too_large_type : KnownDeclarations → ℕ → Reported Type
 reported_too_large_type p word =
     record {
       known = record { of = type.Unknown; following = p };
-      faults = fault_at_token (facts_at p false) code.TypeTooLarge word;
+      faults = fault_at_token code.TypeTooLarge word;
     }
 
 -- appends an array or record type and returns its `TypeId`; if its size isn't within the limits, reports `TypeTooLarge`

@@ -3,7 +3,6 @@
 use Rattle.std.specs.Prelude.{◌≡◌, ℕ, ◌+◌, ◌-◌, nat_lt, Bool, true, false, ◌||◌, List, [], ◌∷◌, ◌++◌, length, if◌then◌else◌, Option, Some, None, option_and_then, pos}
 use Rattle.ob0_scan.specs.declared.fault.FaultCode.{FaultCode}
 use Rattle.ob0_scan.specs.declared.fault.FaultCode.TheVariants as code
-use Rattle.ob0_scan.specs.declared.fault.Fault.{Fault}
 use Rattle.ob0_scan.specs.TextWithTokens.{TextWithTokens}
 use Rattle.ob0_tree.specs.declared.tree.AddOperator.{AddOperator}
 use Rattle.ob0_tree.specs.declared.tree.AddOperator.TheVariants as add_operator
@@ -13,7 +12,7 @@ use Rattle.ob0_tree.specs.declared.tree.Relation.{Relation}
 use Rattle.ob0_tree.specs.declared.tree.Relation.TheVariants as relation
 use Rattle.ob0_tree.specs.declared.tree.Sign.{Sign}
 use Rattle.ob0_tree.specs.Places.{token_text_at, token_value_at}
-use Rattle.ob0_scope_table.specs.Resolution.{span_at}
+use Rattle.ob0_scope_table.specs.declared.faults.FaultAtTokens.{FaultAtTokens}
 use Rattle.ob0_types_table.specs.Operators.{product_value, sum_value}
 use Rattle.ob0_language_types.specs.Selected.{apply_to_both}
 use Rattle.ob0_language_types.specs.Typing.{outcome_value}
@@ -22,7 +21,7 @@ use Rattle.ob0_language_values.specs.Values.{apply_sign as with_sign}
 use Rattle.ob0_types_check.specs.Known.{Facts, Form, Meaning, Operand, Reported, Types, a_constant, a_procedure, a_record, a_scalar, a_type, a_variable, an_array, unknown_form}
 
 -- returns the result `t` with the faults `before` put before its own faults
-abbrev pub with_earlier_faults : {A : Type 0} → List Fault → Reported A → Reported A
+abbrev pub with_earlier_faults : {A : Type 0} → List FaultAtTokens → Reported A → Reported A
 with_earlier_faults before t = record { known = t.known; faults = before ++ t.faults }
 
 -- returns the result `x` with an empty list of faults
@@ -37,7 +36,7 @@ t >>= next = with_earlier_faults t.faults (next t.known)
 
 -- states that `x` is the result of `t`, and that the list `after` is the list `before` followed by the faults of `t`
 pub record ReturnsAndReports
-    {A : Type 0} (before after : List Fault) (x : A) (t : Reported A) : Type 0 where
+    {A : Type 0} (before after : List FaultAtTokens) (x : A) (t : Reported A) : Type 0 where
   pub known : x ≡ t.known
   pub reported : after ≡ before ++ t.faults
 
@@ -49,25 +48,17 @@ token_before token = token - 1
 abbrev pub token_after : TextWithTokens → ℕ → ℕ
 token_after source token = if nat_lt token (length source.tokens) then token + 1 else token
 
--- returns a fault whose span extends from the start of the token `first` to the end of the token `last`
-abbrev pub fault_between : TextWithTokens → FaultCode → ℕ → ℕ → Fault
-fault_between source c first last =
-    record {
-      code = c;
-      span = record { start = (span_at source first).start; end = (span_at source last).end };
-    }
+-- returns a list of one fault, from the token `first` to the token `last`
+abbrev pub fault_at_tokens : FaultCode → ℕ → ℕ → List FaultAtTokens
+fault_at_tokens c first last = record { code = c; first = first; last = last } ∷ []
 
--- returns a list of one fault, whose span extends from the start of the token `first` to the end of the token `last`
-abbrev pub fault_at_tokens : {T : Type 0} → Facts T → FaultCode → ℕ → ℕ → List Fault
-fault_at_tokens facts c first last = fault_between facts.source c first last ∷ []
+-- returns a list of one fault, at one token
+abbrev pub fault_at_token : FaultCode → ℕ → List FaultAtTokens
+fault_at_token c token = fault_at_tokens c token token
 
--- returns a list of one fault, whose span is one token
-abbrev pub fault_at_token : {T : Type 0} → Facts T → FaultCode → ℕ → List Fault
-fault_at_token facts c token = fault_at_tokens facts c token token
-
--- returns a list of one fault, whose span is the whole expression of an operand
-abbrev pub fault_at_operand : {T : Type 0} → Facts T → FaultCode → Operand T → List Fault
-fault_at_operand facts c o = fault_at_tokens facts c o.first o.last
+-- returns a list of one fault, at the whole expression of an operand
+abbrev pub fault_at_operand : {T : Type 0} → FaultCode → Operand T → List FaultAtTokens
+fault_at_operand c o = fault_at_tokens c o.first o.last
 
 -- returns whether two types are equal or one of them is unknown; if not, a type is a mismatch for the other
 abbrev pub may_be_same_type : {T : Type 0} → Types T → T → T → Bool
@@ -78,7 +69,7 @@ may_be_same_type types s t = types.same s t || (types.same s types.unknown || ty
 abbrev pub required_type : {T : Type 0} → Facts T → T → Operand T → Reported T
 required_type facts wanted o = record {
   known = if facts.types.same o.of wanted then wanted else facts.types.unknown;
-  faults = if may_be_same_type facts.types o.of wanted then [] else fault_at_operand facts code.TypeMismatch o;
+  faults = if may_be_same_type facts.types o.of wanted then [] else fault_at_operand code.TypeMismatch o;
 }
 
 -- Requires the type `wanted` of two operands. A mismatch is reported at the left operand, or at the right operand if
@@ -92,7 +83,7 @@ required_type_of_both facts wanted a b =
           else facts.types.unknown;
       faults = (required_type facts wanted b).faults;
     }
-    else record { known = facts.types.unknown; faults = fault_at_operand facts code.TypeMismatch a }
+    else record { known = facts.types.unknown; faults = fault_at_operand code.TypeMismatch a }
 
 -- returns the type that an operator requires of both operands: INTEGER for `+` and `-`, BOOLEAN for OR
 abbrev pub operand_type_of_addition : {T : Type 0} → Types T → AddOperator → T
@@ -242,14 +233,14 @@ operand_by_meaning facts token (Some (a_constant v)) = without_fault (constant_n
 operand_by_meaning facts token (Some (a_variable t)) =
     if facts.only_constants
     then record
-    { known = typed_name_operand facts.types.unknown token; faults = fault_at_token facts code.NotConstant token }
+    { known = typed_name_operand facts.types.unknown token; faults = fault_at_token code.NotConstant token }
     else without_fault (typed_name_operand t token)
 operand_by_meaning facts token (Some (a_type t)) =
     record
-    { known = typed_name_operand facts.types.unknown token; faults = fault_at_token facts code.WrongKind token }
+    { known = typed_name_operand facts.types.unknown token; faults = fault_at_token code.WrongKind token }
 operand_by_meaning facts token (Some (a_procedure fs)) =
     record
-    { known = typed_name_operand facts.types.unknown token; faults = fault_at_token facts code.WrongKind token }
+    { known = typed_name_operand facts.types.unknown token; faults = fault_at_token code.WrongKind token }
 
 -- returns the operand of the name at a token, with a fault if the name doesn't refer to a value
 abbrev pub name_operand : {T : Type 0} → Facts T → ℕ → Reported (Operand T)
@@ -265,7 +256,7 @@ extended_operand o of last =
 -- the unknown type
 abbrev pub field_type_or_fault : {T : Type 0} → Facts T → ℕ → Option T → Reported T
 field_type_or_fault facts token None =
-    record { known = facts.types.unknown; faults = fault_at_token facts code.NoField token }
+    record { known = facts.types.unknown; faults = fault_at_token code.NoField token }
 field_type_or_fault facts token (Some t) = without_fault t
 
 -- Returns the type of the field with the name at a token, given the form of the type before the `.`. `NotRecord` is
@@ -277,10 +268,10 @@ field_type_in_form facts token (a_record fields) =
 field_type_in_form facts token unknown_form = without_fault facts.types.unknown
 field_type_in_form facts token a_scalar =
     record
-    { known = facts.types.unknown; faults = fault_at_token facts code.NotRecord (token_before token) }
+    { known = facts.types.unknown; faults = fault_at_token code.NotRecord (token_before token) }
 field_type_in_form facts token (an_array t) =
     record
-    { known = facts.types.unknown; faults = fault_at_token facts code.NotRecord (token_before token) }
+    { known = facts.types.unknown; faults = fault_at_token code.NotRecord (token_before token) }
 
 -- returns the operand for the field of the record `o` whose name is at a token, and the faults of this selection
 abbrev pub field_operand : {T : Type 0} → Facts T → Operand T → ℕ → Reported (Operand T)
@@ -297,10 +288,10 @@ element_type_in_form facts i of (an_array t) =
 element_type_in_form facts i of unknown_form = without_fault facts.types.unknown
 element_type_in_form facts i of a_scalar =
     record
-    { known = facts.types.unknown; faults = fault_at_token facts code.NotArray (token_before i.first) }
+    { known = facts.types.unknown; faults = fault_at_token code.NotArray (token_before i.first) }
 element_type_in_form facts i of (a_record fields) =
     record
-    { known = facts.types.unknown; faults = fault_at_token facts code.NotArray (token_before i.first) }
+    { known = facts.types.unknown; faults = fault_at_token code.NotArray (token_before i.first) }
 
 -- Returns the operand for the element that the index `i` selects in the array `o`, and the faults of this selection.
 -- The index must be INTEGER even if `o` isn't an array.

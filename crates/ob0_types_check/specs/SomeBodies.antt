@@ -3,9 +3,9 @@
 -- Rule: docs/LANGUAGE.md, Faults of scopes and types 2 to 11.
 use Rattle.std.specs.Prelude.{◌≡◌, ℕ, Bool, true, false, ◌||◌, List, [], ◌∷◌, ◌++◌, MatchOption, nat_eq}
 use Rattle.std.specs.List.{list_any}
-use Rattle.ob0_scan.specs.declared.fault.Fault.{Fault}
 use Rattle.ob0_language_names.specs.Parts.{formal_sections, module_block, section_constants, section_types, section_variables}
 use Rattle.ob0_scope_table.specs.Resolution.{IsResolution, Resolution}
+use Rattle.ob0_scope_table.specs.declared.faults.FaultAtTokens.{FaultAtTokens}
 use Rattle.ob0_tree.specs.ParsedModule.{named_tree_of, tree_of}
 use Rattle.ob0_tree.specs.Tree.{Tree, block, body, declares, declares_procedure, end, forms_block, item, items, maybe, more, procedure}
 use Rattle.ob0_types_check.specs.EqualExceptBodies.{AreEqualExceptBodies}
@@ -26,7 +26,7 @@ pub record WalkProgress : Type 0 where
 
 -- appends `own`, the closing name of a body's block, to the list `bodies_with_faults` if the body's list of faults
 -- isn't empty
-abbrev pub with_body_if_faulty : List Fault → ℕ → List ℕ → List ℕ
+abbrev pub with_body_if_faulty : List FaultAtTokens → ℕ → List ℕ → List ℕ
 with_body_if_faulty [] own bodies_with_faults = bodies_with_faults
 with_body_if_faulty (fault ∷ faults) own bodies_with_faults = bodies_with_faults ++ own ∷ []
 
@@ -135,7 +135,7 @@ walk_progress_of s bodies_with_faults = record { so_far = declarations_in_state 
 -- States that a walk has reached the end of the module `r` and has found the module's faults (`found`) and the closing
 -- names of its faulty bodies. The code's state `s` has the module's declarations.
 pub record IsFinishedWalk
-    (r : Resolution) (found : List Fault) (s : CheckerState) (bodies_with_faults : List ℕ) : Type 0 where
+    (r : Resolution) (found : List FaultAtTokens) (s : CheckerState) (bodies_with_faults : List ℕ) : Type 0 where
   pub faults : found ≡ module_faults r
   pub known : declarations_in_state s ≡ (reported_block (state_at_start r) (module_block (tree_of r.module_read))).known
   pub faulty_bodies_are : bodies_with_faults ≡ faulty_bodies r

@@ -11,7 +11,7 @@
 //! every declaration (`walk_without_fault_finds_meanings`).
 //!
 //! The definitions give the faults of each production of the grammar, in order, with codes and
-//! spans. They also give the result of the production, for example the type of an expression. A
+//! tokens. They also give the result of the production, for example the type of an expression. A
 //! `Reported` is such a result with its faults. The operator `>>=` puts the faults of one step
 //! before the faults of the next step. Statements have faults but no result. The contract of a
 //! function that returns a value has one clause, `ReturnsAndReports before after x t`. Here `t` is
@@ -37,8 +37,8 @@
 //! both find these tokens from their neighbors. ARRAY is the token before the array's length.
 //! Between RECORD and the name of the first field there are only semicolons, one for each empty
 //! group of fields before that name (`record_keyword`). Every token has a next token, because
-//! `token_after` returns the end of the text unchanged. Every fault has a place, because `span_at`
-//! returns the start of the text if there is no token.
+//! `token_after` returns the end of the text unchanged. Every fault has a span, because a token
+//! that doesn't exist counts as the last token (`fault_with_span`).
 //!
 //! A body declares nothing. So if only the tokens of one body changed, the types and meanings known
 //! at every other place are unchanged. Any other body that had no faults still has none
@@ -79,8 +79,8 @@ ghost use Rattle.ob0_types_check.specs.CheckerViews.{meaning_view, declarations_
 use crate::laws::{some_bodies_suffice, walk_without_fault_finds_meanings};
 use crate::reporting::checker_state::{CheckerState, Meaning, predeclared_meanings};
 use crate::reporting::objects::{define_standard_procedures, objects_of};
-use ob0_scan::{Fault, FaultCode};
-use ob0_scope_table::Resolved;
+use ob0_scan::FaultCode;
+use ob0_scope_table::{FaultAtTokens, Resolved};
 use ob0_types_table::DeclarationTable;
 use std::alloc::{AllocError, Global};
 
@@ -89,7 +89,7 @@ use std::alloc::{AllocError, Global};
 #[derive(Drop)]
 pub struct Report {
     /// The faults at undeclared names, in text order, and then the faults of types.
-    pub faults: Vec<Fault>,
+    pub faults: Vec<FaultAtTokens>,
     /// The table of declarations, or None if there is a fault.
     pub known: Option<DeclarationTable>,
     /// The bodies in which a fault of types is reported, in text order. Each body is given by the
@@ -217,7 +217,7 @@ fn make_declaration_table<'t>(
 struct Reporter<'t> {
     alloc: Global,
     checker_state: CheckerState<'t>,
-    faults: Vec<Fault>,
+    faults: Vec<FaultAtTokens>,
 }
 
 impl<'t> Reporter<'t> {
@@ -279,7 +279,10 @@ impl<'t> Reporter<'t> {
 
 /// Returns the faults with the code `Undeclared` among the faults that were found when the module's
 /// names were bound, in the same order.
-fn undeclared_name_faults(alloc: Global, resolved: &Resolved) -> Result<Vec<Fault>, AllocError>
+fn undeclared_name_faults(
+    alloc: Global,
+    resolved: &Resolved,
+) -> Result<Vec<FaultAtTokens>, AllocError>
     ensures { IfOk result (λ faults. faults.items ≡ filter is_undeclared_fault resolved.now.faults) }
 {
     let mut faults = Vec::new(alloc);

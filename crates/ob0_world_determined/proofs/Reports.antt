@@ -20,12 +20,13 @@ use Rattle.ob0_text.proofs.StableSort.{one_sorted, rises_sorted}
 use Rattle.ob0_tree.specs.Lexeme.{Terminal, EndOfText}
 use Rattle.ob0_tree.specs.Module.{ModuleOf, terminals_of_text}
 use Rattle.ob0_tree.specs.ParsedModule.{tree_of, named_tree_of}
-use Rattle.ob0_tree.specs.Places.{tree_with_names}
+use Rattle.ob0_tree.specs.Places.{token_text_at, tree_with_names}
 use Rattle.ob0_tree.specs.Tree.{Tree, module_text, occurrences}
 use Rattle.ob0_parse.specs.IsRightParseRefusal.{NoModuleBegins, IsRightParseRefusal}
 use Rattle.ob0_parse_descent.specs.declared.refusal.ParseRefusal.{ParseRefusal}
 use Rattle.ob0_parse_descent.specs.declared.refusal.ParseRefusal.TheVariants.{Syntax, TooDeep, Memory}
 use Rattle.ob0_scope_table.specs.DuplicatesAndEndNames.{tree_declaration_faults}
+use Rattle.ob0_scope_table.specs.FaultsAtTokens.{fault_with_span}
 use Rattle.ob0_language_names.specs.Occurrences.{bindings}
 use Rattle.ob0_language_names.specs.Parts.{module_block}
 use Rattle.ob0_scope_table.specs.Resolution.{Resolution, IsResolution, declaring_names, is_duplicate_or_end_name, is_undeclared_fault, undeclared_faults_by_labels}
@@ -190,7 +191,7 @@ module _ (r q : Resolution) (h : IsResolution r) (k : IsResolution q) (e : Same 
 
   same_of_names : r.faults ≡ q.faults
   same_of_names =
-      h.reported.by_kind ∙ (λ i. tree_declaration_faults (e.source i) (e.tree i) ++ undeclared_faults_by_labels (e.source i) (occurrences (e.tree i)) (bindings (tree_with_names (e.source i) (e.tree i)))) ∙ sym k.reported.by_kind
+      h.reported.by_kind ∙ (λ i. tree_declaration_faults (token_text_at (e.source i)) (e.tree i) ++ undeclared_faults_by_labels (occurrences (e.tree i)) (bindings (tree_with_names (e.source i) (e.tree i)))) ∙ sym k.reported.by_kind
 
   same_reported : module_faults r ≡ module_faults q
   unfolding module_faults
@@ -201,7 +202,7 @@ module _ (r q : Resolution) (h : IsResolution r) (k : IsResolution q) (e : Same 
 
   same_faults : (xs ys : List Fault) → AreFirstFaults r xs → AreFirstFaults q ys → xs ≡ ys
   same_faults xs ys a b =
-      let found : all_faults_of r ≡ all_faults_of q = λ i. same_reported i ++ filter is_duplicate_or_end_name (same_of_names i) in
+      let found : map (fault_with_span r.module_read.source) (all_faults_of r) ≡ map (fault_with_span q.module_read.source) (all_faults_of q) = λ i. map (fault_with_span (e.source i)) (same_reported i ++ filter is_duplicate_or_end_name (same_of_names i)) in
       a.first ∙ ap (take 100) (sorted_one _ a.all b.all (subst (λ fs. IsPermutation fs a.all) found a.joined) b.joined a.in_order b.in_order) ∙ sym b.first
 
 types_one : (text : List ℕ) (list other : List ReportedDiagnosis) → TableIsDetermined → ReportsNameAndTypeFaults text list → ReportsNameAndTypeFaults text other → list ≡ other

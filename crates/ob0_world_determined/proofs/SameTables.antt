@@ -1,18 +1,17 @@
 -- Proves that the faults of a module depend on its table of ordinals only by the ordinals at the module's tokens.
 use Rattle.std.proofs.Common.{◌≡◌, ℕ, suc, ◌+◌, Bool, true, false, cond, Option, Some, None, List, [], ◌∷◌, ◌++◌, map, length, refl, ap, subst}
 use Rattle.std.specs.Prelude.{option_and_then, slice_index_or, slice_set}
-use Rattle.ob0_scan.specs.declared.fault.FaultCode.TheVariants as code
-use Rattle.ob0_scan.specs.declared.fault.Fault.{Fault}
 use Rattle.ob0_language_values.specs.Values.{Value}
 use Rattle.ob0_language_names.specs.Parts.{formal_sections, names_in_list, section_constants, section_types, section_variables}
 use Rattle.ob0_scope_table.specs.Resolution.{ordinal_in}
+use Rattle.ob0_scope_table.specs.declared.faults.FaultAtTokens.{FaultAtTokens}
 use Rattle.ob0_types_table.specs.declared.types.TypeId.{TypeId}
 use Rattle.ob0_tree.specs.Places.{token_text_at}
 use Rattle.ob0_tree.specs.Tree.{Tree, array_type, begins, block, body, constant, declares, declares_constant, declares_procedure, declares_type, declares_variable, end, fields, further_fields, further_section, forms_block, item, items, maybe, more, named_type, names, no_fields, none, one, procedure, record_type, some_fields, then_fields, then_section, type_definition, value_section, variable, variable_section, written_type}
 use Rattle.ob0_types_check.specs.DeclarationFaults.{KnownHeading, state_after_heading, reported_constant_declaration, reported_constants, reported_block, reported_body, reported_parameters, reported_procedure, reported_procedures, reported_section, reported_sections, reported_types, reported_variables, reported_type_declaration, reported_variable_group, with_parameters}
 use Rattle.ob0_types_check.specs.ExpressionFaults.{reported_expression}
 use Rattle.ob0_types_check.specs.Known.{Facts, Meaning, Operand, Reported, a_constant, a_procedure, a_type, a_variable}
-use Rattle.ob0_types_check.specs.Operations.{fault_at_token, without_fault, token_before}
+use Rattle.ob0_types_check.specs.Operations.{without_fault, token_before}
 use Rattle.ob0_types_check.specs.KnownDeclarations.{PartTypes, Size, KnownDeclarations, TypeWithState, define, define_all, facts_at, is_within_limits, append_composite, make_type, of_elements, of_fields, size_of_type_so_far, reported_too_large_type, type_at_index, types_so_far, with_meaning}
 use Rattle.ob0_types_check.specs.StatementFaults.{sequence_faults}
 use Rattle.ob0_types_check.specs.TypeFaults.{length_of, reported_constant, type_named_at}
@@ -51,7 +50,7 @@ right_both : {A : Type 0} (R : A → A → Type 0) (x y : A) → R x y → Both 
 right_both R x y h = record { known = h; faults = refl }
 
 -- Two reports after equal faults correspond if the reports do.
-after : {B : Type 0} {S : B → B → Type 0} {before following : List Fault} {u v : Reported B} → before ≡ following → Both S u v
+after : {B : Type 0} {S : B → B → Type 0} {before following : List FaultAtTokens} {u v : Reported B} → before ≡ following → Both S u v
     → Both S (record { known = u.known; faults = before ++ u.faults }) (record { known = v.known; faults = following ++ v.faults })
 after first next = record { known = next.known; faults = λ i. first i ++ next.faults i }
 
@@ -90,7 +89,7 @@ make_like p q word k l parts size same like = go (is_within_limits size)
   where
     go : (b : Bool) → Both TypedLike (cond b (without_fault (append_composite p k parts size)) (reported_too_large_type p word)) (cond b (without_fault (append_composite q l parts size)) (reported_too_large_type q word))
     go true = right_both TypedLike (append_composite p k parts size) (append_composite q l parts size) (made_like p q k l parts size same like)
-    go false = record { known = record { of = refl; following = like }; faults = ap (λ (f : Facts TypeId). fault_at_token f code.TypeTooLarge word) (same_facts p q false like) }
+    go false = record { known = record { of = refl; following = like }; faults = refl }
 
 array_like : (k l : ℕ) (o : Operand TypeId) (n : Option ℕ) (t u : TypeWithState) → k ≡ l → TypedLike t u → Both TypedLike (made_array_type k o n t) (made_array_type l o n u)
 array_like k l o None t u same like = right_both TypedLike _ _ (record { of = refl; following = like.following })

@@ -5,14 +5,14 @@ ghost use Rattle.std.specs.Prelude.{◌≡◌, ◌≤◌, ◌∷◌, [], ◌++�
 ghost use Rattle.ob0_types_table.specs.declared.types.TypeId.TheVariants as type;
 ghost use Rattle.ob0_tree.specs.Places.{token_text_at};
 ghost use Rattle.ob0_types_check.specs.Known.{a_procedure};
-ghost use Rattle.ob0_types_check.specs.Operations.{ReturnsAndReports, fault_between, token_after};
+ghost use Rattle.ob0_types_check.specs.Operations.{ReturnsAndReports, fault_at_token, fault_at_tokens, token_after};
 ghost use Rattle.ob0_types_check.specs.KnownDeclarations.{define, is_within_limits, make_type, predeclared_meanings, size_of_type_so_far, with_meaning};
 ghost use Rattle.ob0_types_check.specs.CheckerViews.{capped_size, meaning_in_state, entry_element_type, entry_field_type, composite_type_of, meaning_view, size_of, declarations_in_state};
 ghost use Rattle.ob0_types_check.specs.WrittenTypeFaults.{array_size, sum_of_sizes, next_type_ordinal, record_size};
 
 use ob0_language_values::Scalar;
-use ob0_scan::{Fault, FaultCode, Span};
-use ob0_scope_table::{Resolved, token_span};
+use ob0_scan::FaultCode;
+use ob0_scope_table::{FaultAtTokens, Resolved};
 use ob0_tree::token_text_at;
 use ob0_types_table::{FormalParameter, MAX_DEPTH, MAX_SCALARS, TypeEntry, TypeId, add_entry};
 use std::alloc::{AllocError, Global};
@@ -135,6 +135,31 @@ pub(crate) fn sum_or_error(a: usize, b: usize) -> Result<usize, AllocError>
     }
 }
 
+/// Appends a fault with this code to `faults`. The fault is at the tokens from `first` to `last`.
+pub(crate) fn report_at_tokens(
+    faults: &mut Vec<FaultAtTokens>,
+    code: FaultCode,
+    first: usize,
+    last: usize,
+) -> Result<(), AllocError>
+    ensures { OnOk result
+        (faults.new.items ≡ faults.old.items ++ fault_at_tokens code first last) }
+{
+    faults.push(FaultAtTokens { code, first, last })?;
+    Ok(())
+}
+
+/// Appends a fault with this code to `faults`. The fault is at one token.
+pub(crate) fn report_at(
+    faults: &mut Vec<FaultAtTokens>,
+    code: FaultCode,
+    token: usize,
+) -> Result<(), AllocError>
+    ensures { OnOk result (faults.new.items ≡ faults.old.items ++ fault_at_token code token) }
+{
+    report_at_tokens(faults, code, token, token)
+}
+
 /// The declarations and types of a module that the walk has found so far.
 #[derive(Drop)]
 pub(crate) struct CheckerState<'t> {
@@ -165,44 +190,6 @@ impl<'t> CheckerState<'t> {
         } else {
             token
         }
-    }
-
-    /// Appends a fault with this code to `faults`. The fault's span extends from the start of the
-    /// token `first` to the end of the token `last`.
-    pub(crate) fn report(
-        &self,
-        faults: &mut Vec<Fault>,
-        code: FaultCode,
-        first: usize,
-        last: usize,
-    ) -> Result<(), AllocError>
-        ensures { OnOk result (faults.new.items
-            ≡ faults.old.items
-            ++ fault_between self.now.resolved.now.module_read.source code first last
-            ∷ []) }
-    {
-        let tokens = self.resolved.tokens();
-        let span = Span {
-            start: token_span(tokens, first).start,
-            end: token_span(tokens, last).end,
-        };
-        faults.push(Fault { code, span })?;
-        Ok(())
-    }
-
-    /// Appends a fault with this code to `faults`. The fault's span is the token `token`.
-    pub(crate) fn report_at(
-        &self,
-        faults: &mut Vec<Fault>,
-        code: FaultCode,
-        token: usize,
-    ) -> Result<(), AllocError>
-        ensures { OnOk result (faults.new.items
-            ≡ faults.old.items
-            ++ fault_between self.now.resolved.now.module_read.source code token token
-            ∷ []) }
-    {
-        self.report(faults, code, token, token)
     }
 
     /// Returns the meaning of the name at a token. Returns None if the name is unbound, or if the
@@ -321,7 +308,7 @@ impl<'t> CheckerState<'t> {
     /// at `token` and returns the unknown type.
     pub(crate) fn make_type(
         &mut self,
-        faults: &mut Vec<Fault>,
+        faults: &mut Vec<FaultAtTokens>,
         token: usize,
         entry: TypeEntry,
     ) -> Result<TypeId, AllocError>
@@ -331,7 +318,7 @@ impl<'t> CheckerState<'t> {
             (composite_type_of entry).parts (composite_type_of entry).size)) }
     {
         if !size_of_entry(&entry).is_within_limits() {
-            self.report_at(faults, FaultCode::TypeTooLarge, token)?;
+            report_at(faults, FaultCode::TypeTooLarge, token)?;
             return Ok(TypeId::Unknown);
         }
         add_entry(&mut self.composites, entry)

@@ -12,9 +12,10 @@ ghost use Rattle.ob0_types_check.specs.TypeFaults.{operand_value, reported_const
 ghost use Rattle.ob0_types_check.specs.KnownDeclarations.{same_type};
 ghost use Rattle.ob0_types_check.specs.CheckerViews.{facts_in, form_of_type_in, operand_of, known_types};
 
-use crate::reporting::checker_state::{CheckerState, Meaning};
+use crate::reporting::checker_state::{CheckerState, Meaning, report_at, report_at_tokens};
 use ob0_language_values::Scalar;
-use ob0_scan::{Fault, FaultCode};
+use ob0_scan::FaultCode;
+use ob0_scope_table::FaultAtTokens;
 use ob0_tree::{
     AddOperator, Comparison, CompoundExpression, Designator, Expression, Factor, MultiplyOperator,
     Relation, Selector, Sign, SimpleExpression, Term,
@@ -177,25 +178,24 @@ impl Operand {
     }
 }
 
-impl<'t> CheckerState<'t> {
-    /// Reports a fault with this code. The fault's span is the whole expression of the operand.
-    pub(crate) fn report_at_operand(
-        &self,
-        faults: &mut Vec<Fault>,
-        code: FaultCode,
-        operand: Operand,
-    ) -> Result<(), AllocError>
-        ensures { OnOk result (faults.new.items
-            ≡ faults.old.items ++ fault_at_operand (facts_in self.now false) code (operand_of operand)) }
-    {
-        self.report(faults, code, operand.first, operand.last)
-    }
+/// Reports a fault with this code at the whole expression of an operand.
+pub(crate) fn report_at_operand(
+    faults: &mut Vec<FaultAtTokens>,
+    code: FaultCode,
+    operand: Operand,
+) -> Result<(), AllocError>
+    ensures { OnOk result
+        (faults.new.items ≡ faults.old.items ++ fault_at_operand code (operand_of operand)) }
+{
+    report_at_tokens(faults, code, operand.first, operand.last)
+}
 
+impl<'t> CheckerState<'t> {
     /// Reports a mismatch if the operand's type and the required type `wanted` are both known and
     /// differ. Returns `wanted` if the operand has this type, otherwise the unknown type.
     pub(crate) fn require_type(
         &self,
-        faults: &mut Vec<Fault>,
+        faults: &mut Vec<FaultAtTokens>,
         wanted: TypeId,
         operand: Operand,
     ) -> Result<TypeId, AllocError>
@@ -203,7 +203,7 @@ impl<'t> CheckerState<'t> {
             (required_type (facts_in self.now false) wanted (operand_of operand))) }
     {
         if !may_be_same_type(operand.of, wanted) {
-            self.report_at_operand(faults, FaultCode::TypeMismatch, operand)?;
+            report_at_operand(faults, FaultCode::TypeMismatch, operand)?;
         }
         Ok(required_type_or_unknown(operand.of, wanted))
     }
@@ -213,7 +213,7 @@ impl<'t> CheckerState<'t> {
     /// operands have this type, otherwise the unknown type.
     fn require_both(
         &self,
-        faults: &mut Vec<Fault>,
+        faults: &mut Vec<FaultAtTokens>,
         wanted: TypeId,
         left: Operand,
         right: Operand,
@@ -222,7 +222,7 @@ impl<'t> CheckerState<'t> {
             (required_type_of_both (facts_in self.now false) wanted (operand_of left) (operand_of right))) }
     {
         if !may_be_same_type(left.of, wanted) {
-            self.report_at_operand(faults, FaultCode::TypeMismatch, left)?;
+            report_at_operand(faults, FaultCode::TypeMismatch, left)?;
             return Ok(TypeId::Unknown);
         }
         let of = self.require_type(faults, wanted, right)?;
@@ -238,7 +238,7 @@ impl<'t> CheckerState<'t> {
     #[cycle(expressions)]
     pub(crate) fn check_expression(
         &self,
-        faults: &mut Vec<Fault>,
+        faults: &mut Vec<FaultAtTokens>,
         e: &Expression,
         only_constants: bool,
     ) -> Result<Operand, AllocError>
@@ -254,7 +254,7 @@ impl<'t> CheckerState<'t> {
     #[cycle(expressions)]
     fn check_compound(
         &self,
-        faults: &mut Vec<Fault>,
+        faults: &mut Vec<FaultAtTokens>,
         c: &CompoundExpression,
         only_constants: bool,
     ) -> Result<Operand, AllocError>
@@ -276,7 +276,7 @@ impl<'t> CheckerState<'t> {
     /// the operand for the whole comparison.
     fn check_relation(
         &self,
-        faults: &mut Vec<Fault>,
+        faults: &mut Vec<FaultAtTokens>,
         relation: Relation,
         left: Operand,
         right: Operand,
@@ -294,7 +294,7 @@ impl<'t> CheckerState<'t> {
     #[cycle(expressions)]
     fn check_simple_expression(
         &self,
-        faults: &mut Vec<Fault>,
+        faults: &mut Vec<FaultAtTokens>,
         s: &SimpleExpression,
         only_constants: bool,
     ) -> Result<Operand, AllocError>
@@ -314,7 +314,7 @@ impl<'t> CheckerState<'t> {
     /// returns the operand for the whole expression.
     fn check_sum(
         &self,
-        faults: &mut Vec<Fault>,
+        faults: &mut Vec<FaultAtTokens>,
         operator: AddOperator,
         left: Operand,
         right: Operand,
@@ -332,7 +332,7 @@ impl<'t> CheckerState<'t> {
     /// mismatch is reported. Without a sign (None), the operand is returned unchanged.
     fn check_sign(
         &self,
-        faults: &mut Vec<Fault>,
+        faults: &mut Vec<FaultAtTokens>,
         sign: Option<Sign>,
         operand: Operand,
     ) -> Result<Operand, AllocError>
@@ -352,7 +352,7 @@ impl<'t> CheckerState<'t> {
     #[cycle(expressions)]
     fn check_term(
         &self,
-        faults: &mut Vec<Fault>,
+        faults: &mut Vec<FaultAtTokens>,
         t: &Term,
         only_constants: bool,
     ) -> Result<Operand, AllocError>
@@ -371,7 +371,7 @@ impl<'t> CheckerState<'t> {
     /// returns the operand for the whole expression.
     fn check_product(
         &self,
-        faults: &mut Vec<Fault>,
+        faults: &mut Vec<FaultAtTokens>,
         operator: MultiplyOperator,
         left: Operand,
         right: Operand,
@@ -393,7 +393,7 @@ impl<'t> CheckerState<'t> {
     #[cycle(expressions)]
     fn check_factor(
         &self,
-        faults: &mut Vec<Fault>,
+        faults: &mut Vec<FaultAtTokens>,
         f: &Factor,
         only_constants: bool,
     ) -> Result<Operand, AllocError>
@@ -453,7 +453,7 @@ impl<'t> CheckerState<'t> {
     /// operand for the whole negation.
     fn check_negation(
         &self,
-        faults: &mut Vec<Fault>,
+        faults: &mut Vec<FaultAtTokens>,
         operand: Operand,
     ) -> Result<Operand, AllocError>
         ensures { IfOk result (λ o. ReturnsAndReports faults.old.items faults.new.items (operand_of o)
@@ -468,7 +468,7 @@ impl<'t> CheckerState<'t> {
     /// reported. A name without a known meaning isn't reported here.
     fn operand_of_name(
         &self,
-        faults: &mut Vec<Fault>,
+        faults: &mut Vec<FaultAtTokens>,
         token: usize,
         only_constants: bool,
     ) -> Result<Operand, AllocError>
@@ -488,17 +488,17 @@ impl<'t> CheckerState<'t> {
                 Meaning::Constant(value) => Ok(constant_operand(*value, token)),
                 Meaning::Variable(of) => {
                     if only_constants {
-                        self.report_at(faults, FaultCode::NotConstant, token)?;
+                        report_at(faults, FaultCode::NotConstant, token)?;
                         return Ok(unknown);
                     }
                     Ok(unknown.operand_with_selector(*of, token))
                 }
                 Meaning::Named(_) => {
-                    self.report_at(faults, FaultCode::WrongKind, token)?;
+                    report_at(faults, FaultCode::WrongKind, token)?;
                     Ok(unknown)
                 }
                 Meaning::Procedure(_) => {
-                    self.report_at(faults, FaultCode::WrongKind, token)?;
+                    report_at(faults, FaultCode::WrongKind, token)?;
                     Ok(unknown)
                 }
             },
@@ -510,7 +510,7 @@ impl<'t> CheckerState<'t> {
     #[cycle(expressions)]
     pub(crate) fn check_selectors(
         &self,
-        faults: &mut Vec<Fault>,
+        faults: &mut Vec<FaultAtTokens>,
         base: Operand,
         d: &Designator,
         only_constants: bool,
@@ -531,7 +531,7 @@ impl<'t> CheckerState<'t> {
     #[cycle(expressions)]
     fn check_selector(
         &self,
-        faults: &mut Vec<Fault>,
+        faults: &mut Vec<FaultAtTokens>,
         base: Operand,
         selector: &Selector,
         only_constants: bool,
@@ -553,7 +553,7 @@ impl<'t> CheckerState<'t> {
     /// the faults of this selection. The index must be INTEGER even if `base` isn't an array.
     fn select_element(
         &self,
-        faults: &mut Vec<Fault>,
+        faults: &mut Vec<FaultAtTokens>,
         base: Operand,
         index: Operand,
     ) -> Result<Operand, AllocError>
@@ -570,7 +570,7 @@ impl<'t> CheckerState<'t> {
     /// isn't INTEGER.
     fn array_element_type(
         &self,
-        faults: &mut Vec<Fault>,
+        faults: &mut Vec<FaultAtTokens>,
         base: TypeId,
         index: Operand,
         index_type: TypeId,
@@ -597,14 +597,14 @@ impl<'t> CheckerState<'t> {
     /// Reports `NotArray` at the `[` before the index, and returns the unknown type.
     fn report_not_an_array(
         &self,
-        faults: &mut Vec<Fault>,
+        faults: &mut Vec<FaultAtTokens>,
         index: Operand,
     ) -> Result<TypeId, AllocError>
         ensures { IfOk result (λ t. ReturnsAndReports faults.old.items faults.new.items t
             (element_type_in_form (facts_in self.now false) (operand_of index) type.Integer
             (form_of_type_in [] type.Integer))) }
     {
-        self.report_at(faults, FaultCode::NotArray, index.first.saturating_sub(1))?;
+        report_at(faults, FaultCode::NotArray, index.first.saturating_sub(1))?;
         Ok(TypeId::Unknown)
     }
 
@@ -612,7 +612,7 @@ impl<'t> CheckerState<'t> {
     /// Reports the faults of this selection.
     fn select_field(
         &self,
-        faults: &mut Vec<Fault>,
+        faults: &mut Vec<FaultAtTokens>,
         base: Operand,
         name: usize,
     ) -> Result<Operand, AllocError>
@@ -628,7 +628,7 @@ impl<'t> CheckerState<'t> {
     /// field. In both cases, and if `base` is unknown, the result is the unknown type.
     fn field_type(
         &self,
-        faults: &mut Vec<Fault>,
+        faults: &mut Vec<FaultAtTokens>,
         base: TypeId,
         name: usize,
     ) -> Result<TypeId, AllocError>
@@ -639,7 +639,7 @@ impl<'t> CheckerState<'t> {
             TypeId::Record(place) => match self.field_type_at(place, self.text(name)) {
                 Some(of) => Ok(of),
                 None => {
-                    self.report_at(faults, FaultCode::NoField, name)?;
+                    report_at(faults, FaultCode::NoField, name)?;
                     Ok(TypeId::Unknown)
                 }
             },
@@ -653,13 +653,13 @@ impl<'t> CheckerState<'t> {
     /// Reports `NotRecord` at the `.` before the field's name, and returns the unknown type.
     fn report_not_a_record(
         &self,
-        faults: &mut Vec<Fault>,
+        faults: &mut Vec<FaultAtTokens>,
         name: usize,
     ) -> Result<TypeId, AllocError>
         ensures { IfOk result (λ t. ReturnsAndReports faults.old.items faults.new.items t
             (field_type_in_form (facts_in self.now false) name (form_of_type_in [] type.Integer))) }
     {
-        self.report_at(faults, FaultCode::NotRecord, name.saturating_sub(1))?;
+        report_at(faults, FaultCode::NotRecord, name.saturating_sub(1))?;
         Ok(TypeId::Unknown)
     }
 
@@ -667,7 +667,7 @@ impl<'t> CheckerState<'t> {
     /// if the right side has a fault.
     pub(crate) fn constant_value(
         &self,
-        faults: &mut Vec<Fault>,
+        faults: &mut Vec<FaultAtTokens>,
         e: &Expression,
     ) -> Result<Option<Scalar>, AllocError>
         ensures { IfOk result (λ v. ReturnsAndReports faults.old.items faults.new.items
@@ -683,7 +683,7 @@ impl<'t> CheckerState<'t> {
     /// nothing is reported. The result is None in both cases.
     fn operand_value(
         &self,
-        faults: &mut Vec<Fault>,
+        faults: &mut Vec<FaultAtTokens>,
         constant_operand: Operand,
     ) -> Result<Option<Scalar>, AllocError>
         ensures { IfOk result (λ v. ReturnsAndReports faults.old.items faults.new.items
@@ -694,7 +694,7 @@ impl<'t> CheckerState<'t> {
             return Ok(None);
         }
         if constant_operand.value.is_none() {
-            self.report_at_operand(faults, FaultCode::ConstFault, constant_operand)?;
+            report_at_operand(faults, FaultCode::ConstFault, constant_operand)?;
         }
         Ok(constant_operand.value)
     }

@@ -16,10 +16,13 @@ ghost use Rattle.ob0_types_check.specs.WrittenTypeFaults.{made_array_type, no_kn
 ghost use Rattle.ob0_types_check.specs.WrittenTypeFaults as spec;
 
 use crate::reporting::Reporter;
-use crate::reporting::checker_state::{CheckerState, Meaning, Size, ZERO_SIZE, sum_or_error};
-use crate::reporting::expressions::{Operand, same_type};
+use crate::reporting::checker_state::{
+    CheckerState, Meaning, Size, ZERO_SIZE, report_at, sum_or_error,
+};
+use crate::reporting::expressions::{Operand, report_at_operand, same_type};
 use ob0_language_values::Scalar;
-use ob0_scan::{Fault, FaultCode};
+use ob0_scan::FaultCode;
+use ob0_scope_table::FaultAtTokens;
 use ob0_tree::{ArrayType, FieldGroup, Fields, Names, RecordType, WrittenType};
 use ob0_types_table::{ArrayShape, Field, FieldTable, MAX_SCALARS, RecordShape, TypeEntry, TypeId};
 use std::alloc::{AllocError, Global};
@@ -99,7 +102,11 @@ impl<'t> CheckerState<'t> {
     /// Returns the type to which the name at `token` refers. If the name refers to something other
     /// than a type, a fault is reported. If the name has no known meaning, nothing is reported. In
     /// both cases the result is the unknown type.
-    fn type_named_at(&self, faults: &mut Vec<Fault>, token: usize) -> Result<TypeId, AllocError>
+    fn type_named_at(
+        &self,
+        faults: &mut Vec<FaultAtTokens>,
+        token: usize,
+    ) -> Result<TypeId, AllocError>
         ensures { IfOk result (λ t. ReturnsAndReports faults.old.items faults.new.items t
             (type_named_at (facts_in self.now false) token)) }
     {
@@ -115,11 +122,15 @@ impl<'t> CheckerState<'t> {
     }
 
     /// Reports `WrongKind` at a name that isn't a type's, and returns the unknown type.
-    fn report_not_a_type(&self, faults: &mut Vec<Fault>, token: usize) -> Result<TypeId, AllocError>
+    fn report_not_a_type(
+        &self,
+        faults: &mut Vec<FaultAtTokens>,
+        token: usize,
+    ) -> Result<TypeId, AllocError>
         ensures { IfOk result (λ t. ReturnsAndReports faults.old.items faults.new.items t
             (type_by_meaning (facts_in self.now false) token (Some (a_variable type.Integer)))) }
     {
-        self.report_at(faults, FaultCode::WrongKind, token)?;
+        report_at(faults, FaultCode::WrongKind, token)?;
         Ok(TypeId::Unknown)
     }
 
@@ -128,7 +139,7 @@ impl<'t> CheckerState<'t> {
     /// fault is reported or the operand's type is unknown.
     fn check_length(
         &self,
-        faults: &mut Vec<Fault>,
+        faults: &mut Vec<FaultAtTokens>,
         operand: Operand,
     ) -> Result<Option<usize>, AllocError>
         ensures { IfOk result (λ n. ReturnsAndReports faults.old.items faults.new.items n
@@ -139,12 +150,12 @@ impl<'t> CheckerState<'t> {
             return Ok(None);
         }
         let Some(value) = operand.value else {
-            self.report_at_operand(faults, FaultCode::ConstFault, operand)?;
+            report_at_operand(faults, FaultCode::ConstFault, operand)?;
             return Ok(None);
         };
         let length = array_length(value);
         if length.is_none() {
-            self.report_at_operand(faults, FaultCode::ArrayLength, operand)?;
+            report_at_operand(faults, FaultCode::ArrayLength, operand)?;
         }
         Ok(length)
     }

@@ -3,17 +3,16 @@ use Rattle.ob0_analysis.proofs.scanned_text.ScannedText.analyse_after_module.Goa
 
 pub reanalyse_module-requires : goal.reanalyse_module-requires
 reanalyse_module-requires c = record {
-  old = c.into_parts-tokens.result.0;
-  was = record {
+  earlier_module = record {
+    old = c.into_parts-tokens.result.0;
+    old_scan = c.text-text.ensures.scan;
+    new_scan = c.in-Ok.ensures.ok.scan;
     parsed = c.into_parts-tokens.ensures.parsed;
     resolved = c.into_parts-tokens.ensures.resolved;
     types_are = c.into_parts-tokens.ensures.types;
-    places_are = c.in_ok-places.ensures;
+    same = c.in-Ok.ensures.same;
+    written = c.in-Ok.ensures.written;
   };
-  old_scan = c.text-text.ensures.scan;
-  new_scan = c.in-Ok.ensures.ok.scan;
-  same = c.in-Ok.ensures.same;
-  written = c.in-Ok.ensures.written;
   same_kinds = c.in-Ok.ensures.same_kinds;
   same_names = c.in-Ok.ensures.same_names;
   same_words = c.in-Ok.ensures.same_words;

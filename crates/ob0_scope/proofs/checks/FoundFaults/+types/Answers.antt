@@ -1,4 +1,5 @@
 use Rattle.std.proofs.Common.{◌≡◌, [], ◌++◌, OnOk, refl, sym, ap, ◌∙◌, subst}
+use Rattle.ob0_tree.specs.Places.{token_text_at}
 use Rattle.ob0_tree.specs.View.{fields_of, further_fields_of_group, items_of, type_of}
 use Rattle.ob0_tree.proofs.Viewed.{made_record_type}
 use Rattle.ob0_language_names.specs.ConsistentNames.{group_field_names, further_field_names}
@@ -13,20 +14,20 @@ check_record_fields-loop-group-preserved t c =
 
 pub check_record_fields-loop-group-2-preserved : goal.check_record_fields-loop-group-2-preserved
 check_record_fields-loop-group-2-preserved t c =
-    let src = c.args.tokens.now in
+    let text = token_text_at c.args.tokens.now in
     let g = c.group-item-in-loop-group-2.result in
-    gathers_on (λ xs. duplicate_field_faults_in_groups src (items_of further_fields_of_group xs)) g (duplicate_field_faults_in_group src (fields_of g)) (λ rest. refl) c.loop-group-2.invariant c.loop-group-2-test.true c.group-item-in-loop-group-2.is c.in_ok-check_group_fields.ensures
+    gathers_on (λ xs. duplicate_field_faults_in_groups text (items_of further_fields_of_group xs)) g (duplicate_field_faults_in_group text (fields_of g)) (λ rest. refl) c.loop-group-2.invariant c.loop-group-2-test.true c.group-item-in-loop-group-2.is c.in_ok-check_group_fields.ensures
 
 pub check_record_fields-returns : goal.check_record_fields-returns
 check_record_fields-returns t c =
-    let src = c.args.tokens.now in
+    let text = token_text_at c.args.tokens.now in
     let gs = c.args.r.now.groups.items in
     let found = gathered (λ xs. further_field_names (items_of further_fields_of_group xs)) refl c.loop-group.invariant c.loop-group-test.false
     ∙ (λ i. c.in_ok-names.ensures.items i ++ further_field_names (items_of further_fields_of_group (c.deref-group-items.ensures.value i))) in
-    let named = c.in_ok-report_duplicates.ensures ∙ ap (λ xs. c.args.self.now ++ duplicate_faults src [] xs) c.deref.ensures.value in
-    let rest = gathered (λ xs. duplicate_field_faults_in_groups src (items_of further_fields_of_group xs)) refl c.loop-group-2.invariant c.loop-group-2-test.false
-    ∙ ap (λ xs. c.report_duplicates.new.self ++ duplicate_field_faults_in_groups src (items_of further_fields_of_group xs)) c.deref-group-items-2.ensures.value in
-    record_reported src c.args.self.now c.report_duplicates.new.self c.loop-group-2.self gs c.loop-group.names.items found named rest
+    let named = c.in_ok-report_duplicates.ensures ∙ ap (λ xs. c.args.self.now ++ duplicate_faults text [] xs) c.deref.ensures.value in
+    let rest = gathered (λ xs. duplicate_field_faults_in_groups text (items_of further_fields_of_group xs)) refl c.loop-group-2.invariant c.loop-group-2-test.false
+    ∙ ap (λ xs. c.report_duplicates.new.self ++ duplicate_field_faults_in_groups text (items_of further_fields_of_group xs)) c.deref-group-items-2.ensures.value in
+    record_reported text c.args.self.now c.report_duplicates.new.self c.loop-group-2.self gs c.loop-group.names.items found named rest
 
 pub check_type_fields-returns-in-Record : goal.check_type_fields-returns-in-Record
 check_type_fields-returns-in-Record t c =

@@ -5,4 +5,4 @@ use Rattle.ob0_scope.proofs.Checking.{Seeing}
 use Rattle.ob0_scope.proofs.checks.FoundFaults.report_duplicates_pairwise.Given as goal
 
 abbrev pub invariant-loop-index : goal.invariant-loop-index
-invariant-loop-index l = Seeing l.tokens l.names l.initial.self l.index (λ x. is_among x (map (token_text_at l.tokens) (take l.index l.names))) l.self
+invariant-loop-index l = Seeing (token_text_at l.tokens) l.names l.initial.self l.index (λ x. is_among x (map (token_text_at l.tokens) (take l.index l.names))) l.self
