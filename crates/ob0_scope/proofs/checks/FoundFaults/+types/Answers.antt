@@ -31,5 +31,5 @@ check_record_fields-returns t c =
 
 pub check_type_fields-returns-in-Record : goal.check_type_fields-returns-in-Record
 check_type_fields-returns-in-Record t c =
-    subst (λ r. OnOk c.check_record_fields.result (c.check_record_fields.new.self ≡ c.args.self.now ++ duplicate_field_faults c.args.tokens.now r))
+    subst (λ r. OnOk c.check_record_fields.result (c.check_record_fields.new.self ≡ c.args.self.now ++ duplicate_field_faults (token_text_at c.args.tokens.now) r))
     (sym (made_record_type c.in-Record.r) ∙ sym (ap type_of c.in-Record.is)) c.check_record_fields.ensures
