@@ -12,7 +12,7 @@ use Rattle.ob0_tree.specs.Tree.{Tree, block, body, constants, declares, declares
 use Rattle.ob0_tree.specs.View.{fields_of, further_fields_of_group, items_of, record_of_list}
 use Rattle.ob0_language_names.specs.ConsistentNames.{block_names, further_field_names, is_among, procedure_names}
 use Rattle.ob0_scope_table.specs.DuplicatesAndEndNames.{duplicate_faults, block_declaration_faults, closing_name_faults, duplicate_field_faults, duplicate_field_faults_in_formals, duplicate_field_faults_in_group, duplicate_field_faults_in_groups, procedure_declaration_faults, procedures_declaration_faults, duplicate_field_faults_in_types, fault_unless, duplicate_field_faults_in_variables}
-use Rattle.ob0_scope_table.specs.FaultsAtTokens.{fault_at}
+use Rattle.ob0_scope_table.specs.FaultsAtTokens.{fault_at_token}
 use Rattle.ob0_scope_table.specs.declared.faults.FaultAtTokens.{FaultAtTokens}
 use Rattle.ob0_language_names.specs.Names.{Name, same_name}
 use Rattle.ob0_language_names.specs.Parts.{constant_names, formal_names, formal_sections, declared_type_names, section_constants, section_types, section_variables, variable_names}
@@ -62,7 +62,7 @@ one_more x seen next grown q =
     grown.0 (record { ref_ptr = (0, 0); now = q }) ∙ either (is_eq (slice_cmp nat_cmp x q)) (same_name q x) (has seen q) (is_eq-slice_cmp x q ∙ same_name-comm x q)
 
 pub sees_on : (text : ℕ → Name) (all : List ℕ) (start : List FaultAtTokens) (done : ℕ) (seen next : Name → Bool) (now later : List FaultAtTokens) (added : Bool) (token : ℕ) (x : Name) → Seeing text all start done seen now → done < length all
-    → token ≡ get_or all done 0 → x ≡ text token → added ≡ not (seen x) → ((q : Name) → next q ≡ (same_name q x || seen q)) → later ≡ now ++ fault_unless added (fault_at code.Duplicate token) → Seeing text all start (done + 1) next later
+    → token ≡ get_or all done 0 → x ≡ text token → added ≡ not (seen x) → ((q : Name) → next q ≡ (same_name q x || seen q)) → later ≡ now ++ fault_unless added (fault_at_token code.Duplicate token) → Seeing text all start (done + 1) next later
 sees_on text all start done seen next now later added token x w less here named new grown e =
     let rest = drop (done + 1) all in
     let split : drop done all ≡ token ∷ rest = drop_more all done 0 less ∙ ap (λ y. y ∷ rest) (sym here) in
@@ -70,8 +70,8 @@ sees_on text all start done seen next now later added token x w less here named 
     record {
       before = x ∷ w.before;
       found = λ q. grown q ∙ ap (λ b. same_name q x || b) (w.found q);
-      so_far = (λ i. (e ∙ ap (λ b. now ++ fault_unless b (fault_at code.Duplicate token)) fresh) i ++ duplicate_faults text (named i ∷ w.before) rest)
-          ∙ (append_assoc now (fault_unless (not (is_among (text token) w.before)) (fault_at code.Duplicate token)) (duplicate_faults text (text token ∷ w.before) rest)
+      so_far = (λ i. (e ∙ ap (λ b. now ++ fault_unless b (fault_at_token code.Duplicate token)) fresh) i ++ duplicate_faults text (named i ∷ w.before) rest)
+          ∙ (append_assoc now (fault_unless (not (is_among (text token) w.before)) (fault_at_token code.Duplicate token)) (duplicate_faults text (text token ∷ w.before) rest)
           ∙ (sym (ap (λ ys. now ++ duplicate_faults text w.before ys) split) ∙ w.so_far));
     }
 

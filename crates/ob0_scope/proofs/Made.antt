@@ -12,7 +12,7 @@ use Rattle.ob0_tree.specs.Tree.{identifiers, occurrences}
 use Rattle.ob0_tree.specs.ParsedModule.{ParsedModule, IsParsed, tree_of}
 use Rattle.ob0_tree.specs.Places.{token_text_at}
 use Rattle.ob0_scope_table.specs.DuplicatesAndEndNames.{declaration_faults}
-use Rattle.ob0_scope_table.specs.FaultsAtTokens.{fault_at}
+use Rattle.ob0_scope_table.specs.FaultsAtTokens.{fault_at_token}
 use Rattle.ob0_scope_table.specs.declared.faults.FaultAtTokens.{FaultAtTokens}
 use Rattle.ob0_language_names.specs.Names.{Name, naming_by_spelling}
 use Rattle.ob0_scope_table.specs.Resolution.{AreNameFaultsOf, IsNumberingTable, IsResolution, OnlyNamesHaveOrdinals, declaring_names, is_duplicate_or_end_name, is_undeclared_fault, is_unbound, label_at, ordinal_in, undeclared_faults_by_labels, undeclared_faults, undeclared_faults_by_table, ordinal_and_spelling}
@@ -26,7 +26,7 @@ use Rattle.ob0_scope_numbering.proofs.Tables.{kept_elsewhere, marks_in_table, no
 use Rattle.ob0_scope.proofs.TwiceOnce.{twice_alone, twice_where}
 use Rattle.ob0_tree.proofs.Occurring.{looked_up-occurrences}
 
-undeclared_none : (o : Option ℕ) (token : ℕ) (rest : List FaultAtTokens) → list_any is_duplicate_or_end_name rest ≡ false → list_any is_duplicate_or_end_name (if is_some o then rest else fault_at code.Undeclared token ∷ rest) ≡ false
+undeclared_none : (o : Option ℕ) (token : ℕ) (rest : List FaultAtTokens) → list_any is_duplicate_or_end_name rest ≡ false → list_any is_duplicate_or_end_name (if is_some o then rest else fault_at_token code.Undeclared token ∷ rest) ≡ false
 undeclared_none None token rest e = e
 undeclared_none (Some k) token rest e = e
 
@@ -35,8 +35,8 @@ undeclared_declares ordinals [] = refl
 undeclared_declares ordinals (i ∷ is) = undeclared_none (ordinal_in ordinals i) i (undeclared_faults_by_table ordinals is) (undeclared_declares ordinals is)
 
 unbound_one : (o : Option ℕ) (x : Name) (token : ℕ) (rest other : List FaultAtTokens) → rest ≡ other
-    → (if is_some o then rest else fault_at code.Undeclared token ∷ rest) ≡ (if is_unbound (label_from_ordinal naming_by_spelling o x) then fault_at code.Undeclared token ∷ other else other)
-unbound_one None x token rest other e = ap (λ fs. fault_at code.Undeclared token ∷ fs) e
+    → (if is_some o then rest else fault_at_token code.Undeclared token ∷ rest) ≡ (if is_unbound (label_from_ordinal naming_by_spelling o x) then fault_at_token code.Undeclared token ∷ other else other)
+unbound_one None x token rest other e = ap (λ fs. fault_at_token code.Undeclared token ∷ fs) e
 unbound_one (Some k) x token rest other e = e
 
 unbound_all : (source : TextWithTokens) (ordinals : List (Option ℕ)) (is : List ℕ) → undeclared_faults_by_table ordinals is ≡ undeclared_faults_by_labels is (map (label_at source ordinals) is)
@@ -45,8 +45,8 @@ unbound_all source ordinals (i ∷ is) =
     unbound_one (ordinal_in ordinals i) (token_text_at source i) i (undeclared_faults_by_table ordinals is) (undeclared_faults_by_labels is (map (label_at source ordinals) is)) (unbound_all source ordinals is)
 
 occurrences_kept : (o : Option ℕ) (token : ℕ) (rest : List FaultAtTokens) → filter is_undeclared_fault rest ≡ rest
-    → filter is_undeclared_fault (if is_some o then rest else fault_at code.Undeclared token ∷ rest) ≡ (if is_some o then rest else fault_at code.Undeclared token ∷ rest)
-occurrences_kept None token rest e = ap (λ fs. fault_at code.Undeclared token ∷ fs) e
+    → filter is_undeclared_fault (if is_some o then rest else fault_at_token code.Undeclared token ∷ rest) ≡ (if is_some o then rest else fault_at_token code.Undeclared token ∷ rest)
+occurrences_kept None token rest e = ap (λ fs. fault_at_token code.Undeclared token ∷ fs) e
 occurrences_kept (Some k) token rest e = e
 
 all_occurrences : (ordinals : List (Option ℕ)) (is : List ℕ) → filter is_undeclared_fault (undeclared_faults_by_table ordinals is) ≡ undeclared_faults_by_table ordinals is

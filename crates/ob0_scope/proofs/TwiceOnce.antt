@@ -12,7 +12,7 @@ use Rattle.ob0_language_names.specs.ConsistentNames.{are_distinct, block_names, 
 use Rattle.ob0_scope_table.specs.DuplicatesAndEndNames.{duplicate_faults, block_declaration_faults, closing_name_faults, duplicate_field_faults, duplicate_field_faults_in_formals, duplicate_field_faults_in_group, duplicate_field_faults_in_groups, tree_declaration_faults, procedure_declaration_faults, procedures_declaration_faults, declaration_faults, duplicate_field_faults_in_types, fault_unless, duplicate_field_faults_in_variables}
 use Rattle.ob0_language_names.specs.Names.{Name, same_name}
 use Rattle.ob0_language_names.specs.Parts.{constant_names, formal_names, formal_sections, further_names, declared_type_names, names_in_list, section_constants, section_names, section_type, section_types, section_variables, variable_names}
-use Rattle.ob0_scope_table.specs.FaultsAtTokens.{fault_at}
+use Rattle.ob0_scope_table.specs.FaultsAtTokens.{fault_at_token}
 use Rattle.ob0_scope_table.specs.Resolution.{is_duplicate_or_end_name}
 use Rattle.ob0_scope_table.specs.declared.faults.FaultAtTokens.{FaultAtTokens}
 use Rattle.ob0_language_names.proofs.NameEquality.{same_name-comm}
@@ -78,11 +78,11 @@ not_or false b = refl
 fine_both : (xs ys : List FaultAtTokens) (a b : Bool) → fine xs ≡ a → fine ys ≡ b → fine (xs ++ ys) ≡ (a && b)
 fine_both xs ys a b e h = ap not (list_any-append is_duplicate_or_end_name xs ys) ∙ (not_or (list_any is_duplicate_or_end_name xs) (list_any is_duplicate_or_end_name ys) ∙ (λ i. e i && h i))
 
-fine_duplicate : (token : ℕ) (b : Bool) → fine (fault_unless b (fault_at code.Duplicate token)) ≡ b
+fine_duplicate : (token : ℕ) (b : Bool) → fine (fault_unless b (fault_at_token code.Duplicate token)) ≡ b
 fine_duplicate token true = refl
 fine_duplicate token false = refl
 
-fine_closing : (token : ℕ) (b : Bool) → fine (fault_unless b (fault_at code.EndName token)) ≡ b
+fine_closing : (token : ℕ) (b : Bool) → fine (fault_unless b (fault_at_token code.EndName token)) ≡ b
 fine_closing token true = refl
 fine_closing token false = refl
 
@@ -90,7 +90,7 @@ duplicate_faults-fine : (text : ℕ → Name) (before : List Name) (xs : List �
 duplicate_faults-fine text before [] = refl
 duplicate_faults-fine text before (x ∷ xs) =
     let apart = not (is_among (text x) before) in
-    fine_both (fault_unless apart (fault_at code.Duplicate x)) (duplicate_faults text (text x ∷ before) xs) apart (distinct_from (text x ∷ before) (map text xs)) (fine_duplicate x apart) (duplicate_faults-fine text (text x ∷ before) xs)
+    fine_both (fault_unless apart (fault_at_token code.Duplicate x)) (duplicate_faults text (text x ∷ before) xs) apart (distinct_from (text x ∷ before) (map text xs)) (fine_duplicate x apart) (duplicate_faults-fine text (text x ∷ before) xs)
 
 names-fine : (text : ℕ → Name) (xs : List ℕ) (ys : List Name) → map text xs ≡ ys → fine (duplicate_faults text [] xs) ≡ are_distinct ys
 names-fine text xs ys e = duplicate_faults-fine text [] xs ∙ (ap (distinct_from []) e ∙ distinct_alone ys)
@@ -263,11 +263,11 @@ others fs = list_any (λ f. not (is_duplicate_or_end_name f)) fs
 no_others : (xs ys : List FaultAtTokens) → others xs ≡ false → others ys ≡ false → others (xs ++ ys) ≡ false
 no_others xs ys e h = list_any-append (λ f. not (is_duplicate_or_end_name f)) xs ys ∙ (λ i. e i || h i)
 
-duplicate-alone : (token : ℕ) (b : Bool) → others (fault_unless b (fault_at code.Duplicate token)) ≡ false
+duplicate-alone : (token : ℕ) (b : Bool) → others (fault_unless b (fault_at_token code.Duplicate token)) ≡ false
 duplicate-alone token true = refl
 duplicate-alone token false = refl
 
-closing-alone : (token : ℕ) (b : Bool) → others (fault_unless b (fault_at code.EndName token)) ≡ false
+closing-alone : (token : ℕ) (b : Bool) → others (fault_unless b (fault_at_token code.EndName token)) ≡ false
 closing-alone token true = refl
 closing-alone token false = refl
 
@@ -275,7 +275,7 @@ duplicate_faults-alone : (text : ℕ → Name) (before : List Name) (xs : List �
 duplicate_faults-alone text before [] = refl
 duplicate_faults-alone text before (x ∷ xs) =
     let apart = not (is_among (text x) before) in
-    no_others (fault_unless apart (fault_at code.Duplicate x)) (duplicate_faults text (text x ∷ before) xs) (duplicate-alone x apart) (duplicate_faults-alone text (text x ∷ before) xs)
+    no_others (fault_unless apart (fault_at_token code.Duplicate x)) (duplicate_faults text (text x ∷ before) xs) (duplicate-alone x apart) (duplicate_faults-alone text (text x ∷ before) xs)
 
 mutual
   fields-alone : (text : ℕ → Name) (t : Tree ℕ written_type) → others (duplicate_field_faults text t) ≡ false

@@ -18,7 +18,7 @@ ghost use Rattle.ob0_scope_table.specs.Resolution.{is_duplicate_or_end_name};
 ghost use Rattle.ob0_scope_table.specs.DuplicatesAndEndNames.{duplicate_faults, block_declaration_faults, closing_name_faults, duplicate_field_faults, duplicate_field_faults_in_formals, duplicate_field_faults_in_group, procedure_declaration_faults, declaration_faults, duplicate_field_faults_in_types, fault_unless, duplicate_field_faults_in_variables};
 
 use ob0_scan::{FaultCode, Tokens};
-use ob0_scope_table::{FaultAtTokens, fault_at, is_duplicate_or_end_name};
+use ob0_scope_table::{FaultAtTokens, fault_at_token, is_duplicate_or_end_name};
 use ob0_tree::{
     Block, Constant, Fields, Module, Names, ParameterSection, Procedure, RecordType,
     TypeDeclaration, VariableDeclaration, WrittenType, token_text_at,
@@ -250,7 +250,7 @@ impl FoundFaults {
         ensures { OnOk result (self.new
             ≡ self.old ++ closing_name_faults (token_text_at tokens.now) name closing) }
     {
-        let fault = fault_at(FaultCode::EndName, closing);
+        let fault = fault_at_token(FaultCode::EndName, closing);
         self.report_unless(have_same_spelling(tokens, name, closing), fault)
     }
 
@@ -282,7 +282,7 @@ impl FoundFaults {
                 &names[..index],
                 token_text_at(tokens, *name),
             );
-            self.report_unless(!is_second, fault_at(FaultCode::Duplicate, *name))?;
+            self.report_unless(!is_second, fault_at_token(FaultCode::Duplicate, *name))?;
         }
         Ok(())
     }
@@ -300,7 +300,7 @@ impl FoundFaults {
         let mut seen = BTreeSet::new(self.alloc);
         for name in names {
             let added = seen.insert(token_text_at(tokens, *name))?;
-            self.report_unless(added, fault_at(FaultCode::Duplicate, *name))?;
+            self.report_unless(added, fault_at_token(FaultCode::Duplicate, *name))?;
         }
         Ok(())
     }

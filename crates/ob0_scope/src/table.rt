@@ -4,7 +4,7 @@ ghost use Rattle.std.specs.Prelude.{◌≡◌, ◌++◌, OnOk};
 ghost use Rattle.ob0_scope_table.specs.Resolution.{undeclared_faults_by_table};
 
 use ob0_scan::FaultCode;
-use ob0_scope_table::{FaultAtTokens, OrdinalEntry, fault_at, ordinal_at};
+use ob0_scope_table::{FaultAtTokens, OrdinalEntry, fault_at_token, ordinal_at};
 use std::alloc::AllocError;
 
 /// Appends a fault `Undeclared` for each token in `occurrences` that has no ordinal in the table
@@ -19,7 +19,7 @@ pub(crate) fn report_undeclared(
 {
     for token in occurrences {
         if ordinal_at(ordinals, *token).is_none() {
-            faults.push(fault_at(FaultCode::Undeclared, *token))?;
+            faults.push(fault_at_token(FaultCode::Undeclared, *token))?;
         }
     }
     Ok(())

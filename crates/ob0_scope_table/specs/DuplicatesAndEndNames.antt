@@ -10,7 +10,7 @@ use Rattle.ob0_tree.specs.Tree.{Tree, array_type, block, declares, declares_proc
 use Rattle.ob0_language_names.specs.ConsistentNames.{block_names, group_field_names, further_field_names, is_among}
 use Rattle.ob0_language_names.specs.Names.{Name, same_name}
 use Rattle.ob0_language_names.specs.Parts.{formal_names, formal_sections, section_type, section_types, section_variables}
-use Rattle.ob0_scope_table.specs.FaultsAtTokens.{fault_at}
+use Rattle.ob0_scope_table.specs.FaultsAtTokens.{fault_at_token}
 use Rattle.ob0_scope_table.specs.declared.faults.FaultAtTokens.{FaultAtTokens}
 
 -- returns a list with only this fault if the condition `holds` is false, otherwise an empty list
@@ -22,14 +22,14 @@ fault_unless holds fault = if holds then [] else fault ∷ []
 abbrev pub duplicate_faults : (ℕ → Name) → List Name → List ℕ → List FaultAtTokens
 duplicate_faults spelling before [] = []
 duplicate_faults spelling before (x ∷ xs) =
-    fault_unless (not (is_among (spelling x) before)) (fault_at code.Duplicate x)
+    fault_unless (not (is_among (spelling x) before)) (fault_at_token code.Duplicate x)
     ++ duplicate_faults spelling (spelling x ∷ before) xs
 
 -- returns a list with only the fault `EndName` if the closing name of a module or procedure (at the token
 -- `closing`) differs from its name (at the token `x`), otherwise an empty list
 abbrev pub closing_name_faults : (ℕ → Name) → ℕ → ℕ → List FaultAtTokens
 closing_name_faults spelling x closing =
-    fault_unless (same_name (spelling x) (spelling closing)) (fault_at code.EndName closing)
+    fault_unless (same_name (spelling x) (spelling closing)) (fault_at_token code.EndName closing)
 
 -- Returns the faults of duplicate fields in a written type: of an outer record first, then of the
 -- records inside it.

@@ -8,8 +8,8 @@ use Rattle.ob0_scope_table.specs.Spans.{span_at}
 use Rattle.ob0_scope_table.specs.declared.faults.FaultAtTokens.{FaultAtTokens}
 
 -- returns the fault with this code at one token
-abbrev pub fault_at : FaultCode → ℕ → FaultAtTokens
-fault_at c token = record { code = c; first = token; last = token }
+abbrev pub fault_at_token : FaultCode → ℕ → FaultAtTokens
+fault_at_token c token = record { code = c; first = token; last = token }
 
 -- Returns the index of a token in a text with `count` tokens. A token that doesn't exist counts as
 -- the last token. Returns 0 if the text has no tokens.

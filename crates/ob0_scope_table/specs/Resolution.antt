@@ -18,7 +18,7 @@ use Rattle.ob0_language_names.specs.Scopes.{Labelling, label_from_ordinal, numbe
 use Rattle.ob0_language_names.specs.Occurrences.{bindings}
 use Rattle.ob0_language_names.specs.ConsistentNames.{has_consistent_names}
 use Rattle.ob0_scope_table.specs.DuplicatesAndEndNames.{declaration_faults}
-use Rattle.ob0_scope_table.specs.FaultsAtTokens.{fault_at}
+use Rattle.ob0_scope_table.specs.FaultsAtTokens.{fault_at_token}
 use Rattle.ob0_scope_table.specs.Spans as spans
 use Rattle.ob0_scope_table.specs.declared.faults.FaultAtTokens.{FaultAtTokens}
 
@@ -76,7 +76,7 @@ abbrev pub undeclared_faults_by_table : List (Option ℕ) → List ℕ → List 
 undeclared_faults_by_table ordinals [] = []
 undeclared_faults_by_table ordinals (token ∷ tokens) =
     if is_some (ordinal_in ordinals token) then undeclared_faults_by_table ordinals tokens
-    else fault_at code.Undeclared token ∷ undeclared_faults_by_table ordinals tokens
+    else fault_at_token code.Undeclared token ∷ undeclared_faults_by_table ordinals tokens
 
 -- A module with its resolved names. `ordinals` has an entry for each token: the ordinal (the number)
 -- of the identifier's declaration, or None. `declaration_tokens` has the tokens of the declaring names in
@@ -122,7 +122,7 @@ undeclared_faults_by_labels [] labels = []
 undeclared_faults_by_labels (token ∷ tokens) [] = []
 undeclared_faults_by_labels (token ∷ tokens) (label ∷ labels) =
     if is_unbound label
-    then fault_at code.Undeclared token ∷ undeclared_faults_by_labels tokens labels
+    then fault_at_token code.Undeclared token ∷ undeclared_faults_by_labels tokens labels
     else undeclared_faults_by_labels tokens labels
 
 -- returns a fault for each undeclared name of a module, in text order

@@ -2,7 +2,7 @@
 //! change of only white space or comments changes no token index, and so none of these faults.
 
 ghost use Rattle.std.specs.Prelude.{◌≡◌, IfOk, map};
-ghost use Rattle.ob0_scope_table.specs.FaultsAtTokens.{fault_at, fault_with_span};
+ghost use Rattle.ob0_scope_table.specs.FaultsAtTokens.{fault_at_token, fault_with_span};
 ghost use Rattle.ob0_scope_table.specs.Resolution.{is_duplicate_or_end_name};
 
 use crate::table::token_span;
@@ -18,8 +18,8 @@ pub struct FaultAtTokens {
 }
 
 /// Returns the fault with this code at one token.
-pub fn fault_at(code: FaultCode, token: usize) -> FaultAtTokens
-    ensures { result ≡ fault_at code token }
+pub fn fault_at_token(code: FaultCode, token: usize) -> FaultAtTokens
+    ensures { result ≡ fault_at_token code token }
 {
     FaultAtTokens {
         code,

@@ -10,7 +10,7 @@ mod predeclared_names;
 mod resolved;
 mod table;
 
-pub use faults::{FaultAtTokens, fault_at, faults_with_spans, is_duplicate_or_end_name};
+pub use faults::{FaultAtTokens, fault_at_token, faults_with_spans, is_duplicate_or_end_name};
 pub use one_body::{BodyPlace, body_place_in_module, body_place_in_tree, is_range_in_one_body};
 pub use ordinal_entry::OrdinalEntry;
 pub use predeclared_names::{

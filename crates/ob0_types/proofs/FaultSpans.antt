@@ -10,7 +10,7 @@ use Rattle.std.specs.declared.cmp.Ordering.{Ordering}
 use Rattle.ob0_scan.specs.TextWithTokens.{IsScan, TextWithTokens, max_faults}
 use Rattle.ob0_scan.specs.declared.fault.Fault.{Fault}
 use Rattle.ob0_scan.specs.declared.fault.FaultCode.TheVariants as code
-use Rattle.ob0_scope_table.specs.FaultsAtTokens.{fault_at, fault_with_span}
+use Rattle.ob0_scope_table.specs.FaultsAtTokens.{fault_at_token, fault_with_span}
 use Rattle.ob0_scope_table.specs.Resolution.{Resolution}
 use Rattle.ob0_scope_table.specs.declared.faults.FaultAtTokens.{FaultAtTokens}
 use Rattle.ob0_scope_table.proofs.TokenOrder.{end_order, start_order}
@@ -33,7 +33,7 @@ module _ (source : TextWithTokens) (scan : IsScan source) where
       let long = length-map xs with_span in
       let further : k + 1 < length xs = omega (arith, high, long) in
       let here : k < length xs = omega (arith, further) in
-      let e = fault_at code.TooLong 0 in
+      let e = fault_at_token code.TooLong 0 in
       (λ i. is_lt (fault_cmp (get_or-map with_span xs (k + 1) e d further i) (get_or-map with_span xs k e d here i)))
       ∙ (ap is_lt (sym (same_cmp (get_or xs (k + 1) e) (get_or xs k e))) ∙ sorted k e low further)
 

@@ -10,7 +10,7 @@ use Rattle.ob0_tree.specs.Tree.{Tree, block, constant, constants, declares, decl
 use Rattle.ob0_language_names.specs.Names.{naming_by_spelling}
 use Rattle.ob0_language_names.specs.Parts.{constant_names, formal_names, formal_sections, further_names, module_block, declared_type_names, names_in_list, section_constants, section_names, section_types, section_variables, variable_names}
 use Rattle.ob0_scope_table.specs.Resolution.{IsResolution, Resolution, declaring_names, is_undeclared_fault, is_unbound, label_at, ordinal_in, undeclared_faults_by_labels}
-use Rattle.ob0_scope_table.specs.FaultsAtTokens.{fault_at}
+use Rattle.ob0_scope_table.specs.FaultsAtTokens.{fault_at_token}
 use Rattle.ob0_scope_table.specs.declared.faults.FaultAtTokens.{FaultAtTokens}
 use Rattle.ob0_language_names.specs.Scopes.{ordinal_after_block, ordinal_after_names, ordinal_after_procedure, ordinal_after_procedures, label_from_ordinal, predeclared_scope}
 use Rattle.ob0_scope_table.proofs.Bound.{bindings_by_table}
@@ -111,7 +111,7 @@ one_bound n x xs later (Some k) f h others e = ((k, h), others e)
 all_bound : (n : Numbering) (xs : List ℕ) → undeclared_faults_by_labels xs (map (label_at n.source n.ordinals) xs) ≡ [] → Each (IsBound n) xs
 all_bound n [] e = tt
 all_bound n (x ∷ xs) e =
-    one_bound n x xs (undeclared_faults_by_labels xs (map (label_at n.source n.ordinals) xs)) (ordinal_in n.ordinals x) (fault_at code.Undeclared x) refl (all_bound n xs) e
+    one_bound n x xs (undeclared_faults_by_labels xs (map (label_at n.source n.ordinals) xs)) (ordinal_in n.ordinals x) (fault_at_token code.Undeclared x) refl (all_bound n xs) e
 
 -- returns the numbering of a resolved module's names
 abbrev pub numbering_of : Resolution → Numbering

@@ -19,7 +19,7 @@ loop-index-preserved c =
     c.loop-index.invariant c.loop-index-test.true refl c.token_text_at.ensures (ap not c.contains_spelling-is_second.ensures)
     (λ q. ap (λ n. is_among q (map text (take n names))) next
     ∙ (one_further text names done 0 c.loop-index-test.true q ∙ ap (λ t. same_name q t || is_among q (map text (take done names))) (sym c.token_text_at.ensures)))
-    (c.in_ok-report_unless.ensures ∙ ap (λ (f : FaultAtTokens). c.loop-index.self ++ fault_unless (not c.contains_spelling-is_second.result) f) c.fault_at.ensures)
+    (c.in_ok-report_unless.ensures ∙ ap (λ (f : FaultAtTokens). c.loop-index.self ++ fault_unless (not c.contains_spelling-is_second.result) f) c.fault_at_token.ensures)
 
 pub returns : goal.returns
 returns c = all_seen c.loop-index.invariant c.loop-index-test.false
