@@ -138,11 +138,11 @@ def asked_of_trait() -> None:
 
 @test("mutants: a method is asked for, and named, in the module of its type")
 def asked_of_type() -> None:
-    found = [it for it in reading.Source("ob0_run_lowering").functions if it.name in ("locate_argument", "number_or_zero")]
+    found = [it for it in reading.Source("ob0_run_lowering").functions if it.name in ("locate_var_argument", "number_or_zero")]
     same([it.file for it in found], ["src/expressions.rt"] * 2, "where they are")
-    same(sorted(it.checked_as for it in found), ["expressions::number_or_zero", "scene::Scene::locate_argument"], "their names")
-    named = {it.name: it.is_named("ob0_run_lowering::scene::Scene::locate_argument") for it in found}
-    same(named, {"locate_argument": True, "number_or_zero": False}, "which of them is meant")
+    same(sorted(it.checked_as for it in found), ["expressions::number_or_zero", "scene::Scene::locate_var_argument"], "their names")
+    named = {it.name: it.is_named("ob0_run_lowering::scene::Scene::locate_var_argument") for it in found}
+    same(named, {"locate_var_argument": True, "number_or_zero": False}, "which of them is meant")
 
 
 # A crate of two functions and a type, and a mutant of one of them.
@@ -332,10 +332,10 @@ def many_judged() -> None:
     row = "returns-clause-bad-in-Err of framer::Framer::feed"
     same(word("returns-clause-bad-in-Err"), (mutants.REFUSED, row), "a goal of the clause")
     same(word("returns-clause-broken")[0], mutants.ELSEWHERE, "a goal of another clause")
-    same(word("cut_messages-requires-clause-bad")[0], mutants.ELSEWHERE, "what a callee requires")
+    same(word("split_messages-requires-clause-bad")[0], mutants.ELSEWHERE, "what a callee requires")
     edit.claim = None
     same(word("returns-clause-broken")[0], mutants.REFUSED, "any clause, where the first line names none")
-    for goal in ("cut_messages-requires-clause-bad", "overflow_add-len"):
+    for goal in ("split_messages-requires-clause-bad", "overflow_add-len"):
         same(word(goal)[0], mutants.ELSEWHERE, f"{goal}, where it names none")
 
 

@@ -111,7 +111,7 @@ def types_fit() -> None:
 # pages whose names in backticks are those of functions, definitions, types and files
 CITING = ["docs/PROMISES.md", "docs/ARCHITECTURE.md", "docs/GLOSSARY.md", "docs/PROVING.md", "CONTRIBUTING.md", "docs/notes/*.md"]
 # words in backticks that name no part of the sources: of the kit, of the system, of commands, or examples
-OTHERS = {"FILE", "NAME", "WORDS", "XWriteJson", "X_made", "Lts", "Proof", "tidy", "Serialize", "getrusage"}
+OTHERS = {"FILE", "NAME", "WORDS", "XWriteJson", "X_made", "Lts", "Proof", "tidy", "Serialize", "getrusage", "nm"}
 
 
 @test("sources: the names that the pages on promises, architecture, words and proofs, and the notes cite are in the sources")

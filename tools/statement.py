@@ -37,7 +37,7 @@ Size = Tuple[int, int]  # how many words, and how many lines
 # (what the second page unfolds last, though the theorem names it: what values of the code mean)
 LATE: list[Key] = [("ob0_world", "Code", name) for name in ("event_of", "played_edits", "played_publications")]
 LATE += [("ob0_session", "Serving", name) for name in ("IsReadInPieces", "UsesAllReads", "max_reads", "IsFlushedAfter")]
-LATER: list[Key] = [("ob0_scan", "Classes", name) for name in ("reserved_text", "symbol_text")]
+LATER: list[Key] = [("ob0_scan", "Classes", name) for name in ("reserved_word_text", "symbol_text")]
 # (types of the code in them)
 LATER_TYPES = [("ob0_scan", "lexeme", "ReservedWord"), ("ob0_scan", "lexeme", "Symbol")]
 # (where the part on edits begins)

@@ -5,7 +5,6 @@ mod Pieces
 mod GivenBack
 mod OneBody
 mod NoBegin
-mod Marked
 mod Ways
 mod NewBody
 mod LastModule

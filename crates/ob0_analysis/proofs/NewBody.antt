@@ -1,12 +1,11 @@
 -- If a text differs from the previous one in one body, the rest of its module is the same. The
 -- reason is that only one tree has this spelling.
 use Rattle.std.proofs.Common.{◌≡◌, ◌<◌, ◌≤◌, ◌+◌, ◌-◌, ℕ, zero, suc, Bool, true, false, nat_lt, if◌then◌else◌, Option, Some, List, [], ◌∷◌, ◌++◌, map, take, drop, length, slice_get, refl, sym, ap, ◌∙◌, subst, arith, append_assoc, length-append, ⊎_elim}
-use Rattle.std.proofs.lemmas.List.{drop-drop, drop_at, map-append, take-take, take_at}
+use Rattle.std.proofs.lemmas.List.{append_cancel_right, drop-drop, drop_at, map-append, take-take, take_at}
 use Rattle.std.proofs.lemmas.Bool.{le-ltb}
 use Rattle.ob0_scan.specs.declared.lexeme.TokenKind.{TokenKind}
 use Rattle.ob0_scan.specs.declared.lexeme.TokenKind.TheVariants as kind
 use Rattle.ob0_scan.specs.declared.lexeme.ReservedWord.TheVariants as reserved
-use Rattle.ob0_scan.specs.declared.tokens.RescanWithComparison.{RescanWithComparison}
 use Rattle.ob0_scan.specs.declared.tokens.CommonPrefixAndSuffix.{CommonPrefixAndSuffix}
 use Rattle.ob0_scan.specs.Reused.{kinds, words_of_tokens}
 use Rattle.ob0_scan.specs.SameKinds.{PrefixAndSuffixHaveSameKinds, PrefixAndSuffixHaveSameWords}
@@ -21,24 +20,22 @@ use Rattle.ob0_tree.specs.declared.tree.Role.TheVariants as role
 use Rattle.ob0_tree.proofs.Leaves.{leaves_spelled, lexeme_names}
 use Rattle.ob0_tree.proofs.Mapped.{spell_mapped}
 use Rattle.ob0_parse_descent.proofs.Unique.{same}
+use Rattle.ob0_parse.specs.KeptTokens.{indexed_terminals_of_kinds}
+use Rattle.ob0_parse.proofs.TerminalsOfKinds.{drop_terminals, moved_terminals, name_index, take_terminals, terminals_of_tokens}
 use Rattle.ob0_scope.specs.NewBody.{WasBoundBeforeNewBody}
 use Rattle.ob0_scope_table.specs.Bindings.{resolution_with}
 use Rattle.ob0_scope_table.specs.BodyPlaces.{body_bounds_of_range, module_tree_of}
 use Rattle.ob0_tree.specs.FirstIdentifier.{token_of_first_identifier}
-use Rattle.ob0_scope_table.specs.BodyReplaced.{IsBodyReplaced, PathToBody, body_at_path, closing_name_at_path, moved_token_index, path_to_body_in_module, module_without_body}
+use Rattle.ob0_scope_table.specs.BodyReplaced.{IsBodyReplaced, PathToBody, body_at_path, closing_name_at_path, shifted_token_index, path_to_body_in_module, module_without_body}
 use Rattle.ob0_scope_table.specs.OneBody.{is_outside_range}
 use Rattle.ob0_scope_table.proofs.BodyPlaces.{body_place_read}
 use Rattle.ob0_scope_table.proofs.Moved.{moved_above, moved_below, out_cases}
 use Rattle.ob0_scope_table.specs.declared.one_body.BodyBounds.{BodyBounds}
 use Rattle.ob0_scope_table.specs.declared.resolved.Bindings.{Bindings}
 use Rattle.ob0_types.specs.NewBody.{WasCheckResultBeforeNewBody}
-use Rattle.ob0_types.specs.declared.checked.CheckResult.{CheckResult}
-use Rattle.ob0_analysis.specs.ReuseConditions.{WasModuleBeforeChange}
-use Rattle.ob0_analysis.specs.LastModule.{IsEarlierModule, IsLastModuleOf}
+use Rattle.ob0_analysis.specs.LastModule.{IsLastModuleOf}
 use Rattle.ob0_analysis.specs.NewBody.{IsSameBody}
 use Rattle.ob0_analysis.specs.declared.last_module.LastModule.{LastModule}
-use Rattle.ob0_analysis.specs.declared.fault_places.ModuleFaultsWithTokenIndexes.{ModuleFaultsWithTokenIndexes}
-use Rattle.ob0_analysis.proofs.Marked.{drop_marked, marked, moved_on, name_index, spelled_marked, take_marked}
 use Rattle.ob0_analysis.proofs.OneBody.{get_dropped, get_taken}
 use Rattle.ob0_analysis.proofs.NoBegin.{NoBegin, begin_mark, first_part, last_begin, no_begin}
 use Rattle.ob0_analysis.proofs.Ways.{around_body, way_less, way_moved}
@@ -97,18 +94,21 @@ up_to_last f b u n v z = ap (λ l. f ++ (b ∷ l)) (append_assoc u (n ∷ v) z) 
 up_to_end : {A : Type 0} (f x : List A) (e c : A) (z : List A) → f ++ (x ++ (e ∷ c ∷ z)) ≡ ((f ++ x) ++ (e ∷ [])) ++ (c ∷ z)
 up_to_end f x e c z = sym (append_assoc f x (e ∷ c ∷ z)) ∙ sym (append_assoc (f ++ x) (e ∷ []) (c ∷ z))
 
+spelled_by_kinds : (m : ParsedModule) → IsParsed m → spell (tree_of m) ≡ indexed_terminals_of_kinds 0 (kinds m.source.tokens)
+spelled_by_kinds m parsed = append_cancel_right (spell (tree_of m)) (indexed_terminals_of_kinds 0 (kinds m.source.tokens)) (EndOfText ∷ []) (parsed.places ∙ terminals_of_tokens 0 m.source.tokens)
+
 record Halves (m : ParsedModule) (path : PathToBody) (first closing : ℕ) : Type 0 where
   pub front : List (Terminal ℕ)
   pub inside : List (Terminal ℕ)
   pub back : List (Terminal ℕ)
   pub less : spell (module_without_body path (tree_of m)) ≡ front ++ back
-  pub until : take first (marked 0 (kinds m.source.tokens)) ≡ front ++ (begin_mark ∷ inside)
+  pub until : take first (indexed_terminals_of_kinds 0 (kinds m.source.tokens)) ≡ front ++ (begin_mark ∷ inside)
   pub plain : NoBegin inside
   pub shorter : length front < first
-  pub front_is : front ≡ take (length front) (marked 0 (kinds m.source.tokens))
+  pub front_is : front ≡ take (length front) (indexed_terminals_of_kinds 0 (kinds m.source.tokens))
   pub before : ℕ
   pub closes : before + 1 ≡ closing
-  pub back_is : back ≡ drop before (marked 0 (kinds m.source.tokens))
+  pub back_is : back ≡ drop before (indexed_terminals_of_kinds 0 (kinds m.source.tokens))
 
 halves : (m : ParsedModule) → IsParsed m → (path : PathToBody) (first closing : ℕ) → token_of_first_identifier (identifiers role.Declaring (body_at_path path (tree_of m))) ≡ Some first → closing_name_at_path path (tree_of m) ≡ closing → Halves m path first closing
 halves m parsed path first closing is_first is_closing =
@@ -118,10 +118,10 @@ halves m parsed path first closing is_first is_closing =
     let a = around_body path t o.written o.is in
     let end_mark : Terminal ℕ = WordOrSymbol (kind.ReservedWord reserved.End) in
     let back : List (Terminal ℕ) = end_mark ∷ Name c ∷ a.back in
-    let all : List (Terminal ℕ) = marked 0 (kinds m.source.tokens) in
+    let all : List (Terminal ℕ) = indexed_terminals_of_kinds 0 (kinds m.source.tokens) in
     let start : List (Terminal ℕ) = a.front ++ (begin_mark ∷ o.front) in
     let upper : List (Terminal ℕ) = a.front ++ spell (body_at_path path t) in
-    let whole : all ≡ a.front ++ (spell (body_at_path path t) ++ back) = sym (spelled_marked m parsed) ∙ a.whole_is in
+    let whole : all ≡ a.front ++ (spell (body_at_path path t) ++ back) = sym (spelled_by_kinds m parsed) ∙ a.whole_is in
     let at_first : all ≡ start ++ (Name first ∷ (o.back ++ back)) =
     whole ∙ (ap (λ l. a.front ++ (l ++ back)) o.spelled ∙ up_to_last a.front begin_mark o.front (Name first) o.back back) in
     let at_closing : all ≡ (upper ++ (end_mark ∷ [])) ++ (Name c ∷ a.back) = whole ∙ up_to_end a.front (spell (body_at_path path t)) end_mark (Name c) a.back in
@@ -152,7 +152,7 @@ take_short (suc n) (x ∷ xs) = let h = take_short n xs in omega (arith, h)
 
 module _ (s : CommonPrefixAndSuffix) (old_range : s.prefix ≤ s.old_suffix) (new_range : s.prefix ≤ s.new_suffix) where
   -- A moved token is on the same side of the range of differences as before.
-  same_side : (c : ℕ) → nat_lt (moved_token_index s c) s.prefix ≡ nat_lt c s.prefix
+  same_side : (c : ℕ) → nat_lt (shifted_token_index s c) s.prefix ≡ nat_lt c s.prefix
   same_side c = one (nat_lt c s.prefix) refl
     where
       one : (b : Bool) → nat_lt c s.prefix ≡ b → nat_lt (if b then c else s.new_suffix + (c - s.old_suffix)) s.prefix ≡ b
@@ -160,53 +160,53 @@ module _ (s : CommonPrefixAndSuffix) (old_range : s.prefix ≤ s.old_suffix) (ne
       one false e = le-ltb (s.new_suffix + (c - s.old_suffix)) s.prefix (omega (arith, new_range))
 
   -- The way to the body in the new module is the way in the old module.
-  same_way : (old new : ParsedModule) → module_without_body (path_to_body_in_module s.prefix (tree_of new)) (tree_of new) ≡ mapped_tree (moved_token_index s) (moved_token_index s) (module_without_body (path_to_body_in_module s.prefix (tree_of old)) (tree_of old)) → path_to_body_in_module s.prefix (tree_of new) ≡ path_to_body_in_module s.prefix (tree_of old)
+  same_way : (old new : ParsedModule) → module_without_body (path_to_body_in_module s.prefix (tree_of new)) (tree_of new) ≡ mapped_tree (shifted_token_index s) (shifted_token_index s) (module_without_body (path_to_body_in_module s.prefix (tree_of old)) (tree_of old)) → path_to_body_in_module s.prefix (tree_of new) ≡ path_to_body_in_module s.prefix (tree_of old)
   same_way old new e =
       sym (way_less s.prefix (path_to_body_in_module s.prefix (tree_of new)) (tree_of new))
       ∙ (ap (path_to_body_in_module s.prefix) e
-      ∙ (way_moved s.prefix (moved_token_index s) same_side (module_without_body (path_to_body_in_module s.prefix (tree_of old)) (tree_of old))
+      ∙ (way_moved s.prefix (shifted_token_index s) same_side (module_without_body (path_to_body_in_module s.prefix (tree_of old)) (tree_of old))
       ∙ way_less s.prefix (path_to_body_in_module s.prefix (tree_of old)) (tree_of old)))
 
 module _ (old new : ParsedModule) (s : CommonPrefixAndSuffix) (tokens : PrefixAndSuffixHaveSameKinds s old.source.tokens new.source.tokens) where
   -- The new module without its body is the old module without its body, with its tokens moved.
   without_same : (path new_path : PathToBody) (first closing now_closing : ℕ) → Halves old path first closing → Halves new new_path first now_closing → first < s.prefix → s.old_suffix < closing → now_closing + s.old_suffix ≡ closing + s.new_suffix
-      → module_without_body new_path (tree_of new) ≡ mapped_tree (moved_token_index s) (moved_token_index s) (module_without_body path (tree_of old))
+      → module_without_body new_path (tree_of new) ≡ mapped_tree (shifted_token_index s) (shifted_token_index s) (module_without_body path (tree_of old))
   without_same path new_path first closing now_closing was is front_side back_side same_closing =
       let ks : List TokenKind = kinds old.source.tokens in
       let js : List TokenKind = kinds new.source.tokens in
-      let r : Terminal ℕ → Terminal ℕ = mapped_terminal (moved_token_index s) (moved_token_index s) in
+      let r : Terminal ℕ → Terminal ℕ = mapped_terminal (shifted_token_index s) (shifted_token_index s) in
       let same_take : take first ks ≡ take first js =
       sym (take-take first s.prefix ks (omega (arith, front_side))) ∙ (ap (take first) (sym tokens.front) ∙ take-take first s.prefix js (omega (arith, front_side))) in
       let same_start : was.front ++ (begin_mark ∷ was.inside) ≡ is.front ++ (begin_mark ∷ is.inside) =
-      sym was.until ∙ (take_marked first 0 ks ∙ (ap (marked 0) same_take ∙ (sym (take_marked first 0 js) ∙ is.until))) in
+      sym was.until ∙ (take_terminals first 0 ks ∙ (ap (indexed_terminals_of_kinds 0) same_take ∙ (sym (take_terminals first 0 js) ∙ is.until))) in
       let same_front : was.front ≡ is.front = last_begin was.front was.inside is.front is.inside was.plain is.plain same_start in
       let n : ℕ = length was.front in
-      let front_marked : was.front ≡ marked 0 (take n ks) = was.front_is ∙ take_marked n 0 ks in
+      let front_by_kinds : was.front ≡ indexed_terminals_of_kinds 0 (take n ks) = was.front_is ∙ take_terminals n 0 ks in
       let short : length (take n ks) ≤ n = take_short n ks in
-      let stays : (d : ℕ) → d < length (take n ks) → moved_token_index s (0 + d) ≡ 0 + d = λ d less. let here : 0 + d < s.prefix = omega (arith, less, short, was.shorter, front_side) in moved_below s (0 + d) here in
+      let stays : (d : ℕ) → d < length (take n ks) → shifted_token_index s (0 + d) ≡ 0 + d = λ d less. let here : 0 + d < s.prefix = omega (arith, less, short, was.shorter, front_side) in moved_below s (0 + d) here in
       let front_moved : map r was.front ≡ is.front =
-      ap (map r) front_marked ∙ (moved_on (moved_token_index s) 0 0 (take n ks) stays ∙ (sym front_marked ∙ same_front)) in
+      ap (map r) front_by_kinds ∙ (moved_terminals (shifted_token_index s) 0 0 (take n ks) stays ∙ (sym front_by_kinds ∙ same_front)) in
       let d : ℕ = was.before - s.old_suffix in
       let there : s.old_suffix + d ≡ was.before = omega (arith, was.closes, back_side) in
       let here : s.new_suffix + d ≡ is.before = omega (arith, was.closes, is.closes, back_side, same_closing) in
       let same_drop : drop was.before ks ≡ drop is.before js =
       ap (λ k. drop k ks) (sym there) ∙ (sym (drop-drop d s.old_suffix ks) ∙ (ap (drop d) (sym tokens.back) ∙ (drop-drop d s.new_suffix js ∙ ap (λ k. drop k js) here))) in
-      let back_marked : was.back ≡ marked was.before (drop was.before ks) = was.back_is ∙ drop_marked was.before 0 was.before ks (omega arith) in
-      let goes : (e : ℕ) → e < length (drop was.before ks) → moved_token_index s (was.before + e) ≡ is.before + e =
+      let back_by_kinds : was.back ≡ indexed_terminals_of_kinds was.before (drop was.before ks) = was.back_is ∙ drop_terminals was.before 0 was.before ks (omega arith) in
+      let goes : (e : ℕ) → e < length (drop was.before ks) → shifted_token_index s (was.before + e) ≡ is.before + e =
       λ e less. let high : s.old_suffix ≤ was.before + e = omega (arith, there) in moved_above s (was.before + e) tokens.old_range high ∙ omega (arith, there, here) in
       let back_moved : map r was.back ≡ is.back =
-      ap (map r) back_marked ∙ (moved_on (moved_token_index s) was.before is.before (drop was.before ks) goes ∙ (ap (marked is.before) same_drop ∙ (sym (drop_marked is.before 0 is.before js (omega arith)) ∙ sym is.back_is))) in
-      let spelled : spell (module_without_body new_path (tree_of new)) ≡ spell (mapped_tree (moved_token_index s) (moved_token_index s) (module_without_body path (tree_of old))) =
+      ap (map r) back_by_kinds ∙ (moved_terminals (shifted_token_index s) was.before is.before (drop was.before ks) goes ∙ (ap (indexed_terminals_of_kinds is.before) same_drop ∙ (sym (drop_terminals is.before 0 is.before js (omega arith)) ∙ sym is.back_is))) in
+      let spelled : spell (module_without_body new_path (tree_of new)) ≡ spell (mapped_tree (shifted_token_index s) (shifted_token_index s) (module_without_body path (tree_of old))) =
       is.less
       ∙ (sym (ap (λ l. l ++ is.back) front_moved ∙ ap (λ l. is.front ++ l) refl)
       ∙ (sym (ap (λ l. map r was.front ++ l) back_moved)
-      ∙ (sym (map-append r was.front was.back) ∙ (ap (map r) (sym was.less) ∙ sym (spell_mapped (moved_token_index s) (moved_token_index s) (module_without_body path (tree_of old))))))) in
-      (same (module_without_body new_path (tree_of new)) (mapped_tree (moved_token_index s) (moved_token_index s) (module_without_body path (tree_of old))) [] [] tt tt (ap (λ l. l ++ []) spelled)).0
+      ∙ (sym (map-append r was.front was.back) ∙ (ap (map r) (sym was.less) ∙ sym (spell_mapped (shifted_token_index s) (shifted_token_index s) (module_without_body path (tree_of old))))))) in
+      (same (module_without_body new_path (tree_of new)) (mapped_tree (shifted_token_index s) (shifted_token_index s) (module_without_body path (tree_of old))) [] [] tt tt (ap (λ l. l ++ []) spelled)).0
 
 -- ---- tokens outside the range have the same spelling
 
 words_outside : (s : CommonPrefixAndSuffix) (old new : TextWithTokens) → PrefixAndSuffixHaveSameWords s old new → s.prefix ≤ s.old_suffix → (i : ℕ) → is_outside_range s.prefix s.old_suffix i ≡ true
-    → slice_get (words_of_tokens new.text new.tokens) (moved_token_index s i) ≡ slice_get (words_of_tokens old.text old.tokens) i
+    → slice_get (words_of_tokens new.text new.tokens) (shifted_token_index s i) ≡ slice_get (words_of_tokens old.text old.tokens) i
 words_outside s old new written range i out = ⊎_elim
     (λ less. ap (slice_get (words_of_tokens new.text new.tokens)) (moved_below s i less)
     ∙ (sym (get_taken s.prefix (words_of_tokens new.text new.tokens) i less)
@@ -228,11 +228,11 @@ body_replaced old new s old_scan new_scan old_parsed new_parsed tokens written p
     let is_first : token_of_first_identifier (identifiers role.Declaring (body_at_path new_path (tree_of new))) ≡ Some first = q.first ∙ ap Some (sym b.first) in
     let was = halves old old_parsed path first place.closing p.first p.closes in
     let is = halves new new_parsed new_path first b.place.closing is_first q.closes in
-    let moved_too : module_without_body new_path (tree_of new) ≡ mapped_tree (moved_token_index s) (moved_token_index s) (module_without_body path (tree_of old)) =
+    let moved_too : module_without_body new_path (tree_of new) ≡ mapped_tree (shifted_token_index s) (shifted_token_index s) (module_without_body path (tree_of old)) =
     without_same old new s tokens path new_path first place.closing b.place.closing was is b.front b.back b.closing in
     let back : s.old_suffix ≤ place.closing = omega (arith, b.back) in
-    let closes : closing_name_at_path new_path (tree_of new) ≡ moved_token_index s (closing_name_at_path path (tree_of old)) =
-    q.closes ∙ sym (ap (moved_token_index s) p.closes ∙ (moved_above s place.closing tokens.old_range back ∙ omega (arith, b.closing, back))) in
+    let closes : closing_name_at_path new_path (tree_of new) ≡ shifted_token_index s (closing_name_at_path path (tree_of old)) =
+    q.closes ∙ sym (ap (shifted_token_index s) p.closes ∙ (moved_above s place.closing tokens.old_range back ∙ omega (arith, b.closing, back))) in
     let one_way : new_path ≡ path = same_way s tokens.old_range tokens.new_range old new moved_too in
     record {
       old_range = tokens.old_range;
@@ -241,7 +241,7 @@ body_replaced old new s old_scan new_scan old_parsed new_parsed tokens written p
       new_scan = new_scan;
       old_parsed = old_parsed;
       new_parsed = new_parsed;
-      outside = subst (λ w. module_without_body w (tree_of new) ≡ mapped_tree (moved_token_index s) (moved_token_index s) (module_without_body path (tree_of old))) one_way moved_too;
+      outside = subst (λ w. module_without_body w (tree_of new) ≡ mapped_tree (shifted_token_index s) (shifted_token_index s) (module_without_body path (tree_of old))) one_way moved_too;
       words = words_outside s old.source new.source written tokens.old_range;
       old_path = refl;
       new_path = one_way;
@@ -252,23 +252,10 @@ body_replaced old new s old_scan new_scan old_parsed new_parsed tokens written p
       first_identifier_of_new_body = subst (λ w. token_of_first_identifier (identifiers role.Declaring (body_at_path w (tree_of new))) ≡ Some first) one_way is_first;
       front = b.front;
       back = subst (λ n. s.old_suffix < n) (sym p.closes) b.back;
-      closing = subst (λ w. closing_name_at_path w (tree_of new) ≡ moved_token_index s (closing_name_at_path path (tree_of old))) one_way closes;
+      closing = subst (λ w. closing_name_at_path w (tree_of new) ≡ shifted_token_index s (closing_name_at_path path (tree_of old))) one_way closes;
     }
 
 -- ---- the reused results
-
--- If the previous text was a module, `IsEarlierModule` holds for it; all other facts about it are dropped.
-abbrev pub had_module : (c : RescanWithComparison) (tree : ModuleTree) (b : Bindings) (types : CheckResult) (places : ModuleFaultsWithTokenIndexes) → WasModuleBeforeChange c tree b types places → IsEarlierModule c.rescan.tokens tree b types c.same
-had_module c tree b types places h = record {
-  old = h.old;
-  old_scan = h.old_scan;
-  new_scan = h.new_scan;
-  parsed = h.was.parsed;
-  resolved = h.was.resolved;
-  types_are = h.was.types_are;
-  same = h.same;
-  written = h.written;
-}
 
 module _ (new : TextWithTokens) (tree : ModuleTree) (last : LastModule) (now : Option BodyBounds) (h : IsLastModuleOf new last) (placed : now ≡ body_bounds_of_range last.same.prefix last.same.new_suffix (module_tree_of tree)) (parsed : IsParsed (parsed_module new tree)) (one_body : IsSameBody last.place now last.same) where
   abbrev before_it : ParsedModule

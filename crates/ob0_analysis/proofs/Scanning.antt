@@ -7,7 +7,7 @@ use Rattle.ob0_scan.specs.Refused.{AreFaultsOfRefusedText}
 use Rattle.ob0_scan.specs.TextWithTokens.{TextWithTokens, IsScan, IsScannable, IsScanOf}
 use Rattle.ob0_scan.specs.declared.fault.Fault.{Fault}
 use Rattle.ob0_tree.specs.Lexeme.{Terminal, EndOfText}
-use Rattle.ob0_tree.specs.Module.{ModuleOf, terminals_of_text}
+use Rattle.ob0_tree.specs.Module.{IsModuleWithTree, terminals_of_text}
 use Rattle.ob0_tree.specs.Tree.{Tree, module_text}
 use Rattle.ob0_parse.specs.IsRightParseRefusal.{NoModuleBeginsWithTokens, IsRightParseRefusal}
 use Rattle.ob0_parse_descent.specs.declared.refusal.ParseRefusal.{ParseRefusal}
@@ -18,7 +18,7 @@ use Rattle.ob0_types.specs.CheckedModules.{CheckedModule, IsChecked, IsWellTyped
 use Rattle.ob0_language_types.specs.WellTyped.{WellTyped}
 use Rattle.ob0_analysis.specs.Analysed.{IsResolvedWellTypedModule}
 use Rattle.ob0_analysis.specs.AnalysisInvariants.{IsNotLackOfMemory}
-use Rattle.ob0_analysis.specs.Diagnosed.{ReportedDiagnosis, IsWellTypedModule, ReportsRefusal, Reports, ReportsFaults, reported_diagnosis_of_fault}
+use Rattle.ob0_analysis.specs.Diagnosed.{ReportedDiagnosis, IsWellTypedModule, IsDiagnosisOfRefusal, ReportsErrorsOf, ReportsFaults, reported_diagnosis_of_fault}
 use Rattle.ob0_analysis.specs.Texts.{utf8}
 
 -- The UTF-8 bytes of a text's characters are the bytes of the text.
@@ -37,7 +37,7 @@ finds_lexemes text faults reported bad are is =
     (λ w. bad (scannable text w), inl (record { unscannable = bad; faults = faults; of_text = are; all = is }))
 
 -- If no module begins with these tokens, no tree is the tree of a module with all the tokens.
-none : (s : TextWithTokens) (i : ℕ) (tree : Tree (List ℕ) module_text) → NoModuleBeginsWithTokens s i → ModuleOf s tree → ⊥
+none : (s : TextWithTokens) (i : ℕ) (tree : Tree (List ℕ) module_text) → NoModuleBeginsWithTokens s i → IsModuleWithTree s tree → ⊥
 none s i tree h is =
     let all : List (Terminal (List ℕ)) = terminals_of_text s ++ (EndOfText ∷ []) in
     h tree (drop (i + 1) all) is.shallow (ap (λ (w : List (Terminal (List ℕ))). w ++ (EndOfText ∷ [])) (sym is.spelled) ∙ sym (take-append-drop (i + 1) all))
@@ -45,7 +45,7 @@ none s i tree h is =
 unformed : (s : TextWithTokens) (i : ℕ) → OneScan → IsScan s → NoModuleBeginsWithTokens s i → IsWellTypedModule s.text → ⊥
 unformed s i one scan h w =
     let same : w.text_of.scanned ≡ s = one w.text_of.scanned s w.text_of.scan.scan scan w.text_of.scan.of in
-    none s i w.tree h (subst (λ (x : TextWithTokens). ModuleOf x w.tree) same w.text_of.module_of)
+    none s i w.tree h (subst (λ (x : TextWithTokens). IsModuleWithTree x w.tree) same w.text_of.module_of)
 
 -- A text without lexemes, or one that the parser refuses, isn't a well-typed module.
 pub no_lexemes_is_none : (text : List ℕ) → (IsScannable text → ⊥) → IsWellTypedModule text → ⊥
@@ -56,7 +56,7 @@ refused_is_none s (Syntax i expected) one scan by decided = unformed s i one sca
 refused_is_none s (TooDeep i) one scan by decided = unformed s i one scan by.1
 refused_is_none s Memory one scan by decided = absurd decided
 
-pub finds_parser : (s : TextWithTokens) (refusal : ParseRefusal) (c : ReportedDiagnosis) → OneScan → IsScan s → IsRightParseRefusal s refusal → ReportsRefusal s refusal c
+pub finds_parser : (s : TextWithTokens) (refusal : ParseRefusal) (c : ReportedDiagnosis) → OneScan → IsScan s → IsRightParseRefusal s refusal → IsDiagnosisOfRefusal s refusal c
     → ¬ IsWellTypedModule s.text × ReportsFaults s.text (c ∷ [])
 finds_parser s (Syntax i expected) c one scan by at =
     (unformed s i one scan by.1, inr (inl (record { scanned = s; scan = record { of = refl; scan = scan }; refusal = Syntax i expected; refused = by; parser_diagnosis = c; reports_refusal = at; only_diagnosis = refl })))
@@ -65,13 +65,13 @@ finds_parser s (TooDeep i) c one scan by at =
 finds_parser s Memory c one scan by at = absurd at
 
 abbrev pub OneTree : Type 0
-OneTree = (text : TextWithTokens) (a b : Tree (List ℕ) module_text) → ModuleOf text a → ModuleOf text b → a ≡ b
+OneTree = (text : TextWithTokens) (a b : Tree (List ℕ) module_text) → IsModuleWithTree text a → IsModuleWithTree text b → a ≡ b
 
 -- A text whose tree isn't well-typed isn't a well-typed module, because a text has only one tree.
-ill_typed : (s : TextWithTokens) (tree : Tree (List ℕ) module_text) → OneScan → OneTree → IsScan s → ModuleOf s tree → (WellTyped tree → ⊥) → IsWellTypedModule s.text → ⊥
+ill_typed : (s : TextWithTokens) (tree : Tree (List ℕ) module_text) → OneScan → OneTree → IsScan s → IsModuleWithTree s tree → (WellTyped tree → ⊥) → IsWellTypedModule s.text → ⊥
 ill_typed s tree one only scan is ill w =
     let same : w.text_of.scanned ≡ s = one w.text_of.scanned s w.text_of.scan.scan scan w.text_of.scan.of in
-    ill (subst WellTyped (only s w.tree tree (subst (λ (x : TextWithTokens). ModuleOf x w.tree) same w.text_of.module_of) is) w.well_typed)
+    ill (subst WellTyped (only s w.tree tree (subst (λ (x : TextWithTokens). IsModuleWithTree x w.tree) same w.text_of.module_of) is) w.well_typed)
 
 some_of : (faults : List Fault) → (faults ≡ [] → ⊥) → 0 < length faults
 some_of [] some = absurd (some refl)
@@ -119,7 +119,7 @@ some_or_none (f ∷ fs) = inr (λ e. absurd (omega (arith, ap length e)))
 
 -- The report of a text with a tree is empty exactly if the module is well-typed.
 pub reports_module : (c : CheckedModule) (reported : List ReportedDiagnosis) → OneScan → OneTree → IsScan c.names.module_read.source → IsChecked c → reported ≡ map reported_diagnosis_of_fault c.faults
-    → Reports c.names.module_read.source.text reported
+    → ReportsErrorsOf c.names.module_read.source.text reported
 reports_module c reported one only scan checked is =
     let m : ParsedModule = c.names.module_read in
     elim (some_or_none c.faults) [

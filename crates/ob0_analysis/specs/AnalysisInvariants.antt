@@ -27,9 +27,9 @@ abbrev pub IsRefusedByParser : TextWithTokens → ParseRefusal → Type 0
 IsRefusedByParser tokens refusal = IsRightParseRefusal tokens refusal × IsNotLackOfMemory refusal
 
 -- returns the text that was parsed
-abbrev pub text_of_outcome : ParseOutcome → List ℕ
-text_of_outcome (NoTree ill) = ill.tokens.text
-text_of_outcome (Module m) = m.module_read.source.text
+abbrev pub text_of_parse_outcome : ParseOutcome → List ℕ
+text_of_parse_outcome (NoTree ill) = ill.tokens.text
+text_of_parse_outcome (Module m) = m.module_read.source.text
 
 -- States that the outcome of parsing a text is right. If the text has no tree, the parser refuses
 -- its tokens with this refusal, and the kept trees belong to its tokens. Also, `last` is None or
@@ -50,13 +50,13 @@ IsRightReanalysisFailure text (reanalysis_failure.Faults faults last) = (IsScann
 IsRightReanalysisFailure text reanalysis_failure.Memory = Unit {0}
 
 -- returns the text that was analysed
-abbrev pub text_of : AnalysisResult → List ℕ
-text_of (Unscannable ill) = string_bytes ill.text
-text_of (Read read) = read
+abbrev pub text_of_analysis_result : AnalysisResult → List ℕ
+text_of_analysis_result (Unscannable ill) = string_bytes ill.text
+text_of_analysis_result (Read read) = read
 
 -- States that the result of analysing a text is right. If the result is lexical faults, the text
 -- can't be scanned, and these are the lexical faults to report for it (`AreFaultsOfRefusedText`). For any other
--- result this always holds, because a `ScannedText` has its own invariant.
+-- result this always holds, because a `ScannedTextAnalysis` has its own invariant.
 abbrev pub IsValidAnalysisResult : AnalysisResult → Type 0
 IsValidAnalysisResult (Unscannable ill) =
     (IsScannable (string_bytes ill.text) → ⊥) × AreFaultsOfRefusedText (string_bytes ill.text) ill.faults.items

@@ -3,13 +3,13 @@
 -- Rule: docs/PROTOCOL.md, Publishing 3; docs/LANGUAGE.md, Lexemes 7, Syntax faults,
 -- Faults of scopes and types 1.
 use Rattle.std.specs.Prelude.{◌≡◌, ◌⊎◌, ◌≤◌, ◌<◌, ◌++◌, ◌∷◌, ℕ, List, [], Option, Some, None, map, length, slice_get, codes, string_bytes}
-use Rattle.ob0_scan.specs.CodeTexts.{code_name, code_message}
+use Rattle.ob0_scan.specs.CodeTexts.{fault_code_name, fault_code_message}
 use Rattle.ob0_scan.specs.Refused.{AreFaultsOfRefusedText}
 use Rattle.ob0_scan.specs.TextWithTokens.{TextWithTokens, IsScannable, IsScanOf, max_faults}
 use Rattle.ob0_scan.specs.declared.fault.Fault.{Fault}
 use Rattle.ob0_scan.specs.declared.lexeme.Span.{Span}
 use Rattle.ob0_scan.specs.declared.lexeme.Token.{Token}
-use Rattle.ob0_tree.specs.Module.{ModuleOf}
+use Rattle.ob0_tree.specs.Module.{IsModuleWithTree}
 use Rattle.ob0_tree.specs.Tree.{Tree, module_text}
 use Rattle.ob0_tree.specs.ParsedModule.{named_tree_of}
 use Rattle.ob0_language_names.specs.Names.{Name}
@@ -38,7 +38,7 @@ reported_diagnosis_of d = record { code = d.code.now; message = string_bytes d.m
 pub record IsTextOfTree (tree : Tree Name module_text) (text : List ℕ) : Type 0 where
   pub scanned : TextWithTokens
   pub scan : IsScanOf text scanned
-  pub module_of : ModuleOf scanned tree
+  pub module_of : IsModuleWithTree scanned tree
 
 -- states that the text is a well-typed module
 pub record IsWellTypedModule (text : List ℕ) : Type 0 where
@@ -51,7 +51,7 @@ pub record IsWellTypedModule (text : List ℕ) : Type 0 where
 -- returns the reported error for one fault of lexemes, names or types
 abbrev pub reported_diagnosis_of_fault : Fault → ReportedDiagnosis
 reported_diagnosis_of_fault fault =
-    record { code = code_name fault.code; message = code_message fault.code; span = fault.span }
+    record { code = fault_code_name fault.code; message = fault_code_message fault.code; span = fault.span }
 
 -- States that the text can't be scanned and that the list reports its lexical faults, at most the
 -- first hundred.
@@ -85,10 +85,10 @@ depth_error_diagnosis place = record { code = codes "TooDeep"; message = codes "
 
 -- States that the error `c` reports this refusal of the text with the tokens `s`, at the token that
 -- the parser refused. Never holds if the refusal is lack of memory.
-abbrev pub ReportsRefusal : TextWithTokens → ParseRefusal → ReportedDiagnosis → Type 0
-ReportsRefusal s (Syntax token expected) c = c ≡ syntax_error_diagnosis (expected_text expected) (token_span_or_end s token)
-ReportsRefusal s (TooDeep token) c = c ≡ depth_error_diagnosis (token_span_or_end s token)
-ReportsRefusal s Memory c = ⊥
+abbrev pub IsDiagnosisOfRefusal : TextWithTokens → ParseRefusal → ReportedDiagnosis → Type 0
+IsDiagnosisOfRefusal s (Syntax token expected) c = c ≡ syntax_error_diagnosis (expected_text expected) (token_span_or_end s token)
+IsDiagnosisOfRefusal s (TooDeep token) c = c ≡ depth_error_diagnosis (token_span_or_end s token)
+IsDiagnosisOfRefusal s Memory c = ⊥
 
 -- States that the text scans and the parser refuses it. The list must have only one error
 -- (`parser_diagnosis`), which reports the parser's refusal.
@@ -98,7 +98,7 @@ pub record ReportsParserRefusal (text : List ℕ) (reported : List ReportedDiagn
   pub refusal : ParseRefusal
   pub refused : IsRightParseRefusal scanned refusal
   pub parser_diagnosis : ReportedDiagnosis
-  pub reports_refusal : ReportsRefusal scanned refusal parser_diagnosis
+  pub reports_refusal : IsDiagnosisOfRefusal scanned refusal parser_diagnosis
   pub only_diagnosis : reported ≡ parser_diagnosis ∷ []
 
 -- ---- the errors of a text with a tree that isn't well-typed
@@ -126,14 +126,14 @@ ReportsFaults text reported =
 
 -- States that the list has exactly the errors to report for the text. The list is empty if the text
 -- is a well-typed module. Otherwise the list reports the text's errors.
-abbrev pub Reports : List ℕ → List ReportedDiagnosis → Type 0
-Reports text reported =
+abbrev pub ReportsErrorsOf : List ℕ → List ReportedDiagnosis → Type 0
+ReportsErrorsOf text reported =
     (IsWellTypedModule text × (reported ≡ []))
     ⊎ (¬ IsWellTypedModule text × ReportsFaults text reported)
 
 -- ---- a law about the parser's refusal
 
 -- States that two reports of the parser's refusal are equal if they are about the same text.
-abbrev pub RefusalIsUnique : Type 0
-RefusalIsUnique =
+abbrev pub ReportedRefusalIsUnique : Type 0
+ReportedRefusalIsUnique =
     (text : List ℕ) (a b : List ReportedDiagnosis) → ReportsParserRefusal text a → ReportsParserRefusal text b → a ≡ b

@@ -7,5 +7,4 @@ pub mod OneBody
 pub mod NewBody
 pub mod RunsKept
 pub mod Texts
-pub mod Pieces
 pub use Rattle.ob0_types.specs.CheckedModules

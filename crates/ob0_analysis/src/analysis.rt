@@ -1,10 +1,10 @@
 //! Keeps the analysis of a text as one value, and updates it when the text changes.
 //!
 //! An `Analysis` owns one of two things:
-//! - For a text without lexical faults (a text that *has lexemes*), a `ScannedText`: the parts of
-//!   its module, or the parser's refusal and the tokens.
-//! - For a text with lexical faults, an `UnscannableText`: the text, its faults, and the
-//!   `ScannedText` of the last text that had lexemes, if it is kept.
+//! - For a text without lexical faults (a text that *has lexemes*), a `ScannedTextAnalysis`: the
+//!   parts of its module, or the parser's refusal and the tokens.
+//! - For a text with lexical faults, an `UnscannableTextAnalysis`: the text, its faults, and the
+//!   `ScannedTextAnalysis` of the last text that had lexemes, if it is kept.
 //!
 //! In contracts, the value of an `Analysis` is only the text. Its invariant says that the analysis
 //! is right for that text (`IsValidAnalysisResult`, `IsValidParseOutcome`). So `analyse_text` and
@@ -12,7 +12,7 @@
 //! The crates that use an `Analysis` don't depend on how much is reused.
 //!
 //! `reanalyse` finds the common beginning and end of the old and the new text
-//! (`Difference::between`). It scans only the rest, and replaces the old tokens there
+//! (`TextDifference::between`). It scans only the rest, and replaces the old tokens there
 //! (`rescan_in_place`). The next step depends on the tokens:
 //! - All tokens have the same kinds as before, and the old text has a tree: the tree is kept. It
 //!   has token indexes instead of names and numbers, so the new text has the same tree
@@ -31,13 +31,10 @@
 //!   the parser refuses. Meanwhile the results for the earlier module are kept (`last_module.rt`).
 //!
 //! If all tokens have the same spelling (`words_of_tokens`), for example after a change of blanks,
-//! line endings or comments, everything is kept (`reanalyse_with_same_spellings`). The tree has the
-//! same names and numbers, and each fault is at the same tokens (`bindings_move_with_tokens` of
-//! `ob0_scope`, `check_result_depends_only_on_tokens` of `ob0_types`). Faults are stored with
-//! spans. So the tokens of each fault are found by binary search before the scan, and the spans are
-//! computed again after the scan (`ModuleFaultsWithTokenIndexes`). A fault without tokens is at the
-//! text's start. So everything is kept only if both texts begin with a token, or neither does
-//! (`HaveSameKindsAndSpellings`).
+//! line endings or comments, everything is kept. The tree has the same names and numbers, and the
+//! kept faults are at tokens (`bindings_depend_on_spellings` of `ob0_scope`,
+//! `types_depend_on_spellings` of `ob0_types`). Faults get their spans only when they are asked
+//! for.
 //!
 //! If a new text has lexical faults, all results for the last text that had lexemes are kept,
 //! because a failing scan returns the old tokens (`IsRightRescanRefusal`). The next successful scan
@@ -49,11 +46,11 @@ ghost use Rattle.std.specs.Prelude.{◌≡◌, ◌≤◌, IfErr, IfOk, MatchOpti
 ghost use Rattle.std.specs.Str.{IsUtf8};
 ghost use Rattle.ob0_scan.specs.Refused.{AreFaultsOfRefusedText};
 ghost use Rattle.ob0_scan.specs.TextWithTokens.{IsScannable, IsScanOf};
-ghost use Rattle.ob0_analysis.specs.Diagnosed.{IsWellTypedModule, Reports, reported_diagnosis_of};
+ghost use Rattle.ob0_analysis.specs.Diagnosed.{IsWellTypedModule, ReportsErrorsOf, reported_diagnosis_of};
 
 use crate::diagnoses::{Diagnosis, diagnoses_of_faults};
 use crate::parts::ModuleParts;
-use crate::scanned_text::{ReanalysisFailure, ScannedText};
+use crate::scanned_text::{ReanalysisFailure, ScannedTextAnalysis};
 use ob0_parse::KeptTrees;
 use ob0_scan::{Fault, ScanRefusal, scan};
 use std::alloc::{AllocError, Global};
@@ -67,27 +64,27 @@ const MAX_SPARE_BYTES: usize = 4096;
 /// the last earlier text without lexical faults (`last`). `last` is None if no such analysis is
 /// kept.
 #[derive(Drop)]
-pub(crate) struct UnscannableText {
+pub(crate) struct UnscannableTextAnalysis {
     text: String,
     faults: Vec<Fault>,
-    last: Option<ScannedText>,
+    last: Option<ScannedTextAnalysis>,
 }
 
 /// The result of analysing a text: `Unscannable` for a text with lexical faults, otherwise `Read`
 /// with the analysis of its tokens.
 #[derive(Drop)]
 pub(crate) enum AnalysisResult {
-    Unscannable(UnscannableText),
-    Read(ScannedText),
+    Unscannable(UnscannableTextAnalysis),
+    Read(ScannedTextAnalysis),
 }
 
 /// The analysis of a text. In contracts its value is only the text, because an analysis that reuses
 /// earlier results answers like one from scratch.
 pub struct Analysis {
     outcome: AnalysisResult,
-    /// The length, in bytes, of the longest earlier text whose lists may be reused in this
-    /// analysis, or 0 if there is none. Such a text had no lexical faults. Lists keep their
-    /// capacity, so the reused lists may have room for a text of that length.
+    /// The length, in bytes, of the longest text without lexical faults whose lists may be used in
+    /// this analysis: this text or an earlier one. It is 0 if there is none. Lists keep their
+    /// capacity, so these lists may have room for a text of that length.
     room: usize,
 }
 
@@ -107,9 +104,9 @@ impl Model for Analysis {
 
     ghost Value = { List ℕ };
 
-    ghost use Rattle.ob0_analysis.specs.AnalysisInvariants.{text_of, IsValidAnalysisResult};
+    ghost use Rattle.ob0_analysis.specs.AnalysisInvariants.{text_of_analysis_result, IsValidAnalysisResult};
 
-    ghost view = { λ a. text_of a.outcome };
+    ghost view = { λ a. text_of_analysis_result a.outcome };
 
     ghost invariant = { λ a. IsValidAnalysisResult a.outcome };
 }
@@ -121,7 +118,7 @@ impl Analysis {
     {
         match scan(alloc, text) {
             Ok(tokens) => {
-                let read = ScannedText::analyse_tokens(
+                let read = ScannedTextAnalysis::analyse_tokens(
                     alloc,
                     tokens,
                     KeptTrees::empty(alloc),
@@ -129,7 +126,7 @@ impl Analysis {
                 )?;
                 Ok(Analysis {
                     outcome: AnalysisResult::Read(read),
-                    room: 0,
+                    room: text.len(),
                 })
             }
             Err(refusal) => match refusal {
@@ -142,40 +139,17 @@ impl Analysis {
     }
 
     /// Analyses the changed text `text`, and reuses results for the parts that the old and the new
-    /// text have in common (`ScannedText::reanalyse`). If the new text has lexical faults, the
-    /// results for the last text that had lexemes are kept. If an earlier text was much longer than
-    /// the new text, nothing is reused or kept.
+    /// text have in common (`ScannedTextAnalysis::reanalyse`). If the new text has lexical faults,
+    /// the results for the last text that had lexemes are kept. If an earlier text was much longer
+    /// than the new text, nothing is reused or kept.
     pub fn reanalyse(self, alloc: Global, text: &str) -> Result<Analysis, AllocError>
         ensures { IfOk result (λ a. a ≡ text.now) }
     {
         let Analysis { outcome, room } = self;
-        match outcome {
-            AnalysisResult::Unscannable(ill) => Analysis::analyse_after_lexical_faults(
-                alloc, ill, room, text,
-            ),
-            AnalysisResult::Read(read) => {
-                let room = read.text().len().max(room);
-                Analysis::analyse_after_scanned_text(alloc, read, room, text)
-            }
-        }
-    }
-
-    /// Analyses a changed text (`text`). The previous text had lexical faults (`ill`). Reuses the
-    /// analysis of the last text that had lexemes, if that analysis is kept. The lists of that
-    /// analysis have room for a text of `room` bytes.
-    fn analyse_after_lexical_faults(
-        alloc: Global,
-        ill: UnscannableText,
-        room: usize,
-        text: &str,
-    ) -> Result<Analysis, AllocError>
-        ensures { IfOk result (λ a. a ≡ text.now) }
-    {
-        let UnscannableText {
-            text: _,
-            faults: _,
-            last,
-        } = ill;
+        let last = match outcome {
+            AnalysisResult::Unscannable(ill) => ill.last,
+            AnalysisResult::Read(read) => Some(read),
+        };
         match last {
             None => Analysis::analyse_text(alloc, text),
             Some(last) => Analysis::analyse_after_scanned_text(alloc, last, room, text),
@@ -187,7 +161,7 @@ impl Analysis {
     /// more than `text` needs, `read` is dropped, because reused lists keep their capacity.
     fn analyse_after_scanned_text(
         alloc: Global,
-        read: ScannedText,
+        read: ScannedTextAnalysis,
         room: usize,
         text: &str,
     ) -> Result<Analysis, AllocError>
@@ -199,7 +173,7 @@ impl Analysis {
         match read.reanalyse(alloc, text) {
             Ok(read) => Ok(Analysis {
                 outcome: AnalysisResult::Read(read),
-                room,
+                room: room.max(text.len()),
             }),
             Err(refusal) => match refusal {
                 ReanalysisFailure::Faults(faults, last) => {
@@ -217,7 +191,7 @@ impl Analysis {
         alloc: Global,
         text: &str,
         faults: Vec<Fault>,
-        last: Option<ScannedText>,
+        last: Option<ScannedTextAnalysis>,
         room: usize,
     ) -> Result<Analysis, AllocError>
         requires faults { AreFaultsOfRefusedText text.now faults.items }
@@ -226,7 +200,7 @@ impl Analysis {
     {
         let text = String::from_str(alloc, text)?;
         Ok(Analysis {
-            outcome: AnalysisResult::Unscannable(UnscannableText { text, faults, last }),
+            outcome: AnalysisResult::Unscannable(UnscannableTextAnalysis { text, faults, last }),
             room,
         })
     }
@@ -273,7 +247,7 @@ impl Analysis {
     ///   where parsing stops.
     /// - If the text has a tree, the errors are the first hundred faults of names and types.
     pub fn diagnoses(&self, alloc: Global) -> Result<Vec<Diagnosis>, AllocError>
-        ensures reported { IfOk result (λ list. Reports self.now (map reported_diagnosis_of list.items)) }
+        ensures reported { IfOk result (λ list. ReportsErrorsOf self.now (map reported_diagnosis_of list.items)) }
         ensures utf8 { IsUtf8 self.now }
     {
         // The proof needs the invariant of the analysis, which this call's contract states.

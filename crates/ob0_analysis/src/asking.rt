@@ -59,7 +59,7 @@ pub fn ask<Q: Question>(
     };
     let module = parts.module();
     let resolved = parts.resolved(&module);
-    let checked = parts.checked(&resolved);
+    let checked = parts.checked(alloc, &resolved)?;
     match checked.well_typed() {
         Some(module) => {
             // The proof needs the invariant of the module, which this call's contract states.

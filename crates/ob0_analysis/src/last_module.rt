@@ -9,8 +9,8 @@
 //!
 //! The earlier module's tree isn't kept while the parser refuses the texts, so the body that
 //! contains the differences can't be found again. So the whole body counts as different
-//! (`widen_to_body`), and each further change must lie in the same body
-//! (`keep_optional_across_change`).
+//! (`widen_difference_to_body`), and each further change must lie in the same body
+//! (`keep_optional_module_across_change`).
 
 ghost use Rattle.std.specs.Prelude.{◌≡◌, ◌≤◌, IfSome, Some};
 ghost use Rattle.ob0_analysis.specs.LastModule.{IsEarlierModule, WidensDifference, KeepsLastModule, IsLastModuleOf};
@@ -36,7 +36,7 @@ impl LastModule {
     /// a changed text with the tokens `tokens`. All tokens of the previous text that may differ
     /// (`same.prefix..same.old_suffix`) must lie in one body, after its first identifier. Otherwise
     /// returns None.
-    pub(crate) fn keep_module(
+    pub(crate) fn keep_last_module(
         tokens: &Tokens,
         tree: &ModuleTree,
         bindings: Bindings,
@@ -47,7 +47,7 @@ impl LastModule {
         ensures { IfSome result (IsLastModuleOf tokens.now) }
     {
         let body = body_bounds_in_tree(tree, same.prefix, same.old_suffix)?;
-        let wider = widen_to_body(same, body, tokens.tokens().len())?;
+        let wider = widen_difference_to_body(same, body, tokens.tokens().len())?;
         let place = body_bounds_in_tree(tree, wider.prefix, wider.old_suffix)?;
         Some(LastModule {
             bindings,
@@ -60,7 +60,7 @@ impl LastModule {
     /// Keeps the names and types of the last module when the text changes again. `change` describes
     /// the tokens that this change keeps. Returns None if `last` is None, or if the change doesn't
     /// lie in the body that contains all earlier differences.
-    pub(crate) fn keep_optional_across_change(
+    pub(crate) fn keep_optional_module_across_change(
         last: Option<LastModule>,
         change: CommonPrefixAndSuffix,
     ) -> Option<LastModule>
@@ -102,7 +102,7 @@ impl LastModule {
 /// `body` of the old text. The extended range begins after the body's first identifier and ends
 /// before the END of its block. Returns None if a token that may differ lies outside the extended
 /// range, or if this range would end after the current text's `count` tokens.
-fn widen_to_body(
+fn widen_difference_to_body(
     same: CommonPrefixAndSuffix,
     body: BodyBounds,
     count: usize,

@@ -6,7 +6,6 @@ mod analysis;
 mod asking;
 mod diagnoses;
 mod differences;
-mod fault_places;
 mod last_module;
 pub mod laws;
 mod new_body;

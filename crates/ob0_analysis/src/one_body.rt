@@ -20,7 +20,7 @@ use std::alloc::{AllocError, Global};
 
 /// Returns whether all tokens that may differ in spelling from the previous text lie in one body
 /// (the statements of one block). These are the tokens `same.prefix..same.old_suffix`.
-pub(crate) fn differs_in_one_body(
+pub(crate) fn differs_only_in_one_body(
     tokens: &Tokens,
     tree: &ModuleTree,
     same: CommonPrefixAndSuffix,

@@ -3,16 +3,16 @@
 //! A *view* (`Module`, `Resolved`, `Checked`) has one part of the results and a reference to the
 //! view of the layer below. The view's invariant says that the part is right for the layer below.
 //! Each view has two constructors, which require this invariant: `new` owns the part, and
-//! `from_parts` borrows the part and doesn't allocate. In contracts, a `ModuleParts` has the same
-//! value as its `Resolved`.
+//! `from_parts` borrows it. Those of `Checked` also give the faults their spans, and only they
+//! allocate. In contracts, a `ModuleParts` has the same value as its `Resolved`.
 
 ghost use Rattle.std.specs.Prelude.{◌≡◌, IfOk};
 ghost use Rattle.ob0_tree.specs.ParsedModule.{IsParsed, parsed_module};
 ghost use Rattle.ob0_scope_table.specs.Bindings.{resolution_with};
 ghost use Rattle.ob0_scope_table.specs.Resolution.{IsResolution};
-ghost use Rattle.ob0_types.specs.CheckedModules.{AreFaultsOfCheckedModule, IsCheckResultOf, IsChecked};
+ghost use Rattle.ob0_types.specs.CheckedModules.{IsCheckResultOf, IsChecked};
 
-use ob0_scan::{Fault, Tokens};
+use ob0_scan::Tokens;
 use ob0_scope::bindings_of;
 use ob0_scope_table::{Bindings, Resolved};
 use ob0_tree::{Module, ModuleTree};
@@ -104,20 +104,18 @@ impl ModuleParts {
         Resolved::from_parts(module, &self.bindings)
     }
 
-    /// Returns a view of the module with its types.
-    pub(crate) fn checked<'a>(&'a self, resolved: &'a Resolved<'a>) -> Checked<'a>
+    /// Returns a view of the module with its types and with its faults at their spans. Fails only
+    /// if an allocation fails.
+    pub(crate) fn checked<'a>(
+        &'a self,
+        alloc: Global,
+        resolved: &'a Resolved<'a>,
+    ) -> Result<Checked<'a>, AllocError>
         requires { resolved.now ≡ self.now }
-        ensures names { result.names ≡ self.now }
-        ensures checked { IsChecked result }
+        ensures names { IfOk result (λ c. c.names ≡ self.now) }
+        ensures checked { IfOk result IsChecked }
     {
-        Checked::from_parts(resolved, &self.types)
-    }
-
-    /// Returns the faults of the module's names and types, at most a hundred.
-    pub(crate) fn faults(&self) -> &[Fault]
-        ensures { AreFaultsOfCheckedModule self.now result.now }
-    {
-        self.types.faults.as_slice()
+        Checked::from_parts(alloc, resolved, &self.types)
     }
 
     /// Returns the tokens of the text.

@@ -2,29 +2,26 @@
 //! the text's tokens, with its module or the parser's refusal.
 
 ghost use Rattle.std.specs.Prelude.{◌≡◌, [], true, IfErr, IfOk, IfSome, MatchOption, map};
-ghost use Rattle.ob0_scan.specs.Refused.{AreFaultsOfRefusedText, IsRightRescanRefusal};
-ghost use Rattle.ob0_scan.specs.Reused.{kinds, names_in, words_of_tokens};
-ghost use Rattle.ob0_scan.specs.SameKinds.{PrefixAndSuffixHaveSameKinds, PrefixAndSuffixHaveSameWords};
+ghost use Rattle.ob0_scan.specs.Refused.{AreFaultsOfRefusedText};
 ghost use Rattle.ob0_scan.specs.TextWithTokens.{IsScan, IsScanOf};
 ghost use Rattle.ob0_tree.specs.ParsedModule.{IsParsed, parsed_module};
 ghost use Rattle.ob0_scope_table.specs.Bindings.{resolution_with};
 ghost use Rattle.ob0_scope_table.specs.Resolution.{IsResolution};
 ghost use Rattle.ob0_parse.specs.KeptTokens.{AreKeptTreesInPlace};
 ghost use Rattle.ob0_analysis.specs.AnalysisInvariants.{IsValidParseOutcome, IsRefusedByParser, IsRightReanalysisFailure};
-ghost use Rattle.ob0_analysis.specs.ReuseConditions.{AreKeptResultsBeforeChange, WasModuleBeforeChange, IsRightScanFailureAfterModule, IsRightScanFailureAfterRefusal, IsModuleWithSameSpelling};
+ghost use Rattle.ob0_analysis.specs.ReuseConditions.{AreResultsKeptForPreviousText, WasModuleBeforeChange, IsRightScanFailureAfterModule, IsRightScanFailureAfterRefusal};
 ghost use Rattle.ob0_analysis.specs.LastModule.{IsEarlierModule, IsLastModuleOf};
 ghost use Rattle.ob0_analysis.specs.declared.scanned_text.ReanalysisFailure.TheVariants as reanalysis_failure;
 ghost use Rattle.ob0_analysis.specs.declared.scanned_text.ParseOutcome.TheVariants.{NoTree};
-ghost use Rattle.ob0_analysis.specs.Diagnosed.{IsWellTypedModule, Reports, reported_diagnosis_of};
+ghost use Rattle.ob0_analysis.specs.Diagnosed.{IsWellTypedModule, ReportsErrorsOf, reported_diagnosis_of};
 ghost use Rattle.ob0_analysis.specs.OneBody.{IsEarlierModuleWithSameKinds};
 ghost use Rattle.ob0_types.specs.OneBody.{WasCheckResultBeforeBodyChange};
 
 use crate::diagnoses::Diagnosis;
-use crate::differences::Difference;
-use crate::fault_places::{ModuleFaultsWithTokenIndexes, move_binding_faults, move_type_faults};
+use crate::differences::TextDifference;
 use crate::last_module::LastModule;
 use crate::new_body::reuse_last_module;
-use crate::one_body::{differs_in_one_body, rebind_names, recheck_types};
+use crate::one_body::{differs_only_in_one_body, rebind_names, recheck_types};
 use crate::parts::ModuleParts;
 use crate::text_errors::{diagnose_module, diagnose_refusal};
 use ob0_parse::{KeptTrees, reparse_tree};
@@ -33,11 +30,11 @@ use ob0_scan::laws::scan_is_unique;
 use ob0_scan::{
     CommonPrefixAndSuffix, Fault, RescanRefusal, RescanWithComparison, Tokens, rescan_in_place,
 };
-use ob0_scope::laws::{bindings_depend_only_on_names, bindings_move_with_tokens};
+use ob0_scope::laws::{bindings_depend_on_spellings, bindings_depend_only_on_names};
 use ob0_scope_table::Bindings;
 use ob0_tree::ModuleTree;
 use ob0_types::CheckResult;
-use ob0_types::laws::check_result_depends_only_on_tokens;
+use ob0_types::laws::types_depend_on_spellings;
 use std::alloc::{AllocError, Global};
 use std::marker::Model;
 
@@ -62,18 +59,18 @@ pub(crate) enum ParseOutcome {
 
 /// The analysis of a text that has lexemes.
 #[derive(Drop)]
-pub(crate) struct ScannedText {
+pub(crate) struct ScannedTextAnalysis {
     parse_outcome: ParseOutcome,
 }
 
-impl Model for ScannedText {
+impl Model for ScannedTextAnalysis {
     ghost use Rattle.std.specs.Prelude.{List, ℕ};
 
     ghost Value = { List ℕ };
 
-    ghost use Rattle.ob0_analysis.specs.AnalysisInvariants.{text_of_outcome, IsValidParseOutcome};
+    ghost use Rattle.ob0_analysis.specs.AnalysisInvariants.{text_of_parse_outcome, IsValidParseOutcome};
 
-    ghost view = { λ r. text_of_outcome r.parse_outcome };
+    ghost view = { λ r. text_of_parse_outcome r.parse_outcome };
 
     ghost invariant = { λ r. IsValidParseOutcome r.parse_outcome };
 }
@@ -82,7 +79,7 @@ impl Model for ScannedText {
 /// analysis of the previous text is returned with the faults.
 #[derive(Drop)]
 pub(crate) enum ReanalysisFailure {
-    Faults(Vec<Fault>, ScannedText),
+    Faults(Vec<Fault>, ScannedTextAnalysis),
     Memory,
 }
 
@@ -94,7 +91,7 @@ impl From<AllocError> for ReanalysisFailure {
     }
 }
 
-impl ScannedText {
+impl ScannedTextAnalysis {
     /// Parses and analyses a text, given its tokens. The trees in `kept` and the names and types in
     /// `last` come from earlier texts and are reused if possible.
     pub(crate) fn analyse_tokens(
@@ -102,16 +99,16 @@ impl ScannedText {
         tokens: Tokens,
         kept: KeptTrees,
         last: Option<LastModule>,
-    ) -> Result<ScannedText, AllocError>
+    ) -> Result<ScannedTextAnalysis, AllocError>
         requires kept { AreKeptTreesInPlace tokens.tokens kept }
         requires last { IfSome last (IsLastModuleOf tokens) }
         ensures { IfOk result (λ r. r ≡ tokens.text) }
     {
         let mut kept = kept;
         match reparse_tree(alloc, &tokens, &mut kept) {
-            Ok(tree) => ScannedText::analyse_tree(alloc, tokens, tree, last),
+            Ok(tree) => ScannedTextAnalysis::analyse_tree(alloc, tokens, tree, last),
             Err(ParseRefusal::Memory) => Err(AllocError),
-            Err(refusal) => Ok(ScannedText {
+            Err(refusal) => Ok(ScannedTextAnalysis {
                 parse_outcome: ParseOutcome::NoTree(UnparsableText {
                     tokens,
                     refusal,
@@ -130,7 +127,7 @@ impl ScannedText {
         tokens: Tokens,
         tree: ModuleTree,
         last: Option<LastModule>,
-    ) -> Result<ScannedText, AllocError>
+    ) -> Result<ScannedTextAnalysis, AllocError>
         requires parsed { IsParsed (parsed_module tokens tree) }
         requires last { IfSome last (IsLastModuleOf tokens) }
         ensures { IfOk result (λ r. r ≡ tokens.text) }
@@ -139,14 +136,14 @@ impl ScannedText {
             Some(last) => reuse_last_module(alloc, tokens, tree, last)?,
             None => ModuleParts::bind_and_check(alloc, tokens, tree)?,
         };
-        Ok(ScannedText::from_module(parts))
+        Ok(ScannedTextAnalysis::from_module(parts))
     }
 
     /// Makes the analysis of a text from the parts of its module.
-    fn from_module(parts: ModuleParts) -> ScannedText
+    fn from_module(parts: ModuleParts) -> ScannedTextAnalysis
         ensures { result ≡ parts.module_read.source.text }
     {
-        ScannedText {
+        ScannedTextAnalysis {
             parse_outcome: ParseOutcome::Module(parts),
         }
     }
@@ -156,7 +153,7 @@ impl ScannedText {
     /// - if all tokens have the same kinds as before, the tree or the parser's refusal;
     /// - if also all identifiers have the same spelling and no name has a fault, the bindings;
     /// - if all differences lie in one body, the bindings and types outside this body;
-    /// - if all tokens have the same spelling, everything, with the faults at the same tokens.
+    /// - if all tokens have the same spelling, everything.
     ///
     /// If the new text has lexical faults, the error has these faults and the analysis of the
     /// previous text.
@@ -164,14 +161,18 @@ impl ScannedText {
         self,
         alloc: Global,
         text: &str,
-    ) -> Result<ScannedText, ReanalysisFailure>
+    ) -> Result<ScannedTextAnalysis, ReanalysisFailure>
         ensures ok { IfOk result (λ r. r ≡ text.now) }
         ensures err { IfErr result (IsRightReanalysisFailure text.now) }
     {
-        let ScannedText { parse_outcome } = self;
+        let ScannedTextAnalysis { parse_outcome } = self;
         match parse_outcome {
-            ParseOutcome::NoTree(ill) => ScannedText::analyse_after_refusal(alloc, ill, text),
-            ParseOutcome::Module(parts) => ScannedText::analyse_after_module(alloc, parts, text),
+            ParseOutcome::NoTree(ill) => ScannedTextAnalysis::analyse_after_refusal(
+                alloc, ill, text,
+            ),
+            ParseOutcome::Module(parts) => ScannedTextAnalysis::analyse_after_module(
+                alloc, parts, text,
+            ),
         }
     }
 
@@ -180,7 +181,7 @@ impl ScannedText {
         alloc: Global,
         ill: UnparsableText,
         text: &str,
-    ) -> Result<ScannedText, ReanalysisFailure>
+    ) -> Result<ScannedTextAnalysis, ReanalysisFailure>
         requires { IsValidParseOutcome (NoTree ill) }
         ensures ok { IfOk result (λ r. r ≡ text.now) }
         ensures err { IfErr result (IsRightReanalysisFailure text.now) }
@@ -191,11 +192,16 @@ impl ScannedText {
             kept,
             last,
         } = ill;
-        match rescan_text(alloc, tokens, text) {
-            Ok(changed) => Ok(ScannedText::reanalyse_refused_text(
+        let TextDifference {
+            start,
+            removed,
+            added,
+        } = TextDifference::between(tokens.text(), text);
+        match rescan_in_place(alloc, tokens, text, start, removed, added) {
+            Ok(changed) => Ok(ScannedTextAnalysis::reanalyse_refused_text(
                 alloc, changed, refusal, kept, last,
             )?),
-            Err(unread) => Err(ScannedText::failure_after_refusal(
+            Err(unread) => Err(ScannedTextAnalysis::reanalysis_failure_after_refusal(
                 text, unread, refusal, kept, last,
             )),
         }
@@ -204,7 +210,7 @@ impl ScannedText {
     /// Returns the error for a changed text that can't be scanned, if the parser refused the
     /// previous text. If the reason is lexical faults, the error also has the analysis of the
     /// previous text.
-    fn failure_after_refusal(
+    fn reanalysis_failure_after_refusal(
         _text: &str,
         unread: RescanRefusal,
         refusal: ParseRefusal,
@@ -216,7 +222,7 @@ impl ScannedText {
     {
         match unread {
             RescanRefusal::Faults(faults, tokens) => {
-                let before = ScannedText {
+                let before = ScannedTextAnalysis {
                     parse_outcome: ParseOutcome::NoTree(UnparsableText {
                         tokens,
                         refusal,
@@ -240,9 +246,9 @@ impl ScannedText {
         refusal: ParseRefusal,
         kept: KeptTrees,
         last: Option<LastModule>,
-    ) -> Result<ScannedText, AllocError>
+    ) -> Result<ScannedTextAnalysis, AllocError>
         requires same_kinds { changed.same_kinds ≡ true → IsRefusedByParser changed.rescan.tokens refusal }
-        requires before { AreKeptResultsBeforeChange changed kept last }
+        requires before { AreResultsKeptForPreviousText changed kept last }
         ensures { IfOk result (λ r. r ≡ changed.rescan.tokens.text) }
     {
         let RescanWithComparison {
@@ -253,12 +259,11 @@ impl ScannedText {
             same_words: _,
         } = changed;
         let tokens = rescan.tokens;
-        let last = LastModule::keep_optional_across_change(last, same);
+        let last = LastModule::keep_optional_module_across_change(last, same);
         if !same_kinds {
-            let kept = kept.relocate(alloc, same)?;
-            return ScannedText::analyse_tokens(alloc, tokens, kept, last);
+            return ScannedTextAnalysis::analyse_tokens(alloc, tokens, kept.relocate(same), last);
         }
-        Ok(ScannedText {
+        Ok(ScannedTextAnalysis {
             parse_outcome: ParseOutcome::NoTree(UnparsableText {
                 tokens,
                 refusal,
@@ -273,19 +278,23 @@ impl ScannedText {
         alloc: Global,
         old: ModuleParts,
         text: &str,
-    ) -> Result<ScannedText, ReanalysisFailure>
+    ) -> Result<ScannedTextAnalysis, ReanalysisFailure>
         ensures ok { IfOk result (λ r. r ≡ text.now) }
         ensures err { IfErr result (IsRightReanalysisFailure text.now) }
     {
         let (tokens, tree, bindings, types) = old.into_parts();
-        let places = ModuleFaultsWithTokenIndexes::from_faults(alloc, &tokens, &bindings, &types)?;
         // The proof needs the invariant of the tokens, which this call's contract states.
         let _text = tokens.text();
-        match rescan_text(alloc, tokens, text) {
-            Ok(changed) => Ok(ScannedText::reanalyse_module(
-                alloc, changed, tree, bindings, types, places,
+        let TextDifference {
+            start,
+            removed,
+            added,
+        } = TextDifference::between(tokens.text(), text);
+        match rescan_in_place(alloc, tokens, text, start, removed, added) {
+            Ok(changed) => Ok(ScannedTextAnalysis::reanalyse_module(
+                alloc, changed, tree, bindings, types,
             )?),
-            Err(unread) => Err(ScannedText::failure_after_module(
+            Err(unread) => Err(ScannedTextAnalysis::reanalysis_failure_after_module(
                 text, unread, tree, bindings, types,
             )),
         }
@@ -293,7 +302,7 @@ impl ScannedText {
 
     /// Returns the error for a changed text that can't be scanned, if the previous text was a
     /// module. If the reason is lexical faults, the error also has the analysis of that module.
-    fn failure_after_module(
+    fn reanalysis_failure_after_module(
         _text: &str,
         unread: RescanRefusal,
         tree: ModuleTree,
@@ -306,27 +315,28 @@ impl ScannedText {
         match unread {
             RescanRefusal::Faults(faults, tokens) => {
                 let last = ModuleParts::from_parts(tokens, tree, bindings, types);
-                ReanalysisFailure::Faults(faults, ScannedText::from_module(last))
+                ReanalysisFailure::Faults(faults, ScannedTextAnalysis::from_module(last))
             }
             RescanRefusal::Memory => ReanalysisFailure::Memory,
         }
     }
 
     /// Analyses a changed text, given its scan (`changed`). The previous text was a module with the
-    /// tree `tree`, and `places` has the token indexes of its faults. If all tokens have the same
-    /// kinds as before, the tree is kept. The bindings and types are reused if possible.
+    /// tree `tree`. If all tokens have the same spellings as before, everything is kept. If they
+    /// have the same kinds, the tree is kept. The bindings and types are reused if possible.
     fn reanalyse_module(
         alloc: Global,
         changed: RescanWithComparison,
         tree: ModuleTree,
         bindings: Bindings,
         types: CheckResult,
-        places: ModuleFaultsWithTokenIndexes,
-    ) -> Result<ScannedText, AllocError>
-        requires { WasModuleBeforeChange changed tree bindings types places }
+    ) -> Result<ScannedTextAnalysis, AllocError>
+        requires { WasModuleBeforeChange changed tree bindings types }
         ensures { IfOk result (λ r. r ≡ changed.rescan.tokens.text) }
     {
         bindings_depend_only_on_names();
+        bindings_depend_on_spellings();
+        types_depend_on_spellings();
         let RescanWithComparison {
             rescan,
             same,
@@ -336,18 +346,15 @@ impl ScannedText {
         } = changed;
         let tokens = rescan.tokens;
         if !same_kinds {
-            return ScannedText::reanalyse_with_changed_kinds(
+            return ScannedTextAnalysis::reanalyse_with_changed_kinds(
                 alloc, tokens, tree, bindings, types, same,
             );
         }
         if same_words {
-            if places.begins_like_module_text(&tokens) {
-                return ScannedText::reanalyse_with_same_spellings(
-                    alloc, tokens, tree, bindings, types, places,
-                );
-            }
+            let parts = ModuleParts::from_parts(tokens, tree, bindings, types);
+            return Ok(ScannedTextAnalysis::from_module(parts));
         }
-        ScannedText::reanalyse_with_same_tree(
+        ScannedTextAnalysis::reanalyse_with_same_tree(
             alloc, tokens, tree, bindings, types, same, same_names,
         )
     }
@@ -363,19 +370,18 @@ impl ScannedText {
         bindings: Bindings,
         types: CheckResult,
         same: CommonPrefixAndSuffix,
-    ) -> Result<ScannedText, AllocError>
+    ) -> Result<ScannedTextAnalysis, AllocError>
         requires { IsEarlierModule tokens tree bindings types same }
         ensures { IfOk result (λ r. r ≡ tokens.text) }
     {
-        let last = LastModule::keep_module(&tokens, &tree, bindings, types, same);
-        let kept = KeptTrees::from_tree(alloc, tree).relocate(alloc, same)?;
-        ScannedText::analyse_tokens(alloc, tokens, kept, last)
+        let last = LastModule::keep_last_module(&tokens, &tree, bindings, types, same);
+        let kept = KeptTrees::from_tree(alloc, tree)?;
+        ScannedTextAnalysis::analyse_tokens(alloc, tokens, kept.relocate(same), last)
     }
 
     /// Analyses a text that has the same tree as the previous text. If the identifiers have the
     /// same spellings as before (`same_names`) and no name has a fault, the bindings are kept.
-    /// Otherwise names are bound again, because their bindings or the spans of their faults may
-    /// have changed.
+    /// Otherwise names are bound again, because their bindings or their faults may have changed.
     fn reanalyse_with_same_tree(
         alloc: Global,
         tokens: Tokens,
@@ -384,7 +390,7 @@ impl ScannedText {
         types: CheckResult,
         same: CommonPrefixAndSuffix,
         same_names: bool,
-    ) -> Result<ScannedText, AllocError>
+    ) -> Result<ScannedTextAnalysis, AllocError>
         requires parsed { IsParsed (parsed_module tokens tree) }
         requires before { IsEarlierModuleWithSameKinds tokens tree bindings types same }
         requires resolved { same_names ≡ true
@@ -392,14 +398,16 @@ impl ScannedText {
             → IsResolution (resolution_with (parsed_module tokens tree) bindings) }
         ensures { IfOk result (λ r. r ≡ tokens.text) }
     {
-        let in_body = differs_in_one_body(&tokens, &tree, same);
+        let in_body = differs_only_in_one_body(&tokens, &tree, same);
         if same_names && bindings.faults.is_empty() {
-            return ScannedText::reanalyse_with_bindings(
+            return ScannedTextAnalysis::reanalyse_with_bindings(
                 alloc, tokens, tree, bindings, types, same, in_body,
             );
         }
         let names = rebind_names(alloc, &tokens, &tree, bindings, same, in_body)?;
-        ScannedText::reanalyse_with_bindings(alloc, tokens, tree, names, types, same, in_body)
+        ScannedTextAnalysis::reanalyse_with_bindings(
+            alloc, tokens, tree, names, types, same, in_body,
+        )
     }
 
     /// Analyses a text, given its tree and its bindings. The tree is also the previous text's tree,
@@ -413,7 +421,7 @@ impl ScannedText {
         types: CheckResult,
         same: CommonPrefixAndSuffix,
         in_body: bool,
-    ) -> Result<ScannedText, AllocError>
+    ) -> Result<ScannedTextAnalysis, AllocError>
         requires parsed { IsParsed (parsed_module tokens tree) }
         requires resolved { IsResolution (resolution_with (parsed_module tokens tree) bindings) }
         requires before { in_body ≡ true
@@ -422,29 +430,7 @@ impl ScannedText {
     {
         let types = recheck_types(alloc, &tokens, &tree, &bindings, types, same, in_body)?;
         let parts = ModuleParts::from_parts(tokens, tree, bindings, types);
-        Ok(ScannedText::from_module(parts))
-    }
-
-    /// Analyses a changed text whose tokens have the same spellings as the previous text's tokens.
-    /// The tree, bindings and types are kept. Only the spans of the faults are computed again: from
-    /// the indexes of each fault's first and last token, which `places` has.
-    fn reanalyse_with_same_spellings(
-        alloc: Global,
-        tokens: Tokens,
-        tree: ModuleTree,
-        bindings: Bindings,
-        types: CheckResult,
-        places: ModuleFaultsWithTokenIndexes,
-    ) -> Result<ScannedText, AllocError>
-        requires { IsModuleWithSameSpelling tokens tree bindings types places }
-        ensures { IfOk result (λ r. r ≡ tokens.text) }
-    {
-        bindings_move_with_tokens();
-        check_result_depends_only_on_tokens();
-        let bindings = move_binding_faults(alloc, &tokens, bindings, &places)?;
-        let types = move_type_faults(alloc, &tokens, types, &places)?;
-        let parts = ModuleParts::from_parts(tokens, tree, bindings, types);
-        Ok(ScannedText::from_module(parts))
+        Ok(ScannedTextAnalysis::from_module(parts))
     }
 
     /// Returns the text that was analysed.
@@ -480,35 +466,11 @@ impl ScannedText {
 
     /// Returns the errors of the text: the parser's refusal, or the faults of names and types.
     pub(crate) fn diagnoses(&self, alloc: Global) -> Result<Vec<Diagnosis>, AllocError>
-        ensures { IfOk result (λ list. Reports self.now (map reported_diagnosis_of list.items)) }
+        ensures { IfOk result (λ list. ReportsErrorsOf self.now (map reported_diagnosis_of list.items)) }
     {
         match &self.parse_outcome {
             ParseOutcome::NoTree(ill) => diagnose_refusal(alloc, &ill.tokens, &ill.refusal),
             ParseOutcome::Module(parts) => diagnose_module(alloc, parts),
         }
     }
-}
-
-/// Scans the changed text `text`, and reuses the tokens of the old text (`old`) outside the change.
-/// If the changed text has lexical faults, the error has these faults and the old tokens.
-fn rescan_text(
-    alloc: Global,
-    old: Tokens,
-    text: &str,
-) -> Result<RescanWithComparison, RescanRefusal>
-    ensures ok { IfOk result (λ r. IsScanOf text.now r.rescan.tokens) }
-    ensures same { IfOk result (λ r. PrefixAndSuffixHaveSameKinds r.same old.tokens r.rescan.tokens.tokens) }
-    ensures written { IfOk result (λ r. PrefixAndSuffixHaveSameWords r.same old r.rescan.tokens) }
-    ensures same_kinds { IfOk result
-        (λ r. r.same_kinds ≡ true → kinds r.rescan.tokens.tokens ≡ kinds old.tokens) }
-    ensures same_names { IfOk result
-        (λ r. r.same_names ≡ true → names_in r.rescan.tokens.text r.rescan.tokens.tokens
-        ≡ names_in old.text old.tokens) }
-    ensures same_words { IfOk result
-        (λ r. r.same_words ≡ true → words_of_tokens r.rescan.tokens.text r.rescan.tokens.tokens
-        ≡ words_of_tokens old.text old.tokens) }
-    ensures err { IfErr result (IsRightRescanRefusal old text.now) }
-{
-    let change = Difference::between(old.text(), text);
-    rescan_in_place(alloc, old, text, change.start, change.removed, change.added)
 }

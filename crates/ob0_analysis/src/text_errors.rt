@@ -2,7 +2,7 @@
 
 ghost use Rattle.std.specs.Prelude.{IfOk, map};
 ghost use Rattle.ob0_parse.specs.IsRightParseRefusal.{IsRightParseRefusal};
-ghost use Rattle.ob0_analysis.specs.Diagnosed.{Reports, reported_diagnosis_of};
+ghost use Rattle.ob0_analysis.specs.Diagnosed.{ReportsErrorsOf, reported_diagnosis_of};
 
 use crate::diagnoses::{Diagnosis, diagnoses_of_faults, diagnosis_of_refusal};
 use crate::parts::ModuleParts;
@@ -20,7 +20,7 @@ pub(crate) fn diagnose_refusal(
     refusal: &ParseRefusal,
 ) -> Result<Vec<Diagnosis>, AllocError>
     requires { IsRightParseRefusal tokens.now refusal.now }
-    ensures { IfOk result (λ list. Reports tokens.now.text (map reported_diagnosis_of list.items)) }
+    ensures { IfOk result (λ list. ReportsErrorsOf tokens.now.text (map reported_diagnosis_of list.items)) }
 {
     scan_is_unique();
     // The proof needs the invariant of the tokens, which this call's contract states.
@@ -37,12 +37,15 @@ pub(crate) fn diagnose_module(
     parts: &ModuleParts,
 ) -> Result<Vec<Diagnosis>, AllocError>
     ensures { IfOk result
-        (λ list. Reports parts.now.module_read.source.text (map reported_diagnosis_of list.items)) }
+        (λ list. ReportsErrorsOf parts.now.module_read.source.text (map reported_diagnosis_of list.items)) }
 {
     scan_is_unique();
     tree_is_unique();
     // The proof needs the invariant of the tokens, which this call's contract states.
     let _text = parts.tokens().text();
-    let reported = diagnoses_of_faults(alloc, parts.faults())?;
+    let module = parts.module();
+    let resolved = parts.resolved(&module);
+    let checked = parts.checked(alloc, &resolved)?;
+    let reported = diagnoses_of_faults(alloc, checked.faults())?;
     Ok(reported)
 }

@@ -5,8 +5,8 @@ use Rattle.clap.specs.Words.{App, Rule, Text, new_app, new_rule, with_rule, with
 use Rattle.clap.specs.declared.builder.ArgAction.TheVariants.{Set, SetTrue}
 use Rattle.clap.specs.declared.builder.value_parser.ValueParser.TheVariants.{Signed, Unsigned}
 
--- Returns clap's rule for the required argument `id`, whose value is any word of the command line.
--- The help shows the value under one name, such as FILE.
+-- Returns clap's rule for the required argument `id`. Any word is accepted as the argument's value.
+-- The help shows one placeholder for the value, such as FILE.
 abbrev pub required_word_rule : Text → Rule
 required_word_rule id = record (new_rule id) { action = Some Set; value_names = 1; required = true }
 

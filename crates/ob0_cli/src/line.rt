@@ -181,22 +181,22 @@ pub fn command<'a>(alloc: Global, words: &'a [&'a str]) -> Result<CommandLine<'a
     ensures gives { IfOk result (SpellsCommand (map (λ w. w.now) words.entry.now)) }
     ensures refuses { IfErr result (MayRefuseWords (map (λ w. w.now) words.entry.now)) }
 {
-    match ob0_definition(alloc) {
-        Ok(ob0_definition) => parse_command_line(ob0_definition, words),
+    match ob0_command(alloc) {
+        Ok(ob0_command) => parse_command_line(ob0_command, words),
         Err(AllocError) => Err(CommandFault::Memory),
     }
 }
 
 /// Parses the words of a command line with clap, according to the definition of `ob0`.
 fn parse_command_line<'a>(
-    ob0_definition: Command<'a>,
+    ob0_command: Command<'a>,
     words: &'a [&'a str],
 ) -> Result<CommandLine<'a>, CommandFault>
-    requires { app_of ob0_definition ≡ ob0_app }
+    requires { app_of ob0_command ≡ ob0_app }
     ensures gives { IfOk result (SpellsCommand (map (λ w. w.now) words.entry.now)) }
     ensures refuses { IfErr result (MayRefuseWords (map (λ w. w.now) words.entry.now)) }
 {
-    match ob0_definition.try_get_matches_from(words) {
+    match ob0_command.try_get_matches_from(words) {
         Ok(matches) => Ok(command_line_of(&matches)),
         Err(error) => if error.kind() == ErrorKind::OutOfMemory {
             Err(CommandFault::Memory)
@@ -284,7 +284,7 @@ fn coordinate_value_of(given: &ArgMatches<'_>, id: &str) -> u64
 
 /// Makes clap's definition of `ob0`, which has four subcommands. A command line must have one of
 /// them. clap also adds the subcommand `help`.
-fn ob0_definition<'a>(alloc: Global) -> Result<Command<'a>, AllocError>
+fn ob0_command<'a>(alloc: Global) -> Result<Command<'a>, AllocError>
     ensures { IfOk result (λ c. app_of c ≡ ob0_app) }
 {
     let with_serve = add_subcommand(

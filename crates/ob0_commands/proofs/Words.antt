@@ -7,7 +7,7 @@ use Rattle.std.specs.Bool.{⊤}
 use Rattle.std.specs.List.{position_or_len}
 use Rattle.std.specs.Str.Parse.{AllDigits, IsNumeral}
 use Rattle.ob0_commands.specs.Numbers.{WordMayEndBefore, IsListOfNumbers, SpellsNumber, SpellsNumbers, nothing, number, space}
-use Rattle.ob0_scan.specs.Classes.{is_space}
+use Rattle.ob0_scan.specs.Classes.{is_white_space}
 
 -- Holds if each byte is from `-` to `9`.
 abbrev pub IsOfSignsAndDigits : List ℕ → Type 0
@@ -36,22 +36,22 @@ pub has_bytes : (word : List ℕ) (n : ℤ) → SpellsNumber word n → 0 < leng
 has_bytes [] n w = absurd (omega (arith, w.digits.0))
 has_bytes (c ∷ cs) n w = omega arith
 
-not_space : (c : ℕ) → 45 ≤ c → is_space c ≡ false
+not_space : (c : ℕ) → 45 ≤ c → is_white_space c ≡ false
 not_space c h = grind (arith, nat_tests)
 
-no_space_first : (c : ℕ) (cs : List ℕ) → is_space c ≡ true → ¬ IsOfSignsAndDigits (c ∷ cs)
+no_space_first : (c : ℕ) (cs : List ℕ) → is_white_space c ≡ true → ¬ IsOfSignsAndDigits (c ∷ cs)
 no_space_first c cs is h = let no = not_space c h.0 in absurd (cc)
 
-first_is : (word after : List ℕ) → IsOfSignsAndDigits word → WordMayEndBefore after → position_or_len is_space (word ++ after) ≡ length word
+first_is : (word after : List ℕ) → IsOfSignsAndDigits word → WordMayEndBefore after → position_or_len is_white_space (word ++ after) ≡ length word
 first_is [] [] h e = refl
 first_is [] (b ∷ bs) h e = rw e refl
 first_is (c ∷ cs) after h e =
     let no = not_space c h.0 in
-    let counted : position_or_len is_space (c ∷ (cs ++ after)) ≡ 1 + position_or_len is_space (cs ++ after) = rw no refl in
+    let counted : position_or_len is_white_space (c ∷ (cs ++ after)) ≡ 1 + position_or_len is_white_space (cs ++ after) = rw no refl in
     counted ∙ ap (λ k. 1 + k) (first_is cs after h.2 e) ∙ omega arith
 
 -- If a list of numbers begins with a space, the text after the space is a list of numbers.
-pub after_space : (text : List ℕ) (ns : List ℤ) → SpellsNumbers text ns → (b : ℕ) (rest : List ℕ) → text ≡ b ∷ rest → is_space b ≡ true → IsListOfNumbers rest
+pub after_space : (text : List ℕ) (ns : List ℤ) → SpellsNumbers text ns → (b : ℕ) (rest : List ℕ) → text ≡ b ∷ rest → is_white_space b ≡ true → IsListOfNumbers rest
 after_space text ns nothing b rest e is = absurd (cc)
 after_space text ns (space {text = more} {ns = ms} s h) b rest e is =
     let same : more ≡ rest = ap (drop 1) e in
@@ -59,21 +59,21 @@ after_space text ns (space {text = more} {ns = ms} s h) b rest e is =
 after_space text ns (number [] after n cut w ends h) b rest e is = absurd (omega (arith, has_bytes [] n w))
 after_space text ns (number (c ∷ cs) after n cut w ends h) b rest e is =
     let first : b ≡ c = ap (λ t. slice_index t 0) (sym e ∙ cut) in
-    absurd (no_space_first c cs (ap is_space (sym first) ∙ is) (is_plain (c ∷ cs) n w))
+    absurd (no_space_first c cs (ap is_white_space (sym first) ∙ is) (is_plain (c ∷ cs) n w))
 
 -- Holds if the bytes before the first white space spell a number, and the rest is a list of numbers.
 pub record Begins (text : List ℕ) : Type 0 where
   pub n : ℤ
-  pub word : SpellsNumber (take (position_or_len is_space text) text) n
-  pub rest : IsListOfNumbers (drop (position_or_len is_space text) text)
+  pub word : SpellsNumber (take (position_or_len is_white_space text) text) n
+  pub rest : IsListOfNumbers (drop (position_or_len is_white_space text) text)
 
-pub first_word : (text : List ℕ) (ns : List ℤ) → SpellsNumbers text ns → 0 < length text → is_space (slice_index text 0) ≡ false → Begins text
+pub first_word : (text : List ℕ) (ns : List ℤ) → SpellsNumbers text ns → 0 < length text → is_white_space (slice_index text 0) ≡ false → Begins text
 first_word text ns nothing some apart = absurd (omega (arith, some))
 first_word text ns (space s h) some apart = absurd (cc)
 first_word text ns (number {ns = ms} word after n cut w ends h) some apart =
-    let k : position_or_len is_space text ≡ length word = ap (position_or_len is_space) cut ∙ first_is word after (is_plain word n w) ends in
-    let front : take (position_or_len is_space text) text ≡ word = ap (λ i. take i text) k ∙ ap (take (length word)) cut ∙ take-append_seam word after in
-    let left : drop (position_or_len is_space text) text ≡ after = ap (λ i. drop i text) k ∙ ap (drop (length word)) cut ∙ drop-append_seam word after in
+    let k : position_or_len is_white_space text ≡ length word = ap (position_or_len is_white_space) cut ∙ first_is word after (is_plain word n w) ends in
+    let front : take (position_or_len is_white_space text) text ≡ word = ap (λ i. take i text) k ∙ ap (take (length word)) cut ∙ take-append_seam word after in
+    let left : drop (position_or_len is_white_space text) text ≡ after = ap (λ i. drop i text) k ∙ ap (drop (length word)) cut ∙ drop-append_seam word after in
     record {
       n = n;
       word = subst (λ t. SpellsNumber t n) (sym front) w;

@@ -3,7 +3,7 @@
 -- Rule: docs/PROTOCOL.md, The program 1 to 8.
 use Rattle.std.specs.Prelude.{◌≡◌, ◌⊎◌, ℕ, List, [], Option, None, Bool, true, suc}
 use Rattle.ob0_text.specs.declared.position_types.Position.{Position}
-use Rattle.ob0_analysis.specs.Diagnosed.{IsWellTypedModule, Reports}
+use Rattle.ob0_analysis.specs.Diagnosed.{IsWellTypedModule, ReportsErrorsOf}
 use Rattle.ob0_cli.specs.declared.line.CommandLine.{CommandLine}
 use Rattle.ob0_cli.specs.declared.line.CommandLine.TheVariants.{Serve, Check, Run, Rename}
 use Rattle.ob0_commands.specs.Endings.{EndsByFault, EndsWithoutFault}
@@ -26,7 +26,7 @@ abbrev pub ChecksFile : {O : Type 0}
     → ℕ
     → Type 0
 ChecksFile contents is_flushed has_failed before after IsPrintedOnStderr file status =
-    EndsWithoutFault (Reports file [] × (after ≡ before))
+    EndsWithoutFault (ReportsErrorsOf file [] × (after ≡ before))
     (PrintsDiagnostics file (contents before) (contents after) × (is_flushed after ≡ true))
     (¬ IsShortNonUtf8File file × (has_failed after ≡ has_failed before) × IsPrintedOnStderr None)
     status

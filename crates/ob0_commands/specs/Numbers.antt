@@ -3,7 +3,7 @@
 use Rattle.std.specs.Prelude.{◌≡◌, ◌≢◌, ◌≤◌, ◌⊎◌, ℕ, ℤ, List, [], ◌∷◌, ◌++◌, Bool, true, Option, IfSome, IsTrue, ⊤, length, slice_index}
 use Rattle.std.specs.Str.Parse.{IsNumeral, signed_digits_value, without_leading_sign}
 use Rattle.ob0_run_machine.specs.Evaluation.{fits_in_32_bits}
-use Rattle.ob0_scan.specs.Classes.{is_space}
+use Rattle.ob0_scan.specs.Classes.{is_white_space}
 
 -- States that the word spells this 32-bit number: one or more decimal digits, optionally after a
 -- `-`.
@@ -16,14 +16,14 @@ pub record SpellsNumber (word : List ℕ) (n : ℤ) : Type 0 where
 -- States that a word may end right before this text: the text is empty or begins with white space.
 abbrev pub WordMayEndBefore : List ℕ → Type 0
 WordMayEndBefore [] = ⊤
-WordMayEndBefore (b ∷ bs) = IsTrue (is_space b)
+WordMayEndBefore (b ∷ bs) = IsTrue (is_white_space b)
 
 -- States that the text spells these numbers. Each word is a number, and words are separated by
 -- white space: space, tab, CR or LF.
 pub data SpellsNumbers : List ℕ → List ℤ → Type 0 where
   nothing : SpellsNumbers [] []
   space : {b : ℕ} {text : List ℕ} {ns : List ℤ}
-      → IsTrue (is_space b)
+      → IsTrue (is_white_space b)
       → SpellsNumbers text ns
       → SpellsNumbers (b ∷ text) ns
   number : {text : List ℕ} {ns : List ℤ} (word after : List ℕ) (n : ℤ)

@@ -12,7 +12,7 @@ ghost use Rattle.ob0_commands.specs.StderrLines.{PrintsLine};
 ghost use Rattle.ob0_commands.specs.Statuses.{IsMemoryFaultOnlyForShortFile, IsShortNonUtf8File, OutputFailureMatchesFault, PrintsNothingUnlessWriteFault, IsWriteOrMemory, MayStopCommandOnFile};
 ghost use Rattle.ob0_commands.specs.declared.faults.FileFault.TheVariants as faults;
 ghost use Rattle.ob0_scan.specs.TextWithTokens.{max_text_length};
-ghost use Rattle.ob0_analysis.specs.Diagnosed.{Reports, reported_diagnosis_of};
+ghost use Rattle.ob0_analysis.specs.Diagnosed.{ReportsErrorsOf, reported_diagnosis_of};
 
 use crate::faults::{FileFault, print_fault};
 use crate::reading::MAX_FILE_BYTES_READ;
@@ -49,7 +49,7 @@ pub fn valid_text_or_print_diagnoses<'f, O: Output>(
 ) -> Result<Option<&'f str>, FileFault>
     ensures found { IfOk result (λ found. MatchOption found
         (PrintsDiagnostics file.entry.now (O.contents out.old) (O.contents out.new))
-        (λ text. (text.now ≡ file.entry.now) × Reports file.entry.now [] × (out.new ≡ out.old))) }
+        (λ text. (text.now ≡ file.entry.now) × ReportsErrorsOf file.entry.now [] × (out.new ≡ out.old))) }
     ensures flushed { IfOk result (λ found. IfNone found (O.is_flushed out.new ≡ true)) }
     ensures readable { OnOk result (¬ IsShortNonUtf8File file.entry.now) }
     ensures unfailed { OnOk result (O.has_failed out.new ≡ O.has_failed out.old) }
@@ -72,7 +72,7 @@ pub fn valid_text_or_print_diagnoses<'f, O: Output>(
 
 /// Analyses a text and returns its diagnostics.
 fn diagnose(alloc: Global, text: &str) -> Result<Vec<Diagnosis>, AllocError>
-    ensures { IfOk result (λ list. Reports text.now (map reported_diagnosis_of list.items)) }
+    ensures { IfOk result (λ list. ReportsErrorsOf text.now (map reported_diagnosis_of list.items)) }
 {
     let analysis = analyse_without_drop(alloc, text)?;
     analysis.diagnoses(alloc)

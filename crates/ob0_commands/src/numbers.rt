@@ -11,7 +11,7 @@
 
 ghost use Rattle.std.specs.Prelude.{◌≡◌, ◌≤◌, ℤ, IfOk, OnOk, IfErr, IfSome, MatchOption, length, suc};
 ghost use Rattle.std.specs.List.{position_or_len};
-ghost use Rattle.ob0_scan.specs.Classes.{is_space};
+ghost use Rattle.ob0_scan.specs.Classes.{is_white_space};
 ghost use Rattle.ob0_commands.specs.Inputs.{ConsumesAtMost};
 ghost use Rattle.ob0_commands.specs.Numbers.{IsUnusableInput, IsValidInputOf, IsListOfNumbers, SpellsNumber, SpellsNumbers, max_input_length};
 ghost use Rattle.ob0_commands.specs.Statuses.{IsGivenFaultOrMemory};
@@ -19,7 +19,7 @@ ghost use Rattle.ob0_commands.specs.declared.faults.FileFault.TheVariants as fau
 
 use crate::faults::FileFault;
 use crate::reading::{Input, read_input};
-use ob0_scan::is_space;
+use ob0_scan::is_white_space;
 use std::alloc::{AllocError, Global};
 
 /// Reads the numbers of the input. The input consists of words, separated by white space. Each word
@@ -49,7 +49,7 @@ fn parse_numbers(alloc: Global, text: &[u8]) -> Result<Option<Vec<i32>>, AllocEr
     let mut numbers = Vec::new(alloc);
     let mut at = 0;
     while at < text.len() {
-        if is_space(text[at]) {
+        if is_white_space(text[at]) {
             at += 1;
         } else {
             let end = at + word_len(&text[at..]);
@@ -66,10 +66,13 @@ fn parse_numbers(alloc: Global, text: &[u8]) -> Result<Option<Vec<i32>>, AllocEr
 /// Returns the length in bytes of the word with which `bytes` begins: the number of bytes before
 /// the first white space, or of all bytes if there is no white space.
 fn word_len(bytes: &[u8]) -> usize
-    ensures is { result ≡ position_or_len is_space bytes.now }
+    ensures is { result ≡ position_or_len is_white_space bytes.now }
     ensures inside { result ≤ length bytes.now }
 {
-    bytes.iter().take_while(|byte| !is_space(**byte)).count()
+    bytes
+        .iter()
+        .take_while(|byte| !is_white_space(**byte))
+        .count()
 }
 
 /// Returns the 32-bit number that a word spells: decimal digits, optionally after a `-`. Returns

@@ -3,18 +3,20 @@ use Rattle.std.proofs.Common.{◌≡◌, ◌≤◌, ◌<◌, ◌⊎◌, ◌∙�
 use Rattle.std.specs.Str.{chars, IsUtf8}
 use Rattle.std.proofs.lemmas.Str.{encodes-chars}
 use Rattle.ob0_scan.specs.Lexed.{Lexeme, LexesInto}
-use Rattle.ob0_scan.specs.TextWithTokens.{TextWithTokens, IsScan, max_text_length, tokens_from, comments_from}
+use Rattle.ob0_scan.specs.TextWithTokens.{TextWithTokens, IsScan, max_text_length, tokens_of_lexemes_from, comments_of_lexemes_from}
 use Rattle.ob0_scope_table.specs.Resolution.{Resolution}
 use Rattle.ob0_text.specs.Patches.{patched_text}
 use Rattle.ob0_text.specs.Units.{width_of}
 use Rattle.ob0_text.specs.declared.edits.Edit.{Edit}
 use Rattle.ob0_text.specs.declared.edits.Indent.{Indent}
 use Rattle.ob0_text.specs.declared.position_types.Unit.{Unit}
-use Rattle.ob0_tree.specs.Module.{ModuleOf}
+use Rattle.ob0_tree.specs.Module.{IsModuleWithTree}
 use Rattle.ob0_tree.specs.ParsedModule.{ParsedModule, named_tree_of}
 use Rattle.ob0_tree.specs.Tree.{Tree, module_text}
+use Rattle.ob0_edits_tokens.specs.ByteCuts.{edit_at_cut}
+use Rattle.ob0_edits_tokens.specs.Replaced.{range_and_text}
 use Rattle.ob0_layout.specs.Layout.{formatted_lexemes, formatted_text}
-use Rattle.ob0_layout.specs.Gaps.{edit_content, edit_of_cut, changed_gaps, all_gaps}
+use Rattle.ob0_layout.specs.Gaps.{changed_gaps, all_gaps}
 use Rattle.ob0_layout.specs.LineRoles.{line_roles}
 use Rattle.ob0_text.specs.declared.refusals.EditRefusal.{EditRefusal}
 use Rattle.ob0_text.specs.declared.refusals.EditRefusal.TheVariants.{TooLong, Memory}
@@ -26,8 +28,8 @@ use Rattle.ob0_analysis.proofs.Scanning.{is_module, utf8_of}
 
 abbrev pub ModuleStays : Type 0
 ModuleStays =
-    (indent : Indent) (s : TextWithTokens) (scan : IsScan s) (tree : Tree (List ℕ) module_text) → ModuleOf s tree
-    → (t : TextWithTokens) → IsScan t → t.text ≡ formatted_text indent tree scan.lexemes → ModuleOf t tree
+    (indent : Indent) (s : TextWithTokens) (scan : IsScan s) (tree : Tree (List ℕ) module_text) → IsModuleWithTree s tree
+    → (t : TextWithTokens) → IsScan t → t.text ≡ formatted_text indent tree scan.lexemes → IsModuleWithTree t tree
 
 -- If the formatted text isn't too long, it is a text of the same module.
 stays_module : (indent : Indent) (text : List ℕ) (m : IsWellTypedModule text) → IsUtf8 (formatted_text_of indent m) → LexesInto (formatted_text_of indent m) (formatted_lexemes indent m.tree m.text_of.scan.scan.lexemes)
@@ -35,11 +37,11 @@ stays_module : (indent : Indent) (text : List ℕ) (m : IsWellTypedModule text) 
 stays_module indent text m u lexed short law =
     let laid : List ℕ = formatted_text_of indent m in
     let lexemes : List Lexeme = formatted_lexemes indent m.tree m.text_of.scan.scan.lexemes in
-    let t : TextWithTokens = record { text = laid; tokens = tokens_from 0 lexemes; comments = comments_from 0 lexemes } in
+    let t : TextWithTokens = record { text = laid; tokens = tokens_of_lexemes_from 0 lexemes; comments = comments_of_lexemes_from 0 lexemes } in
     let scan : IsScan t = record { utf8 = u; short = short; lexemes = lexemes; lexed = lexed; tokens = refl; comments = refl } in
     record { scanned = t; scan = record { of = sym (encodes-chars laid u); scan = scan }; module_of = law indent m.text_of.scanned m.text_of.scan.scan m.tree m.text_of.module_of t scan refl }
 
-pub lays_out : (unit : Unit) (indent : Indent) (text : List ℕ) (edits : List Edit) (m : IsWellTypedModule (utf8 text)) → map edit_content edits ≡ edits_of_changed_gaps unit indent text m
+pub lays_out : (unit : Unit) (indent : Indent) (text : List ℕ) (edits : List Edit) (m : IsWellTypedModule (utf8 text)) → map range_and_text edits ≡ edits_of_changed_gaps unit indent text m
     → patched_text (width_of unit) text edits ≡ Some (chars (formatted_text_of indent m)) → length (formatted_text_of indent m) ≤ max_text_length
     → IsUtf8 (formatted_text_of indent m) → LexesInto (formatted_text_of indent m) (formatted_lexemes indent m.tree m.text_of.scan.scan.lexemes) → ModuleStays
     → FormatsText unit indent text edits
@@ -58,14 +60,14 @@ lays_out unit indent text edits m changes made short u lexed law =
 -- holds if the contract of `format` holds of these edits, for a module that was read
 abbrev pub Made : Unit → Indent → List ℕ → List Edit → ParsedModule → Type 0
 Made unit indent text edits m =
-    ((scan : IsScan m.source) → map edit_content edits ≡ map (edit_of_cut (width_of unit) text) (changed_gaps m.source.text (all_gaps indent m.source.text (line_roles 0 (named_tree_of m)) scan.lexemes)))
+    ((scan : IsScan m.source) → map range_and_text edits ≡ map (edit_at_cut unit text) (changed_gaps m.source.text (all_gaps indent m.source.text (line_roles 0 (named_tree_of m)) scan.lexemes)))
     × ((scan : IsScan m.source) → length (formatted_text indent (named_tree_of m) scan.lexemes) ≤ max_text_length)
     × ((scan : IsScan m.source) → text ≡ chars m.source.text → patched_text (width_of unit) text edits ≡ Some (chars (formatted_text indent (named_tree_of m) scan.lexemes)))
 
 pub formats : (unit : Unit) (indent : Indent) (text : List ℕ) (edits : List Edit) (names : Resolution) (m : ParsedModule) → m ≡ names.module_read
     → IsResolvedWellTypedModule (utf8 text) names → text ≡ chars names.module_read.source.text → Made unit indent text edits m
     → ((indent : Indent) (s : TextWithTokens) (scan : IsScan s) (tree : Tree (List ℕ) module_text) → IsUtf8 (formatted_text indent tree scan.lexemes))
-    → ((indent : Indent) (s : TextWithTokens) (scan : IsScan s) (tree : Tree (List ℕ) module_text) → ModuleOf s tree → LexesInto (formatted_text indent tree scan.lexemes) (formatted_lexemes indent tree scan.lexemes))
+    → ((indent : Indent) (s : TextWithTokens) (scan : IsScan s) (tree : Tree (List ℕ) module_text) → IsModuleWithTree s tree → LexesInto (formatted_text indent tree scan.lexemes) (formatted_lexemes indent tree scan.lexemes))
     → ModuleStays → FormatsText unit indent text edits
 formats unit indent text edits names m is h same made u lexed law =
     let w = is_module (utf8 text) names h in
@@ -86,13 +88,13 @@ too_long indent text names m refusal is h long (inl longer) other =
 -- If no allocation failed, the result is edits or the refusal, by the contract of `format`.
 pub formats_or_not : (unit : Unit) (indent : Indent) (text : List ℕ) (names : Resolution) (m : ParsedModule) (r : Result (Vec Edit Global) EditRefusal) → m ≡ names.module_read
     → IsResolvedWellTypedModule (utf8 text) names → text ≡ chars names.module_read.source.text
-    → ((scan : IsScan m.source) → IfOk r (λ edits. map edit_content edits.items ≡ map (edit_of_cut (width_of unit) text) (changed_gaps m.source.text (all_gaps indent m.source.text (line_roles 0 (named_tree_of m)) scan.lexemes))))
+    → ((scan : IsScan m.source) → IfOk r (λ edits. map range_and_text edits.items ≡ map (edit_at_cut unit text) (changed_gaps m.source.text (all_gaps indent m.source.text (line_roles 0 (named_tree_of m)) scan.lexemes))))
     → ((scan : IsScan m.source) → IfOk r (λ edits. length (formatted_text indent (named_tree_of m) scan.lexemes) ≤ max_text_length))
     → ((scan : IsScan m.source) → text ≡ chars m.source.text → IfOk r (λ edits. patched_text (width_of unit) text edits.items ≡ Some (chars (formatted_text indent (named_tree_of m) scan.lexemes))))
     → ((scan : IsScan m.source) → IsErrOf r TooLong → max_text_length < length (formatted_text indent (named_tree_of m) scan.lexemes))
     → IfErr r (λ refusal. (refusal ≡ TooLong) ⊎ (refusal ≡ Memory)) → IfErr r (λ refusal. refusal ≡ Memory → ⊥)
     → ((indent : Indent) (s : TextWithTokens) (scan : IsScan s) (tree : Tree (List ℕ) module_text) → IsUtf8 (formatted_text indent tree scan.lexemes))
-    → ((indent : Indent) (s : TextWithTokens) (scan : IsScan s) (tree : Tree (List ℕ) module_text) → ModuleOf s tree → LexesInto (formatted_text indent tree scan.lexemes) (formatted_lexemes indent tree scan.lexemes))
+    → ((indent : Indent) (s : TextWithTokens) (scan : IsScan s) (tree : Tree (List ℕ) module_text) → IsModuleWithTree s tree → LexesInto (formatted_text indent tree scan.lexemes) (formatted_lexemes indent tree scan.lexemes))
     → ModuleStays → IsFormatResult unit indent text r
 formats_or_not unit indent text names m (Ok edits) is h same changes short made long refusals other u lexed law =
     formats unit indent text edits.items names m is h same (changes, short, made) u lexed law

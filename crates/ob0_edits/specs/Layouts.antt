@@ -7,11 +7,14 @@ use Rattle.ob0_text.specs.Patches.{patched_text}
 use Rattle.ob0_text.specs.Units.{width_of}
 use Rattle.ob0_text.specs.declared.edits.Edit.{Edit}
 use Rattle.ob0_text.specs.declared.edits.Indent.{Indent}
+use Rattle.ob0_text.specs.declared.position_types.Range.{Range}
 use Rattle.ob0_text.specs.declared.position_types.Unit.{Unit}
 use Rattle.ob0_text.specs.declared.refusals.EditRefusal.{EditRefusal}
 use Rattle.ob0_text.specs.declared.refusals.EditRefusal.TheVariants.{TooLong}
+use Rattle.ob0_edits_tokens.specs.ByteCuts.{edit_at_cut}
+use Rattle.ob0_edits_tokens.specs.Replaced.{range_and_text}
 use Rattle.ob0_layout.specs.Layout.{formatted_text}
-use Rattle.ob0_layout.specs.Gaps.{EditContent, edit_content, edit_of_cut, changed_gaps, all_gaps}
+use Rattle.ob0_layout.specs.Gaps.{changed_gaps, all_gaps}
 use Rattle.ob0_layout.specs.LineRoles.{line_roles}
 use Rattle.ob0_analysis.specs.Diagnosed.{IsTextOfTree, IsWellTypedModule}
 use Rattle.ob0_analysis.specs.Texts.{utf8}
@@ -28,10 +31,10 @@ abbrev pub edits_of_changed_gaps : {text : List ℕ}
     → Indent
     → List ℕ
     → IsWellTypedModule text
-    → List EditContent
+    → List (Range × List ℕ)
 edits_of_changed_gaps unit indent characters m =
     let source = m.text_of.scanned in
-    map (edit_of_cut (width_of unit) characters) (changed_gaps source.text
+    map (edit_at_cut unit characters) (changed_gaps source.text
     (all_gaps indent source.text (line_roles 0 m.tree) m.text_of.scan.scan.lexemes))
 
 -- States that these edits format a text. For each gap (white space between lexemes) that changes,
@@ -40,7 +43,7 @@ edits_of_changed_gaps unit indent characters m =
 pub record FormatsText (unit : Unit) (indent : Indent) (text : List ℕ)
     (edits : List Edit) : Type 0 where
   pub before : IsWellTypedModule (utf8 text)
-  pub changes : map edit_content edits ≡ edits_of_changed_gaps unit indent text before
+  pub changes : map range_and_text edits ≡ edits_of_changed_gaps unit indent text before
   pub after : List ℕ
   pub made : patched_text (width_of unit) text edits ≡ Some after
   pub is_formatted_text : utf8 after ≡ formatted_text_of indent before

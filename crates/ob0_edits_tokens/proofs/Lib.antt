@@ -1,12 +1,11 @@
-pub mod Ends
-pub mod Swaps
+pub mod Borders
 pub mod TextCuts
-pub mod Merges
-pub mod Removals
+pub mod ChangedWords
+mod Joints
+mod TokenPlaces
+mod Splices
 pub mod Names
 pub mod Values
 pub mod OfTrees
 pub mod Made
-pub mod MadeWithout
-pub mod Lengths
 pub mod Ranged

@@ -9,7 +9,7 @@ use Rattle.ob0_scan.specs.declared.lexeme.Symbol.TheVariants as symbol
 use Rattle.ob0_scan.specs.declared.lexeme.TokenKind.TheVariants as token
 use Rattle.ob0_scan.specs.declared.lexeme.LexemeKind.{LexemeKind}
 use Rattle.ob0_scan.specs.declared.lexeme.LexemeKind.TheVariants as lexeme
-use Rattle.ob0_scan.specs.Classes.{IsIdentifier, is_space}
+use Rattle.ob0_scan.specs.Classes.{IsIdentifier, is_white_space}
 use Rattle.ob0_scan.specs.Ends.{continues_symbol, continues_lexeme}
 use Rattle.ob0_scan.proofs.Cuts.{nonempty}
 use Rattle.ob0_edits_tokens.specs.Replaced.{MayReplaceIdentifier}
@@ -26,7 +26,7 @@ not_joined _ b e f = refl
 not_this : (b c : ℕ) → is_ascii_alphanumeric c ≡ false → is_ascii_alphanumeric b ≡ true → (b == c) ≡ false
 not_this b c other h = false_from_ne_true (b == c) (λ e. let clash : true ≡ false = sym h ∙ ap is_ascii_alphanumeric (eqb-true b c e) ∙ other in cc)
 
-not_space : (b : ℕ) → is_ascii_alphanumeric b ≡ true → is_space b ≡ false
+not_space : (b : ℕ) → is_ascii_alphanumeric b ≡ true → is_white_space b ≡ false
 not_space b h = rw (not_this b 32 refl h, not_this b 9 refl h, not_this b 10 refl h, not_this b 13 refl h) refl
 
 letter_goes_on : (b : ℕ) → IsTrue (is_ascii_alphabetic b) → is_ascii_alphanumeric b ≡ true

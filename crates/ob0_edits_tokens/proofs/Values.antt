@@ -11,7 +11,7 @@ use Rattle.ob0_scan.specs.declared.lexeme.ReservedWord.TheVariants as reserved
 use Rattle.ob0_scan.specs.declared.lexeme.Symbol.TheVariants as symbol
 use Rattle.ob0_scan.specs.declared.lexeme.TokenKind.TheVariants as token
 use Rattle.ob0_scan.specs.declared.lexeme.LexemeKind.TheVariants as lexeme
-use Rattle.ob0_scan.specs.Classes.{IsInteger, IsNonEmptySequenceOf, decimal_value, reserved_text, symbol_text, is_space}
+use Rattle.ob0_scan.specs.Classes.{IsInteger, IsNonEmptySequenceOf, decimal_value, reserved_word_text, symbol_text, is_white_space}
 use Rattle.ob0_edits_tokens.specs.Replaced.{MayReplaceIdentifier}
 use Rattle.ob0_edits_tokens.specs.Written.{IsInt32, number_text, number_words, truth_text, truth_words, integer_word, symbol_word}
 use Rattle.ob0_scan.proofs.Runs.{digit_or_letter}
@@ -95,8 +95,8 @@ the_least = record {
   apart = λ byte e. (record { belongs = refl; ends = refl }, (record { belongs = refl; ends = refl }, (record { belongs = most; ends = refl }, (record { belongs = one_space; ends = refl }, (record { belongs = refl; ends = refl }, (record { belongs = one_space; ends = refl }, (record { belongs = unit; ends = refl }, (record { belongs = refl; ends = refl }, tt))))))));
 }
   where
-    one_space : IsNonEmptySequenceOf is_space (32 ∷ [])
-    one_space = record { nonempty = omega arith; all = All-cons (λ b. is_space b ≡ true) 32 [] refl (All-nil (λ b. is_space b ≡ true)) }
+    one_space : IsNonEmptySequenceOf is_white_space (32 ∷ [])
+    one_space = record { nonempty = omega arith; all = All-cons (λ b. is_white_space b ≡ true) 32 [] refl (All-nil (λ b. is_white_space b ≡ true)) }
 
     most : IsInteger 2147483647 (codes "2147483647")
     most = record { digits = record { nonempty = omega arith; all = AllPass-from_list_all is_ascii_digit (codes "2147483647") refl }; value_of_digits = refl; fits = omega arith }
@@ -116,13 +116,13 @@ a_value (negsuc n) h = by_test (nat_lt n 2147483647) refl
     by_test true e = a_negative n (ltb-true n 2147483647 e)
     by_test false e = the_least
 
-true_free : (word : ReservedWord) → codes "TRUE" ≡ reserved_text word → ⊥
+true_free : (word : ReservedWord) → codes "TRUE" ≡ reserved_word_text word → ⊥
 true_free reserved.Type e = omega (arith, ap (λ t. get_or t 1 0) e)
 true_free reserved.Then e = omega (arith, ap (λ t. get_or t 1 0) e)
 true_free reserved.Else e = omega (arith, ap (λ t. get_or t 0 0) e)
 true_free _ e = omega (arith, ap length e)
 
-false_free : (word : ReservedWord) → codes "FALSE" ≡ reserved_text word → ⊥
+false_free : (word : ReservedWord) → codes "FALSE" ≡ reserved_word_text word → ⊥
 false_free reserved.Begin e = omega (arith, ap (λ t. get_or t 0 0) e)
 false_free reserved.Const e = omega (arith, ap (λ t. get_or t 0 0) e)
 false_free reserved.Elsif e = omega (arith, ap (λ t. get_or t 0 0) e)

@@ -1,5 +1,6 @@
 pub mod Changed
 pub mod Ranges
+pub mod ByteCuts
 pub mod Replaced
 pub mod Written
 pub mod OfTrees

@@ -50,13 +50,6 @@ replacement_cut tokens new p =
 abbrev pub text_after_replacement : TextWithTokens → List ℕ → List ℕ → List ℕ
 text_after_replacement s token_indexes new = text_with_cuts s.text 0 (map (replacement_cut s.tokens new) token_indexes)
 
--- States that the cuts are in text order and don't overlap: each begins at or after the end of the
--- previous cut, and removes at least one byte. The first cut begins at or after the byte offset
--- `at`.
-abbrev pub CutsAscend : ℕ → List Cut → Type 0
-CutsAscend at [] = Unit {0}
-CutsAscend at (c ∷ cs) = (at ≤ c.from) × (c.from < c.to) × CutsAscend c.to cs
-
 -- States that the text of each lexeme belongs to the class of the lexeme's kind, and that the byte
 -- after a lexeme never continues the lexeme. `byte` is the byte after the last lexeme.
 abbrev pub LexemesEndBefore : List Lexeme → ℕ → Type 0

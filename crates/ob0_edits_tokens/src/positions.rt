@@ -82,7 +82,7 @@ pub(crate) fn token_spans(
 
 /// Returns the span of the token with the index `token_index`, in bytes. If there is no such token,
 /// returns an empty span at the text's start.
-fn span_at(tokens: &[Token], token_index: usize) -> Span
+pub(crate) fn span_at(tokens: &[Token], token_index: usize) -> Span
     ensures { result ≡ span_at tokens.now token_index }
 {
     match tokens.get(token_index) {

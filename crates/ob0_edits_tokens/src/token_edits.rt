@@ -6,13 +6,13 @@ ghost use Rattle.std.specs.Str.{chars};
 ghost use Rattle.ob0_scan.specs.TextWithTokens.{Word, max_text_length};
 ghost use Rattle.ob0_text.specs.declared.refusals.EditRefusal.TheVariants.{TooLong, Memory};
 ghost use Rattle.ob0_edits_tokens.specs.Changed.{words_of, changed_words, changes_at};
-ghost use Rattle.ob0_edits_tokens.specs.Replaced.{AreIdentifierIndexes, CutsAscend, replacement_cut, text_after_replacement, MayReplaceIdentifier, range_and_text, replacement_at_token, EditsGiveWords};
+ghost use Rattle.ob0_edits_tokens.specs.Replaced.{AreIdentifierIndexes, replacement_cut, text_after_replacement, MayReplaceIdentifier, range_and_text, replacement_at_token, EditsGiveWords};
 ghost use Rattle.ob0_text.specs.Units.{width_of};
 ghost use Rattle.ob0_edits_tokens.specs.Ranges.{range_of};
-ghost use Rattle.ob0_text.specs.Patches.{text_with_cuts};
+ghost use Rattle.ob0_edits_tokens.specs.ByteCuts.{length_with_cuts};
 ghost use Rattle.ob0_edits_tokens.specs.Removed.{changes_with_removal, MayBeConstantDeclaration, span_of_tokens, text_after_removal};
 
-use crate::positions::{ranges, token_spans};
+use crate::positions::{ranges, span_at, token_spans};
 use ob0_scan::{MAX_TEXT_LENGTH, Span, Tokens};
 use ob0_text::{Edit, EditRefusal, Range, TextStore};
 use std::alloc::Global;
@@ -44,7 +44,8 @@ pub fn replacement_edits<T: TextStore>(
 {
     // The proof needs the contract of this call: the tokens are a scan of their text (`IsScan`).
     let _text = tokens.text();
-    if is_edited_text_too_long(tokens, 0, 0, token_indexes, new) {
+    let nothing = Span { start: 0, end: 0 };
+    if is_edited_text_too_long(tokens, nothing, token_indexes, new) {
         return Err(EditRefusal::TooLong);
     }
     let mut edits = Vec::new(alloc);
@@ -89,15 +90,15 @@ pub fn removal_edits<T: TextStore>(
 {
     // The proof needs the contract of this call: the tokens are a scan of their text (`IsScan`).
     let _text = tokens.text();
-    let start = tokens.tokens()[first].span.start;
-    let end = tokens.tokens()[last].span.end;
-    if is_edited_text_too_long(tokens, start as usize, end as usize, token_indexes, new) {
+    let start = span_at(tokens.tokens(), first).start;
+    let end = span_at(tokens.tokens(), last).end;
+    let declaration = Span { start, end };
+    if is_edited_text_too_long(tokens, declaration, token_indexes, new) {
         return Err(EditRefusal::TooLong);
     }
     let mut edits = Vec::new(alloc);
-    let range = range_of(store, Span { start, end });
     edits.push(Edit {
-        range,
+        range: range_of(store, declaration),
         text: String::new(alloc),
     })?;
     add_replacement_edits(alloc, store, tokens, token_indexes, new, &mut edits)?;
@@ -143,34 +144,28 @@ pub fn range_of<T: TextStore>(store: &T, span: Span) -> Range
     }
 }
 
-/// Returns whether an edited text is longer than a text may be. The edited text consists of
-/// `front_len` bytes, followed by the old text starting at the byte offset `end`. In this second
-/// part, `new` replaces each token whose index is in `token_indexes`.
+/// Returns whether an edited text is longer than a text may be. The edited text is the old text
+/// without the bytes of the span `removed`. In the part after them, `new` replaces each token whose
+/// index is in `token_indexes`.
 fn is_edited_text_too_long(
     tokens: &Tokens,
-    front_len: usize,
-    end: usize,
+    removed: Span,
     token_indexes: &[usize],
     new: &str,
 ) -> bool
-    requires names { AreIdentifierIndexes tokens.now.tokens 0 token_indexes.now }
-    requires order { CutsAscend end (map (replacement_cut tokens.now.tokens new.now) token_indexes.now) }
-    requires front { front_len ≤ end }
-    requires inside { end ≤ length tokens.now.text }
     ensures { result
-        ≡ nat_lt max_text_length (front_len
-        + length (text_with_cuts tokens.now.text end (map (replacement_cut tokens.now.tokens new.now) token_indexes.now))) }
+        ≡ nat_lt max_text_length (removed.start + length_with_cuts (length tokens.now.text) removed.end
+        (map (replacement_cut tokens.now.tokens new.now) token_indexes.now)) }
 {
-    let text = tokens.text();
-    let mut length = front_len;
-    let mut end = end;
+    let mut length = removed.start as usize;
+    let mut end = removed.end as usize;
     for token_index in token_indexes {
-        let span = tokens.tokens()[*token_index].span;
-        length += span.start as usize - end + new.len();
+        let span = span_at(tokens.tokens(), *token_index);
+        length += (span.start as usize).saturating_sub(end) + new.len();
         end = span.end as usize;
         if length > MAX_TEXT_LENGTH {
             return true;
         }
     }
-    length + (text.len() - end) > MAX_TEXT_LENGTH
+    length + tokens.text().len().saturating_sub(end) > MAX_TEXT_LENGTH
 }

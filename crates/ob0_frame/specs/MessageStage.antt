@@ -3,7 +3,7 @@
 use Rattle.std.specs.Prelude.{ℕ, ◌-◌, ◌<◌, ◌≤◌, List, ◌++◌, length, take, drop}
 use Rattle.ob0_frame.specs.declared.head.MessageStage.{MessageStage}
 use Rattle.ob0_frame.specs.declared.head.MessageStage.TheVariants.{Head, Content, Bad}
-use Rattle.ob0_frame.specs.Head.{Announces, HasNoEmptyLine, max_head_length}
+use Rattle.ob0_frame.specs.Head.{AnnouncesContentSize, HasNoEmptyLine, max_head_length}
 use Rattle.ob0_frame.specs.Frames.{Frames, CannotBeginMessage}
 
 -- States that the bytes begin with an accepted head that ends at the byte offset `start`, and that
@@ -13,7 +13,7 @@ pub record IsContentAt (bytes : List ℕ) (start end : ℕ) : Type 0 where
   pub within : start ≤ length bytes
   pub ordered : start ≤ end
   pub head_is_nonempty : 0 < start
-  pub announces : Announces (take start bytes) (end - start)
+  pub announces : AnnouncesContentSize (take start bytes) (end - start)
 
 -- States that the message at the beginning of the bytes is at this stage.
 abbrev pub IsMessageStage : List ℕ → MessageStage → Type 0
@@ -30,7 +30,7 @@ IsMessageUnfinished bytes Bad = Unit {0}
 
 -- States that the first `taken` bytes are complete messages with these contents, and that the
 -- message that begins after these bytes is at this stage.
-pub record CutsMessages (bytes : List ℕ) (contents : List (List ℕ)) (taken : ℕ)
+pub record SplitsMessages (bytes : List ℕ) (contents : List (List ℕ)) (taken : ℕ)
     (stage : MessageStage) : Type 0 where
   pub within : taken ≤ length bytes
   pub messages : (more : List (List ℕ)) (rest : List ℕ)

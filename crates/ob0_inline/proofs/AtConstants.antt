@@ -20,7 +20,7 @@ use Rattle.ob0_language_names.specs.Scopes.{same_ordinal}
 use Rattle.ob0_scope.specs.declared.naming.BoundName as named
 use Rattle.ob0_scope.specs.NamesAtPlaces.{name_at_offset}
 use Rattle.ob0_types.specs.CheckedModules.{IsWellTyped}
-use Rattle.ob0_language_types.specs.EditLaws.{ConstantUsesAreFactors, IsConstantWithLiteral, IsScalar, MeansPredeclaredTruth}
+use Rattle.ob0_language_types.specs.EditLaws.{ConstantUsesAreFactors, IsConstantWithLiteral, Is32BitScalar, MeansPredeclaredTruth}
 use Rattle.ob0_language_runs.specs.EditLaws.{InliningEverywhereKeepsTypingAndRuns}
 use Rattle.ob0_language_values.specs.declared.scalar.Scalar.TheVariants as scalar
 use Rattle.ob0_language_values.specs.Scalars.{scalar_value}
@@ -100,7 +100,7 @@ IsRefused r c refusal = Refused (UsesAreFactors r.module_read c.ordinal) (text_i
 abbrev others : Bool → Bool → Option EditRefusal
 others hidden comment = if hidden then Some Shadowed else if comment then Some CommentInside else None
 
-module _ (r : Resolution) (well : IsWellTyped r) (c : DeclaredConstant) (constant : IsConstant r.module_read c) (law : ConstantUsesAreFactors) (scalar_so : IsScalar (scalar_value c.value)) where
+module _ (r : Resolution) (well : IsWellTyped r) (c : DeclaredConstant) (constant : IsConstant r.module_read c) (law : ConstantUsesAreFactors) (scalar_so : Is32BitScalar (scalar_value c.value)) where
   written_there : IsConstantWithLiteral (named_tree_of r.module_read) c.ordinal (scalar_value c.value) (value_factor c.value)
   written_there = record { value = constant.has_value; scalar = scalar_so; literal = literal_of c.value }
 

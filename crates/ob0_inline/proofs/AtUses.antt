@@ -27,7 +27,7 @@ use Rattle.ob0_scope.specs.NamesAtPlaces.{name_at_offset}
 use Rattle.ob0_scope.proofs.Placed.{name_found, named_so}
 use Rattle.ob0_language_types.specs.ConstantValues.{value_of_constant}
 use Rattle.ob0_types.specs.CheckedModules.{IsWellTyped}
-use Rattle.ob0_language_types.specs.EditLaws.{AreInlinableUses, ConstantUsesAreFactors, IsConstantWithLiteral, IsScalar, MeansPredeclaredTruth}
+use Rattle.ob0_language_types.specs.EditLaws.{AreInlinableUses, ConstantUsesAreFactors, IsConstantWithLiteral, Is32BitScalar, MeansPredeclaredTruth}
 use Rattle.ob0_language_types.specs.Written.{value_literal}
 use Rattle.ob0_language_runs.specs.EditLaws.{InliningKeepsTypingAndRuns}
 use Rattle.ob0_language_values.specs.declared.scalar.Scalar.{Scalar}
@@ -104,10 +104,10 @@ module _ (r : Resolution) (is : IsResolution r) (u : ConstantUse) (use_so : IsUs
       (λ j i e. or-false (i == u.token) ∙ one_place 0 (length s.tokens) r.uses j u.occurrence i u.token (uses_ascend r is) e there) alone vs (value_spelled u.value)
 
 module _ (r : Resolution) (well : IsWellTyped r) (u : ConstantUse) (use_so : IsUse r.module_read u) where
-  written : IsScalar (scalar_value u.value) → IsConstantWithLiteral (named_tree_of r.module_read) u.constant (scalar_value u.value) (value_factor u.value)
+  written : Is32BitScalar (scalar_value u.value) → IsConstantWithLiteral (named_tree_of r.module_read) u.constant (scalar_value u.value) (value_factor u.value)
   written fits_so = record { value = use_so.has_value; scalar = fits_so; literal = literal_of u.value }
 
-  pub is_alone : ConstantUsesAreFactors → IsScalar (scalar_value u.value) → UsesAreFactors r.module_read u.constant
+  pub is_alone : ConstantUsesAreFactors → Is32BitScalar (scalar_value u.value) → UsesAreFactors r.module_read u.constant
   is_alone law fits_so = law (named_tree_of r.module_read) u.constant (scalar_value u.value) (value_factor u.value) (written fits_so) well.well_typed
 
   shown_so : value_text_keeps_meaning (named_tree_of r.module_read) u.occurrence u.value ≡ true → MeansPredeclaredTruth (named_tree_of r.module_read) u.occurrence (scalar_value u.value)
@@ -122,7 +122,7 @@ module _ (r : Resolution) (well : IsWellTyped r) (u : ConstantUse) (use_so : IsU
       }
 
   -- The edits leave the inlined module.
-  pub inlines : InliningKeepsTypingAndRuns → IsScalar (scalar_value u.value) → (unit : counting.Unit) (text : List ℕ) (edits : List Edit)
+  pub inlines : InliningKeepsTypingAndRuns → Is32BitScalar (scalar_value u.value) → (unit : counting.Unit) (text : List ℕ) (edits : List Edit)
       → map range_and_text edits ≡ replacement_at_token unit text r.module_read.source.tokens (value_text u.value) u.token ∷ []
       → EditsGiveModule unit text edits (tree_inlined_here r.module_read u)
       → value_text_keeps_meaning (named_tree_of r.module_read) u.occurrence u.value ≡ true → InlinesHere unit text r.module_read u edits
@@ -142,7 +142,7 @@ pub record Made (r : Resolution) (u : ConstantUse) (unit : counting.Unit) (text 
 abbrev pub IsRefused : Resolution → ConstantUse → EditRefusal → Type 0
 IsRefused r u refusal = Refused (UsesAreFactors r.module_read u.constant) (new_text r u) (tree_inlined_here r.module_read u) refusal
 
-module _ (r : Resolution) (well : IsWellTyped r) (u : ConstantUse) (use_so : IsUse r.module_read u) (law : ConstantUsesAreFactors) (scalar_so : IsScalar (scalar_value u.value)) where
+module _ (r : Resolution) (well : IsWellTyped r) (u : ConstantUse) (use_so : IsUse r.module_read u) (law : ConstantUsesAreFactors) (scalar_so : Is32BitScalar (scalar_value u.value)) where
   abbrev hidden : Bool → Option EditRefusal
   hidden shown = if shown then None else Some Shadowed
 

@@ -4,8 +4,8 @@ use Rattle.std.proofs.Common.{ℕ, suc, ◌<◌, ◌≤◌, true, false, Option,
 use Rattle.ob0_tree.specs.Tree.{Sort, Tree, block, constant, constants, declares, declares_constant, declares_constants, declares_procedure, declares_type, declares_types, declares_variable, declares_variables, end, formals, further_section, forms_block, item, items, maybe, more, none, occurrences, one, procedure, section, some_formals, then_section, type_definition, type_definitions, value_section, variable, variable_section, variables}
 use Rattle.ob0_language_names.specs.Names.{Name, naming_by_spelling, same_name}
 use Rattle.ob0_language_names.specs.Parts.{constant_names, formal_names, formal_sections, declared_type_names, names_in_list, procedure_name, section_constants, parameter_section_names, section_types, section_variables, variable_names}
-use Rattle.ob0_language_names.specs.Scopes.{Labelling, Scope, ordinal_after_block, ordinal_after_names, ordinal_after_procedure, ordinal_after_procedures, body_scope, declare_names, declare_procedure_names, first_procedure_ordinal, first_type_ordinal, first_variable_ordinal, label_of, ordinal_of, scope_before_procedures, relabel_block, relabel_constant_section, relabel_constants, relabel_formals, relabel_procedure, relabel_procedures, relabel_section, relabel_sections, relabel_type_section, relabel_types, relabel_uses, relabel_variable_section, relabel_variables, scope_before_types, scope_before_variables}
-use Rattle.ob0_language_names.proofs.OccurrenceNames.{occurrences-map_names}
+use Rattle.ob0_language_names.specs.Scopes.{Labelling, Scope, ordinal_after_block, ordinal_after_names, ordinal_after_procedure, ordinal_after_procedures, body_scope, declare_names, declare_procedure_names, first_procedure_ordinal, first_type_ordinal, first_variable_ordinal, label_of, ordinal_in_scope, scope_before_procedures, relabel_block, relabel_constant_section, relabel_constants, relabel_formals, relabel_procedure, relabel_procedures, relabel_parameter_section, relabel_parameter_sections, relabel_type_section, relabel_types, relabel_uses, relabel_variable_section, relabel_variables, scope_before_types, scope_before_variables}
+use Rattle.ob0_language_names.proofs.OccurrencesMapped.{occurrences-mapped}
 use Rattle.ob0_language_names.proofs.Ordinals.{ordinal_after_names-append, le-ordinal_after_block, le-ordinal_after_names, le-ordinal_after_procedure, le-ordinal_after_procedures}
 
 -- labels that have only ordinals, and no names
@@ -40,17 +40,17 @@ pub low_append : (n : ℕ) (xs ys : List (Option ℕ)) → AllLow n xs → AllLo
 low_append n [] ys h g = g
 low_append n (x ∷ xs) ys h g = (h.0, low_append n xs ys h.1 g)
 
-ordinal_low : (n : ℕ) (scope : Scope Name) (x : Name) → ScopeLow n scope → IsLow n (ordinal_of naming_by_spelling scope x)
+ordinal_low : (n : ℕ) (scope : Scope Name) (x : Name) → ScopeLow n scope → IsLow n (ordinal_in_scope naming_by_spelling scope x)
 ordinal_low n [] x h = tt
 ordinal_low n (b ∷ scope) x h =
-    elim (same_name x b.0) as (λ v. IsLow n (elim v [ true ↦ Some b.1 | false ↦ ordinal_of naming_by_spelling scope x ])) [ true ↦ h.0 | false ↦ ordinal_low n scope x h.1 ]
+    elim (same_name x b.0) as (λ v. IsLow n (elim v [ true ↦ Some b.1 | false ↦ ordinal_in_scope naming_by_spelling scope x ])) [ true ↦ h.0 | false ↦ ordinal_low n scope x h.1 ]
 
 names_low : (n : ℕ) (scope : Scope Name) (xs : List Name) → ScopeLow n scope → AllLow n (map (label_of naming_by_spelling forget scope) xs)
 names_low n scope [] h = tt
 names_low n scope (x ∷ xs) h = (ordinal_low n scope x h, names_low n scope xs h)
 
 pub uses_low : {s : Sort} (n : ℕ) (scope : Scope Name) (t : Tree Name s) → ScopeLow n scope → AllLow n (occurrences (relabel_uses naming_by_spelling forget scope t))
-uses_low n scope t h = subst (AllLow n) (sym (occurrences-map_names (label_of naming_by_spelling forget scope) (forget None) t)) (names_low n scope (occurrences t) h)
+uses_low n scope t h = subst (AllLow n) (sym (occurrences-mapped (label_of naming_by_spelling forget scope) (forget None) (λ n. n) t)) (names_low n scope (occurrences t) h)
 
 pub declared_low : (k : ℕ) (xs : List Name) (scope : Scope Name) → ScopeLow k scope → ScopeLow (ordinal_after_names k xs) (declare_names k xs scope)
 declared_low k [] scope h = h
@@ -85,11 +85,11 @@ variables_low scope k (more (declares_variable ns t) gs) h =
     (raised k last (occurrences (relabel_uses naming_by_spelling forget scope t)) (omega (arith, up1, up2)) (uses_low k scope t h))
     (variables_low (declare_names k xs scope) n gs (declared_low k xs scope h)))
 
-section_low : (scope : Scope Name) (k j : ℕ) (s : Tree Name section) → ScopeLow k scope → AllLow k (occurrences (relabel_section naming_by_spelling forget scope j s))
+section_low : (scope : Scope Name) (k j : ℕ) (s : Tree Name section) → ScopeLow k scope → AllLow k (occurrences (relabel_parameter_section naming_by_spelling forget scope j s))
 section_low scope k j (value_section ns t) h = uses_low k scope t h
 section_low scope k j (variable_section ns t) h = uses_low k scope t h
 
-pub sections_low : (scope : Scope Name) (k : ℕ) (fs : Tree Name (items further_section)) → ScopeLow k scope → AllLow (ordinal_after_names k (formal_names fs)) (occurrences (relabel_sections naming_by_spelling forget scope k fs))
+pub sections_low : (scope : Scope Name) (k : ℕ) (fs : Tree Name (items further_section)) → ScopeLow k scope → AllLow (ordinal_after_names k (formal_names fs)) (occurrences (relabel_parameter_sections naming_by_spelling forget scope k fs))
 sections_low scope k end h = tt
 sections_low scope k (more (then_section s) fs) h =
     let xs = parameter_section_names s in
@@ -97,9 +97,9 @@ sections_low scope k (more (then_section s) fs) h =
     let last = ordinal_after_names n (formal_names fs) in
     let up1 = le-ordinal_after_names k xs in
     let up2 = le-ordinal_after_names n (formal_names fs) in
-    subst (λ m. AllLow m (occurrences (relabel_sections naming_by_spelling forget scope k (more (then_section s) fs)))) (sym (ordinal_after_names-append k xs (formal_names fs)))
-    (low_append last (occurrences (relabel_section naming_by_spelling forget scope k s)) (occurrences (relabel_sections naming_by_spelling forget (declare_names k xs scope) n fs))
-    (raised k last (occurrences (relabel_section naming_by_spelling forget scope k s)) (omega (arith, up1, up2)) (section_low scope k k s h))
+    subst (λ m. AllLow m (occurrences (relabel_parameter_sections naming_by_spelling forget scope k (more (then_section s) fs)))) (sym (ordinal_after_names-append k xs (formal_names fs)))
+    (low_append last (occurrences (relabel_parameter_section naming_by_spelling forget scope k s)) (occurrences (relabel_parameter_sections naming_by_spelling forget (declare_names k xs scope) n fs))
+    (raised k last (occurrences (relabel_parameter_section naming_by_spelling forget scope k s)) (omega (arith, up1, up2)) (section_low scope k k s h))
     (sections_low (declare_names k xs scope) n fs (declared_low k xs scope h)))
 
 pub formals_low : (scope : Scope Name) (k : ℕ) (fs : Tree Name (maybe formals)) → ScopeLow k scope → AllLow (ordinal_after_names k (formal_names (formal_sections fs))) (occurrences (relabel_formals naming_by_spelling forget scope k fs))

@@ -26,7 +26,7 @@ use Rattle.ob0_language_names.specs.Names.{Label, Name, naming_by_spelling, decl
 use Rattle.ob0_language_names.specs.Occurrences.{bindings}
 use Rattle.ob0_language_names.specs.Parts.{module_block}
 use Rattle.ob0_language_types.proofs.Literals.{some_inverse}
-use Rattle.ob0_scope_table.specs.Resolution.{IsResolution, Resolution, declaring_names, label_at, ordinal_in, declaration_token}
+use Rattle.ob0_scope_table.specs.Resolution.{IsResolution, Resolution, declaring_names, label_from_table, ordinal_in, declaration_token}
 use Rattle.ob0_language_names.specs.Scopes.{label_from_ordinal, same_ordinal}
 use Rattle.ob0_scope_table.proofs.Bound.{bindings_by_table}
 use Rattle.ob0_language_names.proofs.OccurrenceNames.{length-map}
@@ -51,15 +51,15 @@ label_same None x d = refl
 label_same (Some k) x d = refl
 
 uses_kept : (source : TextWithTokens) (ordinals : List (Option ℕ)) (d : ℕ) (is : List ℕ)
-    → map (λ (u : ℕ × Label). u.0) (filter (λ u. same_label u.1 (declared d)) (zip is (map (label_at source ordinals) is))) ≡ bound_tokens ordinals d is
+    → map (λ (u : ℕ × Label). u.0) (filter (λ u. same_label u.1 (declared d)) (zip is (map (label_from_table source ordinals) is))) ≡ bound_tokens ordinals d is
 uses_kept source ordinals d [] = refl
 uses_kept source ordinals d (i ∷ is) =
-    let kept = filter (λ (u : ℕ × Label). same_label u.1 (declared d)) (zip is (map (label_at source ordinals) is)) in
-    ap (λ b. map (λ (u : ℕ × Label). u.0) (cond b ((i, label_at source ordinals i) ∷ kept) kept)) (label_same (ordinal_in ordinals i) (leaf.token_text_at source i) d)
+    let kept = filter (λ (u : ℕ × Label). same_label u.1 (declared d)) (zip is (map (label_from_table source ordinals) is)) in
+    ap (λ b. map (λ (u : ℕ × Label). u.0) (cond b ((i, label_from_table source ordinals i) ∷ kept) kept)) (label_same (ordinal_in ordinals i) (leaf.token_text_at source i) d)
     ∙ one kept (bound_tokens ordinals d is) (uses_kept source ordinals d is) (same_ordinal (ordinal_in ordinals i) d)
   where
     one : (kept : List (ℕ × Label)) (bound : List ℕ) → map (λ (u : ℕ × Label). u.0) kept ≡ bound → (b : Bool)
-        → map (λ (u : ℕ × Label). u.0) (cond b ((i, label_at source ordinals i) ∷ kept) kept) ≡ cond b (i ∷ bound) bound
+        → map (λ (u : ℕ × Label). u.0) (cond b ((i, label_from_table source ordinals i) ∷ kept) kept) ≡ cond b (i ∷ bound) bound
     one kept bound e true = λ j. i ∷ e j
     one kept bound e false = e
 
@@ -74,7 +74,7 @@ uses_by_table r is d =
 pub as_many_bindings : (r : Resolution) → IsResolution r → length r.uses ≡ length (bindings (named_tree_of r.module_read))
 as_many_bindings r is =
     let m = r.module_read in
-    ap length is.occurring ∙ (sym (length-map (label_at m.source r.ordinals) (occurrences (tree_of m))) ∙ ap length (sym (bindings_by_table m r.ordinals is.numbering)))
+    ap length is.occurring ∙ (sym (length-map (label_from_table m.source r.ordinals) (occurrences (tree_of m))) ∙ ap length (sym (bindings_by_table m r.ordinals is.numbering)))
 
 -- Finds the first `;` among tokens.
 

@@ -21,7 +21,7 @@ use Rattle.ob0_language_names.specs.Parts.{constant_names, formal_names, formal_
 use Rattle.ob0_language_names.specs.Scopes.{Scope, ordinal_after_names, ordinal_after_procedure, body_scope, declare_names, first_procedure_ordinal, first_type_ordinal, first_variable_ordinal, predeclared_scope, scope_before_procedures, relabel_block, relabel_constant_section, relabel_constants, relabel_formals, relabel_procedure, relabel_procedures, relabel_type_section, relabel_uses, relabel_variable_section, relabel_module, scope_before_types, scope_before_variables}
 use Rattle.ob0_language_names.proofs.OccurrenceNames.{as_many-constant_section, as_many-formals, as_many-procedure, as_many-type_section, as_many-uses, as_many-variable_section}
 use Rattle.ob0_language_names.proofs.Ordinals.{le-ordinal_after_names, le-ordinal_after_procedure}
-use Rattle.ob0_language_types.specs.ConstantValues.{ConstantEnvironment, non_constant, predeclared_constants, value_in_constants, value_in_block, value_in_procedure, value_in_procedures, value_of_constant}
+use Rattle.ob0_language_types.specs.ConstantValues.{ConstantEnvironment, non_constant_placeholder, predeclared_constants, value_in_constants, value_in_block, value_in_procedure, value_in_procedures, value_of_constant}
 use Rattle.ob0_language_types.specs.Declarations.{declare_constants}
 use Rattle.ob0_language_types.specs.Environments.{meanings}
 use Rattle.ob0_language_types.specs.Expressions.{a_constant}
@@ -368,7 +368,7 @@ module _ (f : ℕ → Name) (g : ℕ → ℕ) (d : ℕ) (w : Value) where
         elim (nat_lt d (first_type_ordinal n b')) as (λ x. nat_lt d (first_type_ordinal n b') ≡ x
         → (if x then value_in_constants known d n (section_constants (mapped_tree f g cs))
         else if nat_lt d (first_procedure_ordinal n b') then None
-        else option_and_then (λ inner. value_in_procedures (bind_names (declared_type_names (section_types (mapped_tree f g ts)) ++ variable_names (section_variables (mapped_tree f g vs))) non_constant inner) d (first_procedure_ordinal n b') (mapped_tree f g ps))
+        else option_and_then (λ inner. value_in_procedures (bind_names (declared_type_names (section_types (mapped_tree f g ts)) ++ variable_names (section_variables (mapped_tree f g vs))) non_constant_placeholder inner) d (first_procedure_ordinal n b') (mapped_tree f g ps))
         (declare_constants naming_by_spelling known (section_constants (mapped_tree f g cs)))) ≡ Some w
         → Late d k (names_in b) (spell b) (spell (gone_block d k b)) (occurrences b) ((lc ++ (lt ++ (lv ++ lp))) ++ ls)) [
           | true ↦ λ q h.
@@ -377,13 +377,13 @@ module _ (f : ℕ → Name) (g : ℕ → ℕ) (d : ℕ) (w : Value) where
           | false ↦ λ q h.
               let high = ltb-false d (first_type_ordinal n b') q in
               elim (nat_lt d (first_procedure_ordinal n b')) as (λ y. nat_lt d (first_procedure_ordinal n b') ≡ y → (if y then None
-              else option_and_then (λ inner. value_in_procedures (bind_names (declared_type_names (section_types (mapped_tree f g ts)) ++ variable_names (section_variables (mapped_tree f g vs))) non_constant inner) d (first_procedure_ordinal n b') (mapped_tree f g ps))
+              else option_and_then (λ inner. value_in_procedures (bind_names (declared_type_names (section_types (mapped_tree f g ts)) ++ variable_names (section_variables (mapped_tree f g vs))) non_constant_placeholder inner) d (first_procedure_ordinal n b') (mapped_tree f g ps))
               (declare_constants naming_by_spelling known (section_constants (mapped_tree f g cs)))) ≡ Some w
               → Late d k (names_in b) (spell b) (spell (gone_block d k b)) (occurrences b) ((lc ++ (lt ++ (lv ++ lp))) ++ ls)) [
                 | true ↦ λ r g0. absurd (cc)
                 | false ↦ λ r.
                     let all = ltb-false d (first_procedure_ordinal n b') r in
-                    elim (declare_constants naming_by_spelling known (section_constants (mapped_tree f g cs))) as (λ o. option_and_then (λ inner. value_in_procedures (bind_names (declared_type_names (section_types (mapped_tree f g ts)) ++ variable_names (section_variables (mapped_tree f g vs))) non_constant inner) d (first_procedure_ordinal n b') (mapped_tree f g ps)) o ≡ Some w
+                    elim (declare_constants naming_by_spelling known (section_constants (mapped_tree f g cs))) as (λ o. option_and_then (λ inner. value_in_procedures (bind_names (declared_type_names (section_types (mapped_tree f g ts)) ++ variable_names (section_variables (mapped_tree f g vs))) non_constant_placeholder inner) d (first_procedure_ordinal n b') (mapped_tree f g ps)) o ≡ Some w
                     → Late d k (names_in b) (spell b) (spell (gone_block d k b)) (occurrences b) ((lc ++ (lt ++ (lv ++ lp))) ++ ls)) [
                       | None ↦ λ g0. absurd (cc)
                       | Some inner ↦ λ g0.
@@ -394,7 +394,7 @@ module _ (f : ℕ → Name) (g : ℕ → ℕ) (d : ℕ) (w : Value) where
                           (raised (ordinal_after_names n xs) d lc high (constant_section_low scope n (mapped_tree f g cs) below))
                           (raised (ordinal_after_names (ordinal_after_names n xs) ys) d lt (omega (arith, all, up3)) (type_section_low (scope_before_types n b' scope) (first_type_ordinal n b') (mapped_tree f g ts) h1))
                           (raised (first_procedure_ordinal n b') d lv all (variable_section_low (scope_before_variables n b' scope) (first_variable_ordinal n b') (mapped_tree f g vs) h2))
-                          (late_procedures (bind_names (declared_type_names (section_types (mapped_tree f g ts)) ++ variable_names (section_variables (mapped_tree f g vs))) non_constant inner) (scope_before_procedures n b' scope)
+                          (late_procedures (bind_names (declared_type_names (section_types (mapped_tree f g ts)) ++ variable_names (section_variables (mapped_tree f g vs))) non_constant_placeholder inner) (scope_before_procedures n b' scope)
                           (first_procedure_ordinal k b) (first_procedure_ordinal n b') (first_procedure_count f g n b ∙ ap (λ m. first_procedure_ordinal m b) same) h3 ps g0)
                     ]
               ] refl h
@@ -410,17 +410,17 @@ module _ (f : ℕ → Name) (g : ℕ → ℕ) (d : ℕ) (w : Value) where
         let up = le-ordinal_after_procedure (suc n) q' in
         let counted = procedure_count f g (suc n) q ∙ ap (λ m. ordinal_after_procedure (suc m) q) same in
         elim (nat_lt d (ordinal_after_procedure (suc n) q')) as (λ x. nat_lt d (ordinal_after_procedure (suc n) q') ≡ x
-        → (if x then value_in_procedure ((procedure_name q', non_constant) ∷ known) d (suc n) q'
-        else value_in_procedures ((procedure_name q', non_constant) ∷ known) d (ordinal_after_procedure (suc n) q') (mapped_tree f g rest)) ≡ Some w
+        → (if x then value_in_procedure ((procedure_name q', non_constant_placeholder) ∷ known) d (suc n) q'
+        else value_in_procedures ((procedure_name q', non_constant_placeholder) ∷ known) d (ordinal_after_procedure (suc n) q') (mapped_tree f g rest)) ≡ Some w
         → Late d k (names_in_procedures (more q rest)) (spell (more q rest)) (spell (gone_procedures d k (more q rest))) (occurrences (more q rest)) (lq ++ lr)) [
           | true ↦ λ t h.
               late_by_procedure q rest k lq lr (subst (λ m. d < m) counted (ltb-true d (ordinal_after_procedure (suc n) q') t))
-              (late_procedure ((procedure_name q', non_constant) ∷ known) scope k n same below q h)
+              (late_procedure ((procedure_name q', non_constant_placeholder) ∷ known) scope k n same below q h)
           | false ↦ λ t h.
               let high = ltb-false d (ordinal_after_procedure (suc n) q') t in
               late_by_rest q rest k lq lr (subst (λ m. m ≤ d) counted high) (as_many-procedure naming_by_spelling forget scope n q' ∙ as_many f g q)
               (raised (ordinal_after_procedure (suc n) q') d lq high (procedure_low scope n q' below))
-              (late_procedures ((procedure_name q', non_constant) ∷ known) ((procedure_name q', n) ∷ scope) (ordinal_after_procedure (suc k) q) (ordinal_after_procedure (suc n) q') counted
+              (late_procedures ((procedure_name q', non_constant_placeholder) ∷ known) ((procedure_name q', n) ∷ scope) (ordinal_after_procedure (suc k) q) (ordinal_after_procedure (suc n) q') counted
               (omega (arith, up), scope_raised n (ordinal_after_procedure (suc n) q') scope (omega (arith, up)) below) rest h)
         ] refl e
 
@@ -433,7 +433,7 @@ module _ (f : ℕ → Name) (g : ℕ → ℕ) (d : ℕ) (w : Value) where
         let h1 = scope_raised n (suc n) scope (omega arith) below in
         let h2 = declared_low (suc n) xs ((f x, n) ∷ scope) (omega arith, h1) in
         elim (nat_lt d first) as (λ y. nat_lt d first ≡ y → (if y then None
-        else value_in_block (bind_names xs non_constant known) d first (mapped_tree f g b)) ≡ Some w
+        else value_in_block (bind_names xs non_constant_placeholder known) d first (mapped_tree f g b)) ≡ Some w
         → Late d k (names_in_procedure (declares_procedure x fs b closing)) (spell (declares_procedure x fs b closing)) (spell (gone_procedure d (suc k) (declares_procedure x fs b closing))) (occurrences (declares_procedure x fs b closing))
         (lf ++ occurrences (relabel_block naming_by_spelling forget (declare_names (suc n) xs ((f x, n) ∷ scope)) first (mapped_tree f g b)))) [
           | true ↦ λ r h. absurd (cc)
@@ -442,7 +442,7 @@ module _ (f : ℕ → Name) (g : ℕ → ℕ) (d : ℕ) (w : Value) where
               late_in_procedure x closing fs b k lf (occurrences (relabel_block naming_by_spelling forget (declare_names (suc n) xs ((f x, n) ∷ scope)) first (mapped_tree f g b)))
               (as_many-formals naming_by_spelling forget scope (suc n) (mapped_tree f g fs) ∙ as_many f g fs)
               (raised first d lf high (formals_low scope (suc n) (mapped_tree f g fs) h1))
-              (late_block (bind_names xs non_constant known) (declare_names (suc n) xs ((f x, n) ∷ scope)) (ordinal_after_names (suc k) (formal_names (formal_sections fs))) first
+              (late_block (bind_names xs non_constant_placeholder known) (declare_names (suc n) xs ((f x, n) ∷ scope)) (ordinal_after_names (suc k) (formal_names (formal_sections fs))) first
               (formals_count f g (suc n) fs ∙ ap (λ m. ordinal_after_names (suc m) (formal_names (formal_sections fs))) same) h2 b h)
         ] refl e
 

@@ -7,7 +7,7 @@ use Rattle.ob0_tree.specs.ParsedModule.{ParsedModule, named_tree_of, tree_of}
 use Rattle.ob0_tree.specs.Places as leaf
 use Rattle.ob0_tree.specs.Tree.{Sort, Tree, block, constant, constants, factor, item, items, maybe, module_text, nesting, occurrences, procedure, adds, array_type, assigns, begins, branches, calls, compares, declares, declares_constant, declares_constants, declares_procedure, declares_type, declares_types, declares_variable, declares_variables, designator, else_branch, elsif_branch, end, forms_block, index, is_module, more, multiplies, negation, none, one, parenthesised, product, record_type, relates, repeat_loop, runs, some_arguments, some_fields, some_formals, sum, then_argument, then_fields, then_section, then_statement, value_section, variable_section, while_loop}
 use Rattle.ob0_tree.proofs.Mapped.{nesting_mapped}
-use Rattle.ob0_language_names.specs.Inlining.{OccurrenceSet, occurrences_bound_to, block_without_constant, inline_in_tree, inlined, module_without_constant, procedure_without_constant, procedures_without_constant, section_without_constant, constants_without}
+use Rattle.ob0_language_names.specs.Inlining.{OccurrenceSet, occurrences_bound_to, block_without_constant, inline_in_tree, inlined, module_without_constant, procedure_without_constant, procedures_without_constant, section_without_constant, constants_without_ordinal}
 use Rattle.ob0_language_names.specs.Names.{Name}
 use Rattle.ob0_language_names.specs.Parts.{formal_names, formal_sections}
 use Rattle.ob0_language_names.specs.Scopes.{ordinal_after_names, ordinal_after_procedure, first_procedure_ordinal}
@@ -85,11 +85,11 @@ inlined_shallow m uses value =
     omega (arith, deeper, same, low)
 
 -- Removing a declaration makes no tree deeper.
-constants_low : (d k : ℕ) (cs : Tree Name (items constant)) → nesting (constants_without d k cs) ≤ nesting cs
+constants_low : (d k : ℕ) (cs : Tree Name (items constant)) → nesting (constants_without_ordinal d k cs) ≤ nesting cs
 constants_low d k end = omega arith
 constants_low d k (more c cs) =
     let rest = constants_low d (suc k) cs in
-    elim (k == d) as (λ b. nesting (if b then cs else more c (constants_without d (suc k) cs)) ≤ nesting (more c cs)) [ true ↦ omega arith | false ↦ omega (arith, rest) ]
+    elim (k == d) as (λ b. nesting (if b then cs else more c (constants_without_ordinal d (suc k) cs)) ≤ nesting (more c cs)) [ true ↦ omega arith | false ↦ omega (arith, rest) ]
 
 section_low : (d k : ℕ) (cs : Tree Name (maybe constants)) → nesting (section_without_constant d k cs) ≤ nesting cs
 section_low d k none = omega arith

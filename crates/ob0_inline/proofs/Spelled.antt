@@ -20,7 +20,7 @@ use Rattle.ob0_language_names.specs.Scopes.{ordinal_after_names, ordinal_after_p
 use Rattle.ob0_language_names.proofs.EditedTrees.{edited_block, edited_constants, edited_procedure, edited_procedures, edited_section}
 use Rattle.ob0_language_names.proofs.EverywhereTrees.{everywhere, gone-module}
 use Rattle.ob0_language_names.proofs.OccurrenceNames.{length-map}
-use Rattle.ob0_language_names.proofs.OccurrencesMapped.{occurrences-mapped_tree}
+use Rattle.ob0_language_names.proofs.OccurrencesMapped.{occurrences-mapped}
 use Rattle.ob0_scope_table.specs.Resolution.{ordinal_in}
 use Rattle.ob0_scope.proofs.SeenInPlaces.{AllMarked, IsMarked}
 use Rattle.ob0_inline.proofs.TakenOut.{first_procedure_count, formals_count, gone_block, gone_constants, gone_module, gone_procedure, gone_procedures, gone_section, kept_constants, procedure_count}
@@ -56,7 +56,7 @@ cut_labels d [] ys h = (tt, h)
 cut_labels d (x ∷ xs) ys h = let rest = cut_labels d xs ys h.1 in ((h.0, rest.0), rest.1)
 
 pub as_many : {N M : Type 0} {s : Sort} (f : N → M) (g : ℕ → ℕ) (t : Tree N s) → length (occurrences (mapped_tree f g t)) ≡ length (occurrences t)
-as_many f g t = ap length (occurrences-mapped_tree f g t) ∙ length-map f (occurrences t)
+as_many f g t = ap length (occurrences-mapped f f g t) ∙ length-map f (occurrences t)
 
 module _ (gives : ℕ → Bool) (uses : OccurrenceSet) (v : Tree naming.Name factor) (f : ℕ → naming.Name) (g : ℕ → ℕ) (table : List (Option ℕ)) (label : ℕ → Label) (d : ℕ)
     (others : (i : ℕ) → ordinal_in table i ≡ None → gives i ≡ false) (apart : (i : ℕ) → label i ≢ declared d → gives i ≡ false) where

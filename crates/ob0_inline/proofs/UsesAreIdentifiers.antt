@@ -23,7 +23,7 @@ use Rattle.ob0_language_names.specs.NonFactorNames.{non_factor_occurrences}
 use Rattle.ob0_language_names.specs.Inlining.{OccurrenceSet, inline_in_tree, module_without_constant}
 use Rattle.ob0_language_names.specs.Names.{Label, Name, naming_by_spelling, declared}
 use Rattle.ob0_language_types.proofs.Literals.{some_inverse}
-use Rattle.ob0_scope_table.specs.Resolution.{IsResolution, Resolution, label_at, ordinal_in}
+use Rattle.ob0_scope_table.specs.Resolution.{IsResolution, Resolution, label_from_table, ordinal_in}
 use Rattle.ob0_language_names.specs.Scopes.{label_from_ordinal}
 use Rattle.ob0_scope.proofs.SeenInPlaces.{AllMarked, occurrence_table, uses_reported}
 use Rattle.ob0_inline.specs.Everywhere.{UsesAreFactors}
@@ -124,7 +124,7 @@ module _ (r : Resolution) (is : IsResolution r) (d : ℕ) (v : Tree Name factor)
   others : (i : ℕ) → ordinal_in (occurrence_table r) i ≡ None → gives i ≡ false
   others i none = not_among i places (λ e. let z = among_bound r is d i places bound e in let w = z.occurs in cc)
 
-  apart : (i : ℕ) → label_at r.module_read.source r.ordinals i ≢ declared d → gives i ≡ false
+  apart : (i : ℕ) → label_from_table r.module_read.source r.ordinals i ≢ declared d → gives i ≡ false
   apart i h = not_among i places (λ e. h (ap (λ o. label_from_ordinal naming_by_spelling o (leaf.token_text_at r.module_read.source i)) (among_bound r is d i places bound e).bound))
 
   uses_agree : Agrees gives uses 0 (occurrences (tree_of r.module_read))
@@ -132,8 +132,8 @@ module _ (r : Resolution) (is : IsResolution r) (d : ℕ) (v : Tree Name factor)
       let zero_more : j ≡ 0 + j = omega arith in
       agree j i (ap (λ us. slice_get us j) is.occurring ∙ e) ∙ ap uses zero_more)
 
-  none_elsewhere : NoneIs d (non_factor_occurrences (mapped_tree (label_at r.module_read.source r.ordinals) (leaf.token_value_at r.module_read.source) (tree_of r.module_read)))
-  none_elsewhere = none_is d (non_factor_occurrences (mapped_tree (label_at r.module_read.source r.ordinals) (leaf.token_value_at r.module_read.source) (tree_of r.module_read))) (subst (All (λ l. l ≢ declared d)) (ap non_factor_occurrences is.numbering) alone)
+  none_elsewhere : NoneIs d (non_factor_occurrences (mapped_tree (label_from_table r.module_read.source r.ordinals) (leaf.token_value_at r.module_read.source) (tree_of r.module_read)))
+  none_elsewhere = none_is d (non_factor_occurrences (mapped_tree (label_from_table r.module_read.source r.ordinals) (leaf.token_value_at r.module_read.source) (tree_of r.module_read))) (subst (All (λ l. l ≢ declared d)) (ap non_factor_occurrences is.numbering) alone)
 
   puts : (xs : List (Terminal ℕ)) → flat_map (put r.module_read.source places vs) xs ≡ flat_map (replaced gives (spell v) (leaf.token_text_at r.module_read.source) (leaf.token_value_at r.module_read.source)) xs
   puts xs =
@@ -144,14 +144,14 @@ module _ (r : Resolution) (is : IsResolution r) (d : ℕ) (v : Tree Name factor)
   uses_spelled =
       let m = r.module_read in
       puts (spell (tree_of m))
-      ∙ sym (spelled gives uses v (leaf.token_text_at m.source) (leaf.token_value_at m.source) (occurrence_table r) (label_at m.source r.ordinals) d others apart 0 role.Declaring others (tree_of m) (uses_agree, uses_reported r is, none_elsewhere))
+      ∙ sym (spelled gives uses v (leaf.token_text_at m.source) (leaf.token_value_at m.source) (occurrence_table r) (label_from_table m.source r.ordinals) d others apart 0 role.Declaring others (tree_of m) (uses_agree, uses_reported r is, none_elsewhere))
 
   -- Without the declaration, the tokens also spell a tree.
   pub others_spelled : flat_map (put r.module_read.source places vs) (spell (gone_module d (tree_of r.module_read))) ≡ spell (module_without_constant d (inline_in_tree uses v 0 (named_tree_of r.module_read)))
   others_spelled =
       let m = r.module_read in
       puts (spell (gone_module d (tree_of m)))
-      ∙ sym (module_spelled gives uses v (leaf.token_text_at m.source) (leaf.token_value_at m.source) (occurrence_table r) (label_at m.source r.ordinals) d others apart d (tree_of m) (uses_agree, uses_reported r is, none_elsewhere))
+      ∙ sym (module_spelled gives uses v (leaf.token_text_at m.source) (leaf.token_value_at m.source) (occurrence_table r) (label_from_table m.source r.ordinals) d others apart d (tree_of m) (uses_agree, uses_reported r is, none_elsewhere))
 
 -- Tokens of occurrences ascend, so each is at least the lower bound.
 pub above : (low high : ℕ) (is : List ℕ) (j i : ℕ) → AreAscendingWithin low is high → slice_get is j ≡ Some i → low ≤ i

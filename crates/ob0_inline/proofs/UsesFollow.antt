@@ -17,9 +17,10 @@ use Rattle.ob0_language_names.specs.Names.{Name, naming_by_spelling}
 use Rattle.ob0_language_names.specs.Parts.{module_block}
 use Rattle.ob0_scope_table.specs.Resolution.{IsResolution, Resolution, ordinal_and_spelling_at, ordinal_in, ordinal_and_spelling}
 use Rattle.ob0_language_names.specs.Scopes.{relabel_module}
-use Rattle.ob0_scope.proofs.Fused.{mapped_tree-mapped_tree, relabel_module-mapped_tree}
+use Rattle.ob0_scope.proofs.Fused.{relabel_module-mapped_tree}
+use Rattle.ob0_tree.proofs.Mapped.{mapped_twice}
 use Rattle.ob0_language_names.proofs.OccurrenceNames.{length-map}
-use Rattle.ob0_language_names.proofs.OccurrencesMapped.{occurrences-mapped_tree}
+use Rattle.ob0_language_names.proofs.OccurrencesMapped.{occurrences-mapped}
 use Rattle.ob0_language_types.specs.ConstantValues.{value_of_constant}
 use Rattle.ob0_language_values.specs.Values.{Value}
 use Rattle.ob0_inline.proofs.Earlier.{AllLow, IsLow, forget}
@@ -33,8 +34,8 @@ bound_by_table : (r : Resolution) → IsResolution r → occurrences (relabel_mo
 bound_by_table r is =
     let m = r.module_read in
     let first : Option ℕ × Name → Option ℕ = λ p. p.0 in
-    ap occurrences (relabel_module-mapped_tree naming_by_spelling first ordinal_and_spelling (named_tree_of m) ∙ (ap (mapped_tree first (λ n. n)) is.binding ∙ mapped_tree-mapped_tree first (ordinal_and_spelling_at m.source r.ordinals) (leaf.token_value_at m.source) (tree_of m)))
-    ∙ occurrences-mapped_tree (ordinal_in r.ordinals) (leaf.token_value_at m.source) (tree_of m)
+    ap occurrences (relabel_module-mapped_tree naming_by_spelling first ordinal_and_spelling (named_tree_of m) ∙ (ap (mapped_tree first (λ n. n)) is.binding ∙ mapped_twice first first (λ n. n) (ordinal_and_spelling_at m.source r.ordinals) (ordinal_and_spelling_at m.source r.ordinals) (leaf.token_value_at m.source) (tree_of m)))
+    ∙ occurrences-mapped (ordinal_in r.ordinals) (ordinal_in r.ordinals) (leaf.token_value_at m.source) (tree_of m)
 
 -- If the constant has a value, the module's tokens are split by its declaration.
 pub late_of : (r : Resolution) → IsResolution r → (d : ℕ) (w : Value) → value_of_constant (named_tree_of r.module_read) d ≡ Some w → spell (tree_of r.module_read) ≡ indexed_terminals_of_words 0 (words_of r.module_read.source)

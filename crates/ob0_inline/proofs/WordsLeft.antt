@@ -1,7 +1,6 @@
 -- Proves that after a declaration is removed and identifiers are replaced, the remaining words are
 -- the remaining tokens with the same replacements.
-use Rattle.std.proofs.Common.{◌≡◌, inl, inr, ℕ, suc, ◌+◌, ◌<◌, ◌≤◌, true, false, ◌&&◌, if◌then◌else◌, nat_le, Some, List, [], ◌∷◌, ◌++◌, map, length, refl, sym, ap, ◌∙◌, arith, append_assoc, append-nil, length-append}
-use Rattle.std.proofs.lemmas.Bool.{lt-leb, le-leb}
+use Rattle.std.proofs.Common.{◌≡◌, inl, inr, ℕ, suc, ◌+◌, ◌<◌, List, [], ◌∷◌, ◌++◌, map, length, refl, sym, ap, ◌∙◌, arith, append_assoc, append-nil, length-append}
 use Rattle.std.proofs.lemmas.Grind.{flat_map-append}
 use Rattle.std.proofs.lemmas.List.{map-append}
 use Rattle.ob0_language_names.proofs.OccurrenceNames.{length-map}
@@ -13,14 +12,14 @@ use Rattle.ob0_scan.specs.TextWithTokens.{TextWithTokens, Word, word_of_token}
 use Rattle.ob0_tree.specs.Lexeme.{Terminal, WordOrSymbol}
 use Rattle.ob0_tree.specs.Lexeme as lexeme
 use Rattle.ob0_tree.specs.Places.{indexed_terminal}
-use Rattle.ob0_edits_tokens.specs.Changed.{WordChanges, changes_at, changed_words, replacement_or_word, words_of}
+use Rattle.ob0_edits_tokens.specs.Changed.{WordChanges, changes_at, changed_words, words_of}
 use Rattle.ob0_edits_tokens.specs.OfTrees.{indexed_terminals_of_words, word_at}
 use Rattle.ob0_edits_tokens.specs.Removed.{MayBeConstantDeclaration, changes_with_removal}
 use Rattle.ob0_edits_tokens.specs.Replaced as place
 use Rattle.ob0_edits_tokens.specs.Replaced.{AreIdentifierIndexes}
 use Rattle.ob0_edits_tokens.specs.Words.{terminal_of_word}
 use Rattle.ob0_edits_tokens.proofs.OfTrees.{each_put, of_each, put, word_kind}
-use Rattle.ob0_edits_tokens.proofs.Removals.{past_last}
+use Rattle.ob0_edits_tokens.proofs.ChangedWords.{part_removed}
 use Rattle.ob0_language_names.proofs.Peeling.{heads}
 use Rattle.ob0_inline.proofs.TakenOut.{Taken}
 
@@ -120,25 +119,6 @@ module _ (s : TextWithTokens) (d k : ℕ) (labels : List ℕ) (left : List (Term
             elim t.opens [ inl o ↦ inl (kind_is ∙ o) | inr o ↦ inr (kind_is ∙ o) ];
       }
 
--- Changing joined lists of words changes each part.
-changed_words-append : (ch : WordChanges) (k : ℕ) (xs ys : List Word) → changed_words ch k (xs ++ ys) ≡ changed_words ch k xs ++ changed_words ch (k + length xs) ys
-changed_words-append ch k [] ys = ap (λ n. changed_words ch n ys) (let z : k ≡ k + 0 = omega arith in z)
-changed_words-append ch k (x ∷ xs) ys =
-    ap (λ l. replacement_or_word x (ch k) ++ l) (changed_words-append ch (suc k) xs ys ∙ ap (λ n. changed_words ch (suc k) xs ++ changed_words ch n ys) (let z : suc k + length xs ≡ k + suc (length xs) = omega arith in z))
-    ∙ sym (append_assoc (replacement_or_word x (ch k)) (changed_words ch (suc k) xs) (changed_words ch (k + suc (length xs)) ys))
-
-before_first : (first last : ℕ) (ch : WordChanges) (k : ℕ) (xs : List Word) → k + length xs ≤ first → changed_words (changes_with_removal first last ch) k xs ≡ changed_words ch k xs
-before_first first last ch k [] h = refl
-before_first first last ch k (x ∷ xs) h =
-    let out : (nat_le first k && nat_le k last) ≡ false = ap (λ b. b && nat_le k last) (lt-leb first k (omega (arith, h))) in
-    (λ i. replacement_or_word x (if out i then Some [] else ch k) ++ before_first first last ch (suc k) xs (omega (arith, h)) i)
-
-inside_gone : (first last : ℕ) (ch : WordChanges) (k : ℕ) (xs : List Word) → first ≤ k → k + length xs ≤ suc last → changed_words (changes_with_removal first last ch) k xs ≡ []
-inside_gone first last ch k [] g h = refl
-inside_gone first last ch k (x ∷ xs) g h =
-    let in_it : (nat_le first k && nat_le k last) ≡ true = ap (λ b. b && nat_le k last) (le-leb first k g) ∙ le-leb k last (omega (arith, h)) in
-    (λ i. replacement_or_word x (if in_it i then Some [] else ch k) ++ inside_gone first last ch (suc k) xs (omega (arith, g)) (omega (arith, h)) i)
-
 module _ (s : TextWithTokens) (least : ℕ) (places : List ℕ) (names : AreIdentifierIndexes s.tokens least places) (vs : List Word) where
   -- The words without the declaration, with other words at the places, are the remaining tokens
   -- with the replacements.
@@ -159,12 +139,7 @@ module _ (s : TextWithTokens) (least : ℕ) (places : List ℕ) (names : AreIden
       let n2 : length b.first ≡ 3 + length t.right = b.count ∙ (let z = length-append t.right (WordOrSymbol (kind.Symbol symbol.Semicolon) ∷ []) in omega (arith, z)) in
       let next : 0 + length a.first + length b.first ≡ suc last = omega (arith, n1, n2) in
       let split : changed_words (changes_with_removal first last ch) 0 (words_of s) ≡ changed_words ch 0 a.first ++ changed_words ch (suc last) b.rest =
-      ap (changed_words (changes_with_removal first last ch) 0) all
-      ∙ (changed_words-append (changes_with_removal first last ch) 0 a.first (b.first ++ b.rest)
-      ∙ (λ i. before_first first last ch 0 a.first (omega (arith, n1)) i
-      ++ (changed_words-append (changes_with_removal first last ch) (0 + length a.first) b.first b.rest
-      ∙ ((λ j. inside_gone first last ch (0 + length a.first) b.first (omega (arith, n1)) (omega (arith, next)) j ++ changed_words (changes_with_removal first last ch) (next j) b.rest)
-      ∙ past_last first last ch (suc last) b.rest (omega arith))) i)) in
+      ap (changed_words (changes_with_removal first last ch) 0) all ∙ part_removed first last ch a.first b.first b.rest n1 (omega (arith, n1, next)) in
       let p1 : flat_map put_so front ≡ map terminal_of_word (changed_words ch 0 a.first) = ap (flat_map put_so) (sym a.front_is) ∙ part_put 0 [] a.first (b.first ++ b.rest) all refl in
       let done : length (a.first ++ b.first) ≡ suc last = length-append a.first b.first ∙ omega (arith, n1, n2) in
       let ends : words_of s ≡ (a.first ++ b.first) ++ (b.rest ++ []) = all ∙ (sym (append_assoc a.first b.first b.rest) ∙ ap (λ l. (a.first ++ b.first) ++ l) (sym (append-nil b.rest))) in

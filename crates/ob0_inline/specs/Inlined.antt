@@ -9,7 +9,7 @@ use Rattle.ob0_text.specs.declared.refusals.EditRefusal.{EditRefusal}
 use Rattle.ob0_text.specs.declared.refusals.EditRefusal.TheVariants.{TooDeep, TooLong}
 use Rattle.ob0_text.specs.Patches.{patched_text}
 use Rattle.ob0_text.specs.Units.{width_of}
-use Rattle.ob0_tree.specs.Module.{ModuleOf, max_nesting}
+use Rattle.ob0_tree.specs.Module.{IsModuleWithTree, max_nesting}
 use Rattle.ob0_tree.specs.Tree.{Tree, module_text, nesting}
 
 -- States that applying the edits to the text gives a text that can be scanned and is the module
@@ -19,7 +19,7 @@ pub record EditsGiveModule (unit : counting.Unit) (text : List ℕ) (edits : Lis
   pub after : TextWithTokens
   pub scan : IsScan after
   pub made : patched_text (width_of unit) text edits ≡ Some (chars after.text)
-  pub module_of : ModuleOf after t
+  pub module_of : IsModuleWithTree after t
 
 -- Returns the first refusal that applies to edits, given the edited text in bytes and its tree.
 -- `TooLong` and `TooDeep` are tested first, in this order. If neither applies, the result is

@@ -15,7 +15,7 @@ use Rattle.ob0_language_names.specs.Inlining.{inlined, single_occurrence}
 use Rattle.ob0_language_names.specs.Names.{Name}
 use Rattle.ob0_language_names.specs.Occurrences.{ordinal_bound_at}
 use Rattle.ob0_language_names.specs.Scopes.{same_ordinal}
-use Rattle.ob0_language_names.specs.OccurrenceLookup.{resolve_at_occurrence}
+use Rattle.ob0_language_names.specs.OccurrenceLookup.{resolve_name_at_occurrence}
 use Rattle.ob0_language_values.specs.declared.scalar.Scalar.{Scalar}
 use Rattle.ob0_language_values.specs.declared.scalar.Scalar.TheVariants as scalar
 use Rattle.ob0_language_values.specs.Scalars.{scalar_value}
@@ -54,7 +54,7 @@ truth_name_ordinal false = 3
 abbrev pub value_text_keeps_meaning : Tree Name module_text → ℕ → Scalar → Bool
 value_text_keeps_meaning m occurrence (scalar.Number n) = true
 value_text_keeps_meaning m occurrence (scalar.Truth b) =
-    same_ordinal (resolve_at_occurrence m occurrence (truth_text b)) (truth_name_ordinal b)
+    same_ordinal (resolve_name_at_occurrence m occurrence (truth_text b)) (truth_name_ordinal b)
 
 -- Returns the tree of the module after the constant is inlined at the use `u`: the constant's value
 -- replaces that use.

@@ -6,7 +6,7 @@ ghost use Rattle.std.specs.List.{list_any, range_with_len};
 ghost use Rattle.ob0_tree.specs.ParsedModule.{named_tree_of};
 ghost use Rattle.ob0_language_names.specs.Occurrences.{bindings, ordinal_bound_at};
 ghost use Rattle.ob0_language_names.specs.Scopes.{same_ordinal};
-ghost use Rattle.ob0_language_names.specs.OccurrenceLookup.{resolve_at_occurrence};
+ghost use Rattle.ob0_language_names.specs.OccurrenceLookup.{resolve_name_at_occurrence};
 ghost use Rattle.ob0_inline.specs.Everywhere.{has_shadowed_use};
 ghost use Rattle.ob0_inline.specs.Uses.{value_text_keeps_meaning};
 
@@ -50,7 +50,7 @@ fn name_would_be_bound_to(
     ordinal: usize,
 ) -> Result<bool, AllocError>
     ensures { IfOk result (λ is. is
-        ≡ same_ordinal (resolve_at_occurrence (named_tree_of names.now.module_read) occurrence name.now) ordinal) }
+        ≡ same_ordinal (resolve_name_at_occurrence (named_tree_of names.now.module_read) occurrence name.now) ordinal) }
 {
     let bound = resolve_name_at_occurrences(alloc, names, name)?;
     Ok(has_ordinal_at(&bound, occurrence, ordinal))
@@ -111,7 +111,7 @@ fn any_use_would_be_bound_elsewhere(
     ensures { IfOk result (λ hidden.
         hidden
         ≡ list_any (λ k. same_ordinal (ordinal_bound_at (named_tree_of names.now.module_read) k) constant
-        && not (same_ordinal (resolve_at_occurrence (named_tree_of names.now.module_read) k name.now) ordinal))
+        && not (same_ordinal (resolve_name_at_occurrence (named_tree_of names.now.module_read) k name.now) ordinal))
         (range_with_len 0 (length (bindings (named_tree_of names.now.module_read))))) }
 {
     // The proof needs the contract of this call.

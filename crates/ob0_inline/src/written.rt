@@ -3,7 +3,7 @@
 ghost use Rattle.std.specs.Prelude.{◌≡◌, IfOk, IsTrue, string_bytes};
 ghost use Rattle.ob0_edits_tokens.specs.Replaced.{MayReplaceIdentifier};
 ghost use Rattle.ob0_edits_tokens.specs.Written.{number_text, number_words};
-ghost use Rattle.ob0_language_types.specs.EditLaws.{IsScalar};
+ghost use Rattle.ob0_language_types.specs.EditLaws.{Is32BitScalar};
 ghost use Rattle.ob0_language_values.specs.Scalars.{scalar_value};
 ghost use Rattle.ob0_language_values.specs.Values.{fits_in_32_bits};
 ghost use Rattle.ob0_inline.specs.Values.{value_text, value_words};
@@ -50,7 +50,7 @@ fn number_text_may_replace_name(number: i32)
 
 /// Proves that each `Scalar` is a 32-bit number or a truth value. The function has no effect.
 pub(crate) fn value_is_scalar(value: Scalar)
-    ensures { IsScalar (scalar_value value) }
+    ensures { Is32BitScalar (scalar_value value) }
 {
     if let Scalar::Number(number) = value {
         number_fits_in_32_bits(number);

@@ -17,12 +17,12 @@ use Rattle.ob0_edits_tokens.specs.Changed.{changes_at, changed_words, words_of}
 use Rattle.ob0_edits_tokens.specs.Ranges.{range_of}
 use Rattle.ob0_edits_tokens.specs.Removed.{MayBeConstantDeclaration, span_of_tokens, changes_with_removal}
 use Rattle.ob0_edits_tokens.specs.Replaced.{AreIdentifierIndexes, EditsGiveWords, replacement_at_token, range_and_text}
-use Rattle.ob0_edits_tokens.proofs.MadeWithout.{leaves_words_without}
+use Rattle.ob0_edits_tokens.proofs.Made.{leaves_words_without}
 use Rattle.ob0_scope_table.specs.Resolution.{Resolution}
 use Rattle.ob0_scope.specs.declared.naming.BoundName as named
 use Rattle.ob0_scope.specs.NamesAtPlaces.{name_at_offset}
 use Rattle.ob0_language_types.specs.ConstantValues.{value_of_constant}
-use Rattle.ob0_language_types.specs.EditLaws.{ConstantUsesAreFactors, IsScalar}
+use Rattle.ob0_language_types.specs.EditLaws.{ConstantUsesAreFactors, Is32BitScalar}
 use Rattle.ob0_language_runs.specs.EditLaws.{InliningEverywhereKeepsTypingAndRuns}
 use Rattle.ob0_language_values.specs.Scalars.{scalar_value}
 use Rattle.ob0_language_values.specs.Values.{Value}
@@ -82,7 +82,7 @@ module _ (unit : Unit) (text : List ℕ) (r : Resolution) (module_in : IsResolve
   all_leave short =
       let held_so = held unit text r module_in in
       subst (λ t. EditsGiveWords unit t all_edits all_words) (sym held_so)
-      (leaves_words_without unit s module_in.scan.scan (value_text c.value) (value_words c.value) w.replaces w.utf8 c.first c.last declaration places are_names all_edits
+      (leaves_words_without s module_in.scan.scan (value_text c.value) w.utf8 unit (value_words c.value) w.replaces c.first c.last places declaration are_names all_edits
       (subst (λ t. map range_and_text all_edits ≡ (range_of (width_of unit) t (span_of_tokens s.tokens c.first c.last), []) ∷ map (replacement_at_token unit t s.tokens (value_text c.value)) places) held_so all_are) short)
 
   pub all_made : length (text_inlined_everywhere r.module_read c) ≤ max_text_length → nesting (tree_inlined_everywhere r.module_read c) ≤ 100 → Made r c unit text all_edits
@@ -104,7 +104,7 @@ module _ (alone : ConstantUsesAreFactors) (keeps : InliningEverywhereKeepsTyping
   no_name : HasNoConstantAt r.module_read offset → ⊥
   no_name nowhere = refuse NoName (λ e. cc) (inr (refl, nowhere))
 
-  module _ (c : DeclaredConstant) (at : IsConstantAt r.module_read offset c) (scalar_so : IsScalar (scalar_value c.value)) where
+  module _ (c : DeclaredConstant) (at : IsConstantAt r.module_read offset c) (scalar_so : Is32BitScalar (scalar_value c.value)) where
     abbrev long : ℕ
     long = length (text_inlined_everywhere r.module_read c)
 
@@ -143,7 +143,7 @@ module _ (alone : ConstantUsesAreFactors) (keeps : InliningEverywhereKeepsTyping
       let has : value_of_constant (named_tree_of r.module_read) found.ordinal ≡ Some (scalar_value v.0) = q ∙ ap Some (sym v.1) in
       let c : DeclaredConstant = record { ordinal = found.ordinal; value = v.0; first = name_token r is found.ordinal (scalar_value v.0) has; last = end_token r is found.ordinal (scalar_value v.0) has } in
       let constant : IsConstant r.module_read c = record { has_value = has; begins = begins_at r is found.ordinal (scalar_value v.0) has; ends = ends_at r is found.ordinal (scalar_value v.0) has } in
-      cases c (record { token = found.token; named = e; is_constant = constant }) (subst IsScalar (sym v.1) scalar_w) _ _ _ _ refl refl refl refl
+      cases c (record { token = found.token; named = e; is_constant = constant }) (subst Is32BitScalar (sym v.1) scalar_w) _ _ _ _ refl refl refl refl
 
   at_name : (o : Option named.BoundName) → name_at_offset r.module_read offset ≡ o → ⊥
   at_name None e = no_name (λ n h. absurd (none_some n (sym e ∙ h)))

@@ -22,7 +22,7 @@ use Rattle.ob0_scope_table.specs.Resolution.{Resolution}
 use Rattle.ob0_scope.specs.declared.naming.BoundName as named
 use Rattle.ob0_scope.specs.NamesAtPlaces.{name_at_offset}
 use Rattle.ob0_language_types.specs.ConstantValues.{value_of_constant}
-use Rattle.ob0_language_types.specs.EditLaws.{ConstantUsesAreFactors, IsScalar}
+use Rattle.ob0_language_types.specs.EditLaws.{ConstantUsesAreFactors, Is32BitScalar}
 use Rattle.ob0_language_types.specs.WellTyped.{WellTyped}
 use Rattle.ob0_language_runs.specs.EditLaws.{InliningKeepsTypingAndRuns, HaveSameRuns}
 use Rattle.ob0_language_values.specs.declared.scalar.Scalar.{Scalar}
@@ -105,7 +105,7 @@ module _ (unit : Unit) (text : List ℕ) (r : Resolution) (module_in : IsResolve
   here_leave short =
       let held_so = held unit text r module_in in
       subst (λ t. EditsGiveWords unit t here_edits here_words) (sym held_so)
-      (leaves_words unit s module_in.scan.scan (value_text u.value) (value_words u.value) w.replaces w.utf8 (u.token ∷ []) (are_names r module_in.well_typed.resolved u use_so) here_edits
+      (leaves_words s module_in.scan.scan (value_text u.value) w.utf8 unit (value_words u.value) w.replaces (u.token ∷ []) (are_names r module_in.well_typed.resolved u use_so) here_edits
       (subst (λ t. map range_and_text here_edits ≡ map (replacement_at_token unit t s.tokens (value_text u.value)) (u.token ∷ [])) held_so here_are) short)
 
   pub here_made : length (text_after_replacement s (u.token ∷ []) (value_text u.value)) ≤ max_text_length → nesting (tree_inlined_here r.module_read u) ≤ 100 → Made r u unit text here_edits
@@ -127,7 +127,7 @@ module _ (alone : ConstantUsesAreFactors) (keeps : InliningKeepsTypingAndRuns) (
   no_name : ((u : ConstantUse) → IsUseAt r.module_read offset u → ⊥) → ⊥
   no_name nowhere = refuse NoName (λ e. cc) (inr (refl, nowhere))
 
-  module _ (u : ConstantUse) (at : IsUseAt r.module_read offset u) (scalar_so : IsScalar (scalar_value u.value)) where
+  module _ (u : ConstantUse) (at : IsUseAt r.module_read offset u) (scalar_so : Is32BitScalar (scalar_value u.value)) where
     abbrev long : ℕ
     long = length (text_after_replacement r.module_read.source (u.token ∷ []) (value_text u.value))
 
@@ -159,7 +159,7 @@ module _ (alone : ConstantUsesAreFactors) (keeps : InliningKeepsTypingAndRuns) (
         let answer = answer_ok r well u use_so alone scalar_so keeps unit text (here_edits unit text r module_in u use_so w) made g in
         given edits (inlines_in unit text r module_in OneUse offset edits (tree_inlined_here r.module_read u) answer.1.leaves answer.1.well_typed answer.1.same_runs (inl (u, at, answer)))
 
-  at_scalar : (found : named.BoundName) → name_at_offset r.module_read offset ≡ Some found → (v : Scalar) → IsScalar (scalar_value v) → value_of_constant (named_tree_of r.module_read) found.ordinal ≡ Some (scalar_value v)
+  at_scalar : (found : named.BoundName) → name_at_offset r.module_read offset ≡ Some found → (v : Scalar) → Is32BitScalar (scalar_value v) → value_of_constant (named_tree_of r.module_read) found.ordinal ≡ Some (scalar_value v)
       → (o : Option ℕ) → position_from (λ i. i == found.token) 0 r.uses ≡ o → ⊥
   at_scalar found e v scalar_so has None q = no_name (no_use r module_in.well_typed offset found (sym e) q)
   at_scalar found e v scalar_so has (Some k) q =
@@ -172,7 +172,7 @@ module _ (alone : ConstantUsesAreFactors) (keeps : InliningKeepsTypingAndRuns) (
   at_value found e (Some w) q =
       let scalar_w = constant_scalar r.module_read.source module_in.scan.scan (tree_of r.module_read) found.ordinal w q in
       let v = scalar_of w scalar_w in
-      at_scalar found e v.0 (subst IsScalar (sym v.1) scalar_w) (q ∙ ap Some (sym v.1)) (position_from (λ i. i == found.token) 0 r.uses) refl
+      at_scalar found e v.0 (subst Is32BitScalar (sym v.1) scalar_w) (q ∙ ap Some (sym v.1)) (position_from (λ i. i == found.token) 0 r.uses) refl
 
   at_name : (o : Option named.BoundName) → name_at_offset r.module_read offset ≡ o → ⊥
   at_name None e = no_name (λ u at. none_some (let n : named.BoundName = record { token = u.token; ordinal = u.constant } in n) (sym e ∙ at.named))

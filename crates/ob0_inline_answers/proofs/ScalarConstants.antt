@@ -22,9 +22,9 @@ use Rattle.ob0_language_values.specs.declared.scalar.Scalar.{Scalar}
 use Rattle.ob0_language_values.specs.declared.scalar.Scalar.TheVariants as scalar
 use Rattle.ob0_language_values.specs.Scalars.{scalar_value}
 use Rattle.ob0_language_values.specs.Values.{Outcome, Overflow, Place, Step, Value, add, add_short_circuits, apply_sign, at_field, at_index, value_at_path, checked_division, division_outcome, elements, ends_run_with, fits_in_32_bits, succeeds_with, checked_number, members, multiply, multiply_short_circuits, negate, number, or_stuck, quotient, apply_relation, remainder, truth, ◌>>=◌}
-use Rattle.ob0_language_types.specs.ConstantValues.{ConstantEnvironment, non_constant, predeclared_constants, value_in_constants, value_in_block, value_in_procedure, value_in_procedures, value_of_constant}
+use Rattle.ob0_language_types.specs.ConstantValues.{ConstantEnvironment, non_constant_placeholder, predeclared_constants, value_in_constants, value_in_block, value_in_procedure, value_in_procedures, value_of_constant}
 use Rattle.ob0_language_types.specs.Declarations.{declare_constants}
-use Rattle.ob0_language_types.specs.EditLaws.{IsScalar}
+use Rattle.ob0_language_types.specs.EditLaws.{Is32BitScalar}
 use Rattle.ob0_language_types.specs.Environments.{environment_from_binding, meanings, newest_object}
 use Rattle.ob0_language_types.specs.Expressions.{Meanings, Object, a_constant, a_procedure, a_standard, a_type, a_variable, evaluate, evaluate_addends, evaluate_factor, evaluate_multipliers, evaluate_simple, evaluate_term, evaluate_selectors, object_value}
 use Rattle.ob0_language_types.specs.Typing.{constant_of, constant_value, constant_meanings, outcome_value, type_of}
@@ -37,10 +37,10 @@ use Rattle.ob0_types_table.proofs.TokenNumbers.{small_number, token_value_at-pas
 
 -- holds if an evaluation gives a scalar, or ends the run
 abbrev GivesScalar : Outcome Value → Type 0
-GivesScalar (succeeds_with v) = IsScalar v
+GivesScalar (succeeds_with v) = Is32BitScalar v
 GivesScalar (ends_run_with e) = Unit {0}
 
-scalar-then : (o : Outcome Value) (next : Value → Outcome Value) → GivesScalar o → ((v : Value) → IsScalar v → GivesScalar (next v)) → GivesScalar (o >>= next)
+scalar-then : (o : Outcome Value) (next : Value → Outcome Value) → GivesScalar o → ((v : Value) → Is32BitScalar v → GivesScalar (next v)) → GivesScalar (o >>= next)
 scalar-then (succeeds_with v) next h each = each v h
 scalar-then (ends_run_with e) next h each = tt
 
@@ -74,7 +74,7 @@ apply_relation-scalar relation.Equal (truth a) (truth b) = tt
 apply_relation-scalar relation.NotEqual (truth a) (truth b) = tt
 apply_relation-scalar _ _ _ = tt
 
-sign-scalar : (s : Option Sign) (v : Value) → IsScalar v → GivesScalar (apply_sign s v)
+sign-scalar : (s : Option Sign) (v : Value) → Is32BitScalar v → GivesScalar (apply_sign s v)
 sign-scalar None v h = h
 sign-scalar (Some sign.Plus) (number a) h = checked_number-scalar a
 sign-scalar (Some sign.Minus) (number a) h = checked_number-scalar (neg_ℤ a)
@@ -84,12 +84,12 @@ negate-scalar : (v : Value) → GivesScalar (negate v)
 negate-scalar (truth b) = tt
 negate-scalar _ = tt
 
-settled-scalar : (b : Bool) (x : Value) (o : Outcome Value) → IsScalar x → GivesScalar o → GivesScalar (elim b [ true ↦ succeeds_with x | false ↦ o ])
+settled-scalar : (b : Bool) (x : Value) (o : Outcome Value) → Is32BitScalar x → GivesScalar o → GivesScalar (elim b [ true ↦ succeeds_with x | false ↦ o ])
 settled-scalar true x o h k = h
 settled-scalar false x o h k = k
 
 -- A scalar has no parts.
-path-scalar : (steps : List Step) (v : Value) → IsScalar v → GivesScalar (or_stuck (value_at_path steps v))
+path-scalar : (steps : List Step) (v : Value) → Is32BitScalar v → GivesScalar (or_stuck (value_at_path steps v))
 path-scalar [] v h = h
 path-scalar (at_index i ∷ steps) (number n) h = tt
 path-scalar (at_field x ∷ steps) (number n) h = tt
@@ -103,7 +103,7 @@ path-scalar (s ∷ steps) (members k ms) h = absurd h
 -- holds if a name means a constant with a scalar value, or nothing
 abbrev HasScalar : Option (Object Place (Unit {0})) → Type 0
 HasScalar None = Unit {0}
-HasScalar (Some (a_constant v)) = IsScalar v
+HasScalar (Some (a_constant v)) = Is32BitScalar v
 HasScalar (Some (a_type s)) = ⊥
 HasScalar (Some (a_variable p)) = ⊥
 HasScalar (Some (a_procedure p)) = ⊥
@@ -117,7 +117,7 @@ object-scalar (Some (a_variable p)) h = absurd h
 object-scalar (Some (a_procedure p)) h = absurd h
 object-scalar (Some (a_standard p)) h = absurd h
 
-small-scalar : (n : ℕ) → n ≤ 2147483647 → IsScalar (number (pos n))
+small-scalar : (n : ℕ) → n ≤ 2147483647 → Is32BitScalar (number (pos n))
 small-scalar n low = lt-ltb n 2147483648 (omega (arith, low))
 
 module _ (f : ℕ → Name) (g : ℕ → ℕ) (small : (i : ℕ) → g i ≤ 2147483647) where
@@ -136,7 +136,7 @@ module _ (f : ℕ → Name) (g : ℕ → ℕ) (small : (i : ℕ) → g i ≤ 214
           scalar-then (evaluate_term meaning [] (mapped_tree f g t)) (λ x. apply_sign s x >>= (λ y. evaluate_addends meaning [] y (mapped_tree f g rest))) (term-scalar t)
           (λ x h. scalar-then (apply_sign s x) (λ y. evaluate_addends meaning [] y (mapped_tree f g rest)) (sign-scalar s x h) (λ y k. addends-scalar y k rest))
 
-      addends-scalar : (x : Value) → IsScalar x → (a : Tree ℕ (items addend)) → GivesScalar (evaluate_addends meaning [] x (mapped_tree f g a))
+      addends-scalar : (x : Value) → Is32BitScalar x → (a : Tree ℕ (items addend)) → GivesScalar (evaluate_addends meaning [] x (mapped_tree f g a))
       addends-scalar x h end = h
       addends-scalar x h (more (adds o t) rest) =
           scalar-then (elim (add_short_circuits o x) [ true ↦ succeeds_with x | false ↦ evaluate_term meaning [] (mapped_tree f g t) >>= add o x ]) (λ y. evaluate_addends meaning [] y (mapped_tree f g rest))
@@ -147,7 +147,7 @@ module _ (f : ℕ → Name) (g : ℕ → ℕ) (small : (i : ℕ) → g i ≤ 214
       term-scalar (product a rest) =
           scalar-then (evaluate_factor meaning [] (mapped_tree f g a)) (λ x. evaluate_multipliers meaning [] x (mapped_tree f g rest)) (factor-scalar a) (λ x h. multipliers-scalar x h rest)
 
-      multipliers-scalar : (x : Value) → IsScalar x → (a : Tree ℕ (items multiplier)) → GivesScalar (evaluate_multipliers meaning [] x (mapped_tree f g a))
+      multipliers-scalar : (x : Value) → Is32BitScalar x → (a : Tree ℕ (items multiplier)) → GivesScalar (evaluate_multipliers meaning [] x (mapped_tree f g a))
       multipliers-scalar x h end = h
       multipliers-scalar x h (more (multiplies o a) rest) =
           scalar-then (elim (multiply_short_circuits o x) [ true ↦ succeeds_with x | false ↦ evaluate_factor meaning [] (mapped_tree f g a) >>= multiply o x ]) (λ y. evaluate_multipliers meaning [] y (mapped_tree f g rest))
@@ -166,7 +166,7 @@ module _ (f : ℕ → Name) (g : ℕ → ℕ) (small : (i : ℕ) → g i ≤ 214
 
   -- holds if an object isn't a constant, or is one with a scalar value
   abbrev ScalarObject : Object (Unit {0}) (Unit {0}) → Type 0
-  ScalarObject (a_constant v) = IsScalar v
+  ScalarObject (a_constant v) = Is32BitScalar v
   ScalarObject (a_type s) = Unit {0}
   ScalarObject (a_variable p) = Unit {0}
   ScalarObject (a_procedure p) = Unit {0}
@@ -190,20 +190,20 @@ module _ (f : ℕ → Name) (g : ℕ → ℕ) (small : (i : ℕ) → g i ≤ 214
       elim (same_name x b.0) as (λ t. HasScalar (option_map a_constant (constant_of (newest_object (elim t [ true ↦ b ∷ known | false ↦ environment_from_binding naming_by_spelling known x ])))))
       [ true ↦ only-scalar b.1 h.0 | false ↦ looked-up known h.1 x ]
 
-  given-scalar : (o : Outcome Value) (v : Value) → GivesScalar o → outcome_value o ≡ Some v → IsScalar v
-  given-scalar (succeeds_with w) v h e = subst IsScalar (some_inverse e) h
+  given-scalar : (o : Outcome Value) (v : Value) → GivesScalar o → outcome_value o ≡ Some v → Is32BitScalar v
+  given-scalar (succeeds_with w) v h e = subst Is32BitScalar (some_inverse e) h
   given-scalar (ends_run_with x) v h e = absurd (cc)
 
-  constant-scalar : (known : ConstantEnvironment) → AllScalar known → (e : Tree ℕ expression) (v : Value) → constant_value (meanings naming_by_spelling known) (mapped_tree f g e) ≡ Some v → IsScalar v
+  constant-scalar : (known : ConstantEnvironment) → AllScalar known → (e : Tree ℕ expression) (v : Value) → constant_value (meanings naming_by_spelling known) (mapped_tree f g e) ≡ Some v → Is32BitScalar v
   unfolding constant_value
   constant-scalar known h e v q =
       let meaning : Meanings Name Place (Unit {0}) = constant_meanings (meanings naming_by_spelling known) in
       let found = then_some (type_of {P = Unit {0}} (constant_meanings (meanings naming_by_spelling known)) (mapped_tree f g e)) (λ s. outcome_value (evaluate {P = Unit {0}} (constant_meanings (meanings naming_by_spelling known)) [] (mapped_tree f g e))) v q in
       given-scalar (evaluate meaning [] (mapped_tree f g e)) v (expression-scalar meaning (looked-up known h) e) found.2
 
-  bound-scalar : (xs : List Name) (known : ConstantEnvironment) → AllScalar known → AllScalar (bind_names xs non_constant known)
+  bound-scalar : (xs : List Name) (known : ConstantEnvironment) → AllScalar known → AllScalar (bind_names xs non_constant_placeholder known)
   bound-scalar [] known h = h
-  bound-scalar (x ∷ xs) known h = bound-scalar xs ((x, non_constant) ∷ known) (tt, h)
+  bound-scalar (x ∷ xs) known h = bound-scalar xs ((x, non_constant_placeholder) ∷ known) (tt, h)
 
   declared-scalar : (cs : Tree ℕ (items constant)) (known inner : ConstantEnvironment) → AllScalar known → declare_constants naming_by_spelling known (mapped_tree f g cs) ≡ Some inner → AllScalar inner
   unfolding declare_constants
@@ -212,16 +212,16 @@ module _ (f : ℕ → Name) (g : ℕ → ℕ) (small : (i : ℕ) → g i ≤ 214
       let found = then_some (constant_value (meanings naming_by_spelling known) (mapped_tree f g e)) (λ v. declare_constants naming_by_spelling ((f x, a_constant v) ∷ known) (mapped_tree f g cs)) inner q in
       declared-scalar cs ((f x, a_constant found.0) ∷ known) inner (constant-scalar known h e found.0 found.1, h) found.2
 
-  among-scalar : (cs : Tree ℕ (items constant)) (known : ConstantEnvironment) (d k : ℕ) (w : Value) → AllScalar known → value_in_constants known d k (mapped_tree f g cs) ≡ Some w → IsScalar w
+  among-scalar : (cs : Tree ℕ (items constant)) (known : ConstantEnvironment) (d k : ℕ) (w : Value) → AllScalar known → value_in_constants known d k (mapped_tree f g cs) ≡ Some w → Is32BitScalar w
   unfolding value_in_constants
   among-scalar end known d k w h q = absurd (cc)
   among-scalar (more (declares_constant x e) cs) known d k w h q =
       let found = then_some (constant_value (meanings naming_by_spelling known) (mapped_tree f g e)) (λ v. if k == d then Some v else value_in_constants ((f x, a_constant v) ∷ known) d (suc k) (mapped_tree f g cs)) w q in
       let scalar_so = constant-scalar known h e found.0 found.1 in
-      (elim (k == d) as (λ b. (if b then Some found.0 else value_in_constants ((f x, a_constant found.0) ∷ known) d (suc k) (mapped_tree f g cs)) ≡ Some w → IsScalar w)
-      [ true ↦ λ e. subst IsScalar (some_inverse e) scalar_so | false ↦ λ e. among-scalar cs ((f x, a_constant found.0) ∷ known) d (suc k) w (scalar_so, h) e ]) found.2
+      (elim (k == d) as (λ b. (if b then Some found.0 else value_in_constants ((f x, a_constant found.0) ∷ known) d (suc k) (mapped_tree f g cs)) ≡ Some w → Is32BitScalar w)
+      [ true ↦ λ e. subst Is32BitScalar (some_inverse e) scalar_so | false ↦ λ e. among-scalar cs ((f x, a_constant found.0) ∷ known) d (suc k) w (scalar_so, h) e ]) found.2
 
-  section-scalar : (cs : Tree ℕ (maybe constants)) (known : ConstantEnvironment) (d k : ℕ) (w : Value) → AllScalar known → value_in_constants known d k (section_constants (mapped_tree f g cs)) ≡ Some w → IsScalar w
+  section-scalar : (cs : Tree ℕ (maybe constants)) (known : ConstantEnvironment) (d k : ℕ) (w : Value) → AllScalar known → value_in_constants known d k (section_constants (mapped_tree f g cs)) ≡ Some w → Is32BitScalar w
   section-scalar none known d k w h q = among-scalar end known d k w h q
   section-scalar (one (declares_constants cs)) known d k w h q = among-scalar cs known d k w h q
 
@@ -233,44 +233,44 @@ module _ (f : ℕ → Name) (g : ℕ → ℕ) (small : (i : ℕ) → g i ≤ 214
   chosen true x y P a h k e = h a e
   chosen false x y P a h k e = k a e
 
-  nothing : (w : Value) → None ≡ Some w → IsScalar w
+  nothing : (w : Value) → None ≡ Some w → Is32BitScalar w
   nothing w e = absurd (cc)
 
   mutual
     unfolding value_in_block
 
-    block-scalar : (b : Tree ℕ block) (known : ConstantEnvironment) (d k : ℕ) (w : Value) → AllScalar known → value_in_block known d k (mapped_tree f g b) ≡ Some w → IsScalar w
+    block-scalar : (b : Tree ℕ block) (known : ConstantEnvironment) (d k : ℕ) (w : Value) → AllScalar known → value_in_block known d k (mapped_tree f g b) ≡ Some w → Is32BitScalar w
     block-scalar (forms_block (declares cs ts vs ps) statements) known d k w h q =
         let whole = mapped_tree f g (forms_block (declares cs ts vs ps) statements) in
         let more_names = declared_type_names (section_types (mapped_tree f g ts)) ++ variable_names (section_variables (mapped_tree f g vs)) in
-        let others = option_and_then (λ inner. value_in_procedures (bind_names more_names non_constant inner) d (first_procedure_ordinal k whole) (mapped_tree f g ps)) (declare_constants naming_by_spelling known (section_constants (mapped_tree f g cs))) in
-        chosen (nat_lt d (first_type_ordinal k whole)) (value_in_constants known d k (section_constants (mapped_tree f g cs))) (if nat_lt d (first_procedure_ordinal k whole) then None else others) IsScalar w
+        let others = option_and_then (λ inner. value_in_procedures (bind_names more_names non_constant_placeholder inner) d (first_procedure_ordinal k whole) (mapped_tree f g ps)) (declare_constants naming_by_spelling known (section_constants (mapped_tree f g cs))) in
+        chosen (nat_lt d (first_type_ordinal k whole)) (value_in_constants known d k (section_constants (mapped_tree f g cs))) (if nat_lt d (first_procedure_ordinal k whole) then None else others) Is32BitScalar w
         (λ v e. section-scalar cs known d k v h e)
-        (λ v e. chosen (nat_lt d (first_procedure_ordinal k whole)) None others IsScalar v nothing
+        (λ v e. chosen (nat_lt d (first_procedure_ordinal k whole)) None others Is32BitScalar v nothing
         (λ u p.
-        let found = then_some (declare_constants naming_by_spelling known (section_constants (mapped_tree f g cs))) (λ inner. value_in_procedures (bind_names more_names non_constant inner) d (first_procedure_ordinal k whole) (mapped_tree f g ps)) u p in
-        procedures-scalar ps (bind_names more_names non_constant found.0) d (first_procedure_ordinal k whole) u (bound-scalar more_names found.0 (section-declared cs known found.0 h found.1)) found.2)
+        let found = then_some (declare_constants naming_by_spelling known (section_constants (mapped_tree f g cs))) (λ inner. value_in_procedures (bind_names more_names non_constant_placeholder inner) d (first_procedure_ordinal k whole) (mapped_tree f g ps)) u p in
+        procedures-scalar ps (bind_names more_names non_constant_placeholder found.0) d (first_procedure_ordinal k whole) u (bound-scalar more_names found.0 (section-declared cs known found.0 h found.1)) found.2)
         e) q
 
-    procedures-scalar : (ps : Tree ℕ (items procedure)) (known : ConstantEnvironment) (d k : ℕ) (w : Value) → AllScalar known → value_in_procedures known d k (mapped_tree f g ps) ≡ Some w → IsScalar w
+    procedures-scalar : (ps : Tree ℕ (items procedure)) (known : ConstantEnvironment) (d k : ℕ) (w : Value) → AllScalar known → value_in_procedures known d k (mapped_tree f g ps) ≡ Some w → Is32BitScalar w
     procedures-scalar end known d k w h q = absurd (cc)
     procedures-scalar (more p rest) known d k w h q =
-        let inner : ConstantEnvironment = (procedure_name (mapped_tree f g p), non_constant) ∷ known in
-        chosen (nat_lt d (ordinal_after_procedure (suc k) (mapped_tree f g p))) (value_in_procedure inner d (suc k) (mapped_tree f g p)) (value_in_procedures inner d (ordinal_after_procedure (suc k) (mapped_tree f g p)) (mapped_tree f g rest)) IsScalar w
+        let inner : ConstantEnvironment = (procedure_name (mapped_tree f g p), non_constant_placeholder) ∷ known in
+        chosen (nat_lt d (ordinal_after_procedure (suc k) (mapped_tree f g p))) (value_in_procedure inner d (suc k) (mapped_tree f g p)) (value_in_procedures inner d (ordinal_after_procedure (suc k) (mapped_tree f g p)) (mapped_tree f g rest)) Is32BitScalar w
         (λ v e. procedure-scalar p inner d (suc k) v (tt, h) e)
         (λ v e. procedures-scalar rest inner d (ordinal_after_procedure (suc k) (mapped_tree f g p)) v (tt, h) e) q
 
-    procedure-scalar : (p : Tree ℕ (item procedure)) (known : ConstantEnvironment) (d k : ℕ) (w : Value) → AllScalar known → value_in_procedure known d k (mapped_tree f g p) ≡ Some w → IsScalar w
+    procedure-scalar : (p : Tree ℕ (item procedure)) (known : ConstantEnvironment) (d k : ℕ) (w : Value) → AllScalar known → value_in_procedure known d k (mapped_tree f g p) ≡ Some w → Is32BitScalar w
     procedure-scalar (declares_procedure x fs b closing) known d k w h q =
         let ns = formal_names (formal_sections (mapped_tree f g fs)) in
-        chosen (nat_lt d (ordinal_after_names k ns)) None (value_in_block (bind_names ns non_constant known) d (ordinal_after_names k ns) (mapped_tree f g b)) IsScalar w
+        chosen (nat_lt d (ordinal_after_names k ns)) None (value_in_block (bind_names ns non_constant_placeholder known) d (ordinal_after_names k ns) (mapped_tree f g b)) Is32BitScalar w
         nothing
-        (λ v e. block-scalar b (bind_names ns non_constant known) d (ordinal_after_names k ns) v (bound-scalar ns known h) e) q
+        (λ v e. block-scalar b (bind_names ns non_constant_placeholder known) d (ordinal_after_names k ns) v (bound-scalar ns known h) e) q
 
-  module-scalar : (m : Tree ℕ module_text) (d : ℕ) (w : Value) → value_of_constant (mapped_tree f g m) d ≡ Some w → IsScalar w
+  module-scalar : (m : Tree ℕ module_text) (d : ℕ) (w : Value) → value_of_constant (mapped_tree f g m) d ≡ Some w → Is32BitScalar w
   unfolding value_of_constant
   module-scalar (is_module x b closing) d w q =
-      chosen (nat_lt d 7) None (value_in_block predeclared_constants d 7 (mapped_tree f g b)) IsScalar w nothing
+      chosen (nat_lt d 7) None (value_in_block predeclared_constants d 7 (mapped_tree f g b)) Is32BitScalar w nothing
       (λ v e. block-scalar b predeclared_constants d 7 v (tt, (tt, (tt, (tt, (tt, (tt, (tt, tt))))))) e) q
 
 -- ---- texts
@@ -285,11 +285,11 @@ value-small s scan i = go (nat_lt i (length s.tokens)) refl
     go false e = subst (λ n. n ≤ 2147483647) (sym (token_value_at-past s i (ltb-false i (length s.tokens) e))) (omega arith)
 
 -- Each constant of a text has a scalar value.
-pub constant_scalar : (s : TextWithTokens) → IsScan s → (m : Tree ℕ module_text) (d : ℕ) (w : Value) → value_of_constant (mapped_tree (token_text_at s) (token_value_at s) m) d ≡ Some w → IsScalar w
+pub constant_scalar : (s : TextWithTokens) → IsScan s → (m : Tree ℕ module_text) (d : ℕ) (w : Value) → value_of_constant (mapped_tree (token_text_at s) (token_value_at s) m) d ≡ Some w → Is32BitScalar w
 constant_scalar s scan m d w e = module-scalar (token_text_at s) (token_value_at s) (value-small s scan) m d w e
 
 -- The code has a scalar for each scalar value.
-pub scalar_of : (w : Value) → IsScalar w → (v : Scalar) × (scalar_value v ≡ w)
+pub scalar_of : (w : Value) → Is32BitScalar w → (v : Scalar) × (scalar_value v ≡ w)
 scalar_of (number n) h = (scalar.Number n, refl)
 scalar_of (truth b) h = (scalar.Truth b, refl)
 scalar_of (elements vs) h = absurd h

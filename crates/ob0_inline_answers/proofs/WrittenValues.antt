@@ -10,7 +10,7 @@ use Rattle.std.proofs.lemmas.Str.{IsAscii-append, IsUtf8-from_ascii}
 use Rattle.ob0_edits_tokens.specs.Replaced.{MayReplaceIdentifier}
 use Rattle.ob0_edits_tokens.specs.Written.{IsInt32, number_text}
 use Rattle.ob0_edits_tokens.proofs.Values.{a_truth, a_value}
-use Rattle.ob0_language_types.specs.EditLaws.{IsScalar}
+use Rattle.ob0_language_types.specs.EditLaws.{Is32BitScalar}
 use Rattle.ob0_language_values.specs.declared.scalar.Scalar.{Scalar}
 use Rattle.ob0_language_values.specs.declared.scalar.Scalar.TheVariants as scalar
 use Rattle.ob0_language_values.specs.Scalars.{scalar_value}
@@ -55,7 +55,7 @@ number_short (negsuc n) h =
     elim (nat_lt n 2147483647) as (λ b. length (if b then codes "(-" ++ (decimal (suc n) ++ codes ")") else codes "(-2147483647 - 1)") ≤ 1048576)
     [ true ↦ negative_short n h | false ↦ omega arith ]
 
-pub writable : (v : Scalar) → IsScalar (scalar_value v) → IsWritable v
+pub writable : (v : Scalar) → Is32BitScalar (scalar_value v) → IsWritable v
 writable (scalar.Number n) h =
     let small = int32 n h in record { utf8 = IsUtf8-from_ascii (number_text n) (number_ascii n small); short = number_short n small; replaces = a_value n small }
 writable (scalar.Truth true) h = record { utf8 = IsUtf8-from_ascii (codes "TRUE") (ascii_of (codes "TRUE") refl); short = omega arith; replaces = a_truth true }

@@ -10,13 +10,13 @@ use Rattle.ob0_language_types.specs.Expressions.{Object, a_constant, a_procedure
 use Rattle.ob0_language_types.specs.Typing.{constant_of, constant_value, constructor_count, denoted_type, type_of_type_object}
 use Rattle.ob0_language_types.specs.WellTyped.{Mode, TypeEnvironment, bind_typed_parameters, by_place, by_value}
 use Rattle.ob0_language_values.specs.Values.{FieldShapes, Shape, Store, Value, array_shape, copies, elements, initial_value, initial_members, members, next_field_shape, next_member, next_value, no_field_shape, record_shape}
-use Rattle.ob0_language_runs.specs.Runs.{Activation, ProcedureText, Frame, Parameter, allocate, bind_parameter, bind_parameters, declare_block, declare_procedures, declare_variables, formal_modes, parameters, object_for_statements, meanings_for_statements, declare_procedures_in_frame}
-use Rattle.ob0_language_fields.specs.Fields.{FieldRenaming, environment_after_heading, environment_after_variables, parameters_of, rename_fields_in_block, rename_fields_in_procedure, rename_fields_in_procedures, rename_fields_in_sections, rename_fields_in_type, rename_fields_in_types, rename_fields_in_variables}
+use Rattle.ob0_language_runs.specs.Runs.{Activation, ProcedureText, Frame, Parameter, add_variables_to_frame, bind_parameter, bind_parameters, declare_block, declare_procedures, declare_variables, formal_modes, parameters, object_for_statements, meanings_for_statements, declare_procedures_in_frame}
+use Rattle.ob0_language_fields.specs.Fields.{FieldRenaming, environment_after_heading, environment_after_variables, typed_parameters_of_procedure, rename_fields_in_block, rename_fields_in_procedure, rename_fields_in_procedures, rename_fields_in_parameter_sections, rename_fields_in_type, rename_fields_in_types, rename_fields_in_variables}
 use Rattle.ob0_language_fields.proofs.MeaningsByName.{named}
 use Rattle.ob0_language_field_laws.proofs.Apart.{fields_by, shape_by}
 use Rattle.ob0_language_field_laws.proofs.FieldRenamedExecution.{Given, Modes, argument_by, place_given, value_given}
 use Rattle.ob0_language_field_laws.proofs.FieldRenamedExpressions.{Scalar, Thing, Things, active, constant_thing, procedure_thing, scalar_value, standard_thing, thing_by, type_thing, variable_thing}
-use Rattle.ob0_language_field_laws.proofs.FieldRenamedModules.{procedure_constructor_count-rename_fields, procedure_formals-rename_fields, procedure_name-rename_fields, section_mode-rename_fields, parameter_section_names-rename_fields, section_types-rename_fields, section_variables-rename_fields, types_count-rename_fields, variables_count-rename_fields}
+use Rattle.ob0_language_field_laws.proofs.FieldRenamedModules.{procedure_constructor_count-rename_fields, procedure_formals-rename_fields, procedure_name-rename_fields, parameter_section_mode-rename_fields, parameter_section_names-rename_fields, section_types-rename_fields, section_variables-rename_fields, types_count-rename_fields, variables_count-rename_fields}
 use Rattle.ob0_language_field_laws.proofs.FieldRenamedTypes.{constant_value-alike, constructor_count-rename_fields, denoted_type-rename_fields}
 use Rattle.ob0_language_field_laws.proofs.ScalarConstants.{constant_value-scalar}
 use Rattle.ob0_language_field_laws.proofs.Values.{Spot, members_by, store_by, tagged, value_by, values_by}
@@ -62,9 +62,9 @@ object-as l scene x = ap newest_object (environment_from_binding-as l scene x) �
 
 -- The modes of a procedure's parameters are the same if fields have other names.
 
-pub formal_modes-rename_fields : (l : FieldRenaming) (k : ℕ) (fs : Tree Name (items further_section)) → formal_modes (rename_fields_in_sections l k fs) ≡ formal_modes fs
+pub formal_modes-rename_fields : (l : FieldRenaming) (k : ℕ) (fs : Tree Name (items further_section)) → formal_modes (rename_fields_in_parameter_sections l k fs) ≡ formal_modes fs
 formal_modes-rename_fields l k end = refl
-formal_modes-rename_fields l k (more (then_section f) fs) = λ i. map (λ x. section_mode-rename_fields l k f i) (parameter_section_names-rename_fields l k f i) ++ formal_modes-rename_fields l (k + constructor_count (parameter_section_type f)) fs i
+formal_modes-rename_fields l k (more (then_section f) fs) = λ i. map (λ x. parameter_section_mode-rename_fields l k f i) (parameter_section_names-rename_fields l k f i) ++ formal_modes-rename_fields l (k + constructor_count (parameter_section_type f)) fs i
 
 abbrev pub thing_modes : Thing Text → Thing Modes
 thing_modes (type_thing s) = type_thing s
@@ -203,24 +203,24 @@ abbrev pub allocated : List Name → Value → Stage → Stage
 allocated [] v f = f
 allocated (x ∷ xs) v f = allocated xs v record { scene = (x, variable_thing record { variable = length f.store; moves = [] }) ∷ f.scene; store = f.store ++ v ∷ [] }
 
-pub allocate-by : (l : FieldRenaming) (xs : List Name) (v : Value) (f : Stage) → allocate xs (value_by l v) (frame_by l f) ≡ frame_by l (allocated xs v f)
-allocate-by l [] v f = refl
-allocate-by l (x ∷ xs) v f =
-    (λ i. allocate xs (value_by l v) record { env = (x, a_variable record { variable = length-map f.store (value_by l) i; path = [] }) ∷ env_as l f.scene; store = sym (map-append (value_by l) f.store (v ∷ [])) i })
-    ∙ allocate-by l xs v record { scene = (x, variable_thing record { variable = length f.store; moves = [] }) ∷ f.scene; store = f.store ++ v ∷ [] }
+pub add_variables_to_frame-by : (l : FieldRenaming) (xs : List Name) (v : Value) (f : Stage) → add_variables_to_frame xs (value_by l v) (frame_by l f) ≡ frame_by l (allocated xs v f)
+add_variables_to_frame-by l [] v f = refl
+add_variables_to_frame-by l (x ∷ xs) v f =
+    (λ i. add_variables_to_frame xs (value_by l v) record { env = (x, a_variable record { variable = length-map f.store (value_by l) i; path = [] }) ∷ env_as l f.scene; store = sym (map-append (value_by l) f.store (v ∷ [])) i })
+    ∙ add_variables_to_frame-by l xs v record { scene = (x, variable_thing record { variable = length f.store; moves = [] }) ∷ f.scene; store = f.store ++ v ∷ [] }
 
-begun-by : (l : FieldRenaming) (xs : List Name) (s : Shape) (f : Stage) → allocate xs (initial_value (shape_by l s)) (frame_by l f) ≡ frame_by l (allocated xs (initial_value s) f)
-begun-by l xs s f = ap (λ v. allocate xs v (frame_by l f)) (initial-by l s) ∙ allocate-by l xs (initial_value s) f
+begun-by : (l : FieldRenaming) (xs : List Name) (s : Shape) (f : Stage) → add_variables_to_frame xs (initial_value (shape_by l s)) (frame_by l f) ≡ frame_by l (allocated xs (initial_value s) f)
+begun-by l xs s f = ap (λ v. add_variables_to_frame xs v (frame_by l f)) (initial-by l s) ∙ add_variables_to_frame-by l xs (initial_value s) f
 
 pub declare_variables-both : (l : FieldRenaming) (k : ℕ) (gs : Tree Name (items variable)) (f : Stage) → FramesBoth l (declare_variables naming_by_spelling k (rename_fields_in_variables tagged k gs) (frame_by tagged f)) (declare_variables naming_by_spelling k (rename_fields_in_variables l k gs) (frame_by l f))
 unfolding declare_variables
 declare_variables-both l k end f = (Some f, refl, refl)
 declare_variables-both l k (more (declares_variable ns u) gs) f =
-    subst₂ (λ m n. FramesBoth l (option_and_then (λ s. declare_variables naming_by_spelling (k + m) (rename_fields_in_variables tagged (k + constructor_count u) gs) (allocate (names_in_list ns) (initial_value s) (frame_by tagged f))) (denoted_type (meanings naming_by_spelling (env_as tagged f.scene)) k (rename_fields_in_type tagged k u)))
-    (option_and_then (λ s. declare_variables naming_by_spelling (k + n) (rename_fields_in_variables l (k + constructor_count u) gs) (allocate (names_in_list ns) (initial_value s) (frame_by l f))) (denoted_type (meanings naming_by_spelling (env_as l f.scene)) k (rename_fields_in_type l k u))))
+    subst₂ (λ m n. FramesBoth l (option_and_then (λ s. declare_variables naming_by_spelling (k + m) (rename_fields_in_variables tagged (k + constructor_count u) gs) (add_variables_to_frame (names_in_list ns) (initial_value s) (frame_by tagged f))) (denoted_type (meanings naming_by_spelling (env_as tagged f.scene)) k (rename_fields_in_type tagged k u)))
+    (option_and_then (λ s. declare_variables naming_by_spelling (k + n) (rename_fields_in_variables l (k + constructor_count u) gs) (add_variables_to_frame (names_in_list ns) (initial_value s) (frame_by l f))) (denoted_type (meanings naming_by_spelling (env_as l f.scene)) k (rename_fields_in_type l k u))))
     (sym (constructor_count-rename_fields tagged k u)) (sym (constructor_count-rename_fields l k u))
-    (both-then (shape_by tagged) (shape_by l) (frame_by tagged) (frame_by l) (λ s. declare_variables naming_by_spelling (k + constructor_count u) (rename_fields_in_variables tagged (k + constructor_count u) gs) (allocate (names_in_list ns) (initial_value s) (frame_by tagged f)))
-    (λ s. declare_variables naming_by_spelling (k + constructor_count u) (rename_fields_in_variables l (k + constructor_count u) gs) (allocate (names_in_list ns) (initial_value s) (frame_by l f)))
+    (both-then (shape_by tagged) (shape_by l) (frame_by tagged) (frame_by l) (λ s. declare_variables naming_by_spelling (k + constructor_count u) (rename_fields_in_variables tagged (k + constructor_count u) gs) (add_variables_to_frame (names_in_list ns) (initial_value s) (frame_by tagged f)))
+    (λ s. declare_variables naming_by_spelling (k + constructor_count u) (rename_fields_in_variables l (k + constructor_count u) gs) (add_variables_to_frame (names_in_list ns) (initial_value s) (frame_by l f)))
     (denoted_type (meanings naming_by_spelling (env_as tagged f.scene)) k (rename_fields_in_type tagged k u)) (denoted_type (meanings naming_by_spelling (env_as l f.scene)) k (rename_fields_in_type l k u)) (denoted_type-both l f.scene k u)
     (λ s. subst₂ (λ a b. FramesBoth l (declare_variables naming_by_spelling (k + constructor_count u) (rename_fields_in_variables tagged (k + constructor_count u) gs) a) (declare_variables naming_by_spelling (k + constructor_count u) (rename_fields_in_variables l (k + constructor_count u) gs) b))
     (sym (begun-by tagged (names_in_list ns) s f)) (sym (begun-by l (names_in_list ns) s f)) (declare_variables-both l (k + constructor_count u) gs (allocated (names_in_list ns) (initial_value s) f))))
@@ -231,13 +231,13 @@ abbrev pub declared_procedures : ℕ → Tree Name (items procedure) → TypeEnv
 declared_procedures k end env scene = scene
 declared_procedures k (more p rest) env scene =
     declared_procedures (k + procedure_constructor_count p) rest (environment_after_heading env k p)
-    ((procedure_name p, procedure_thing record { first = k; checked = bind_typed_parameters (parameters_of env k p) (environment_after_heading env k p); text = p }) ∷ scene)
+    ((procedure_name p, procedure_thing record { first = k; checked = bind_typed_parameters (typed_parameters_of_procedure env k p) (environment_after_heading env k p); text = p }) ∷ scene)
 
 pub declare_procedures-by : (l : FieldRenaming) (k : ℕ) (ps : Tree Name (items procedure)) (env : TypeEnvironment Name) (scene : Scene)
     → declare_procedures k (rename_fields_in_procedures l env k ps) (env_as l scene) ≡ env_as l (declared_procedures k ps env scene)
 declare_procedures-by l k end env scene = refl
 declare_procedures-by l k (more p rest) env scene =
-    let e : TypeEnvironment Name = bind_typed_parameters (parameters_of env k p) (environment_after_heading env k p) in
+    let e : TypeEnvironment Name = bind_typed_parameters (typed_parameters_of_procedure env k p) (environment_after_heading env k p) in
     (λ i. declare_procedures (k + procedure_constructor_count-rename_fields l e k p i) (rename_fields_in_procedures l (environment_after_heading env k p) (k + procedure_constructor_count p) rest)
     ((procedure_name-rename_fields l e k p i, a_procedure record { constructors_before = k; text = rename_fields_in_procedure l e k p }) ∷ env_as l scene))
     ∙ declare_procedures-by l (k + procedure_constructor_count p) rest (environment_after_heading env k p) ((procedure_name p, procedure_thing record { first = k; checked = e; text = p }) ∷ scene)
@@ -281,13 +281,13 @@ declare_block-both l checked k (forms_block (declares cs ts vs ps) statements) f
 
 -- Binding parameters to arguments does the same in both runs.
 
-pub parameters-rename_fields : (l : FieldRenaming) (k : ℕ) (fs : Tree Name (items further_section)) → parameters (rename_fields_in_sections l k fs) ≡ parameters fs
+pub parameters-rename_fields : (l : FieldRenaming) (k : ℕ) (fs : Tree Name (items further_section)) → parameters (rename_fields_in_parameter_sections l k fs) ≡ parameters fs
 parameters-rename_fields l k end = refl
-parameters-rename_fields l k (more (then_section f) fs) = λ i. map (λ x. record { mode = section_mode-rename_fields l k f i; name = x }) (parameter_section_names-rename_fields l k f i) ++ parameters-rename_fields l (k + constructor_count (parameter_section_type f)) fs i
+parameters-rename_fields l k (more (then_section f) fs) = λ i. map (λ x. record { mode = parameter_section_mode-rename_fields l k f i; name = x }) (parameter_section_names-rename_fields l k f i) ++ parameters-rename_fields l (k + constructor_count (parameter_section_type f)) fs i
 
 bind_parameter-both : (l : FieldRenaming) (m : Mode) (x : Name) (a : Given) (f : Stage) → FramesBoth l (bind_parameter m x (argument_by tagged a) (frame_by tagged f)) (bind_parameter m x (argument_by l a) (frame_by l f))
 bind_parameter-both l by_place x (place_given p) f = (Some record { scene = (x, variable_thing p) ∷ f.scene; store = f.store }, refl, refl)
-bind_parameter-both l by_value x (value_given v) f = (Some (allocated (x ∷ []) v f), ap Some (allocate-by tagged (x ∷ []) v f), ap Some (allocate-by l (x ∷ []) v f))
+bind_parameter-both l by_value x (value_given v) f = (Some (allocated (x ∷ []) v f), ap Some (add_variables_to_frame-by tagged (x ∷ []) v f), ap Some (add_variables_to_frame-by l (x ∷ []) v f))
 bind_parameter-both l _ x _ f = (None, refl, refl)
 
 pub bind_parameters-both : (l : FieldRenaming) (ps : List (Parameter Name)) (args : List Given) (f : Stage) → FramesBoth l (bind_parameters ps (map (argument_by tagged) args) (frame_by tagged f)) (bind_parameters ps (map (argument_by l) args) (frame_by l f))

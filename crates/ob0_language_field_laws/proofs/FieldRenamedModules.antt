@@ -7,9 +7,9 @@ use Rattle.ob0_language_types.specs.Declarations.{constructors_before_procedure_
 use Rattle.ob0_language_types.specs.Environments.{environment_from_binding, meanings, newest_object, outermost_environment}
 use Rattle.ob0_language_types.specs.Expressions.{Object, a_constant, a_procedure, a_type, a_variable}
 use Rattle.ob0_language_types.specs.Typing.{constant_of, constant_value, constructor_count, denoted_type, type_of_type_object}
-use Rattle.ob0_language_types.specs.WellTyped.{Mode, Signature, TypeEnvironment, TypedParameter, bind_names, bind_typed_parameters, block_is_well_typed, body_is_well_typed, declare_typed_variables, passes_type_check, bind_procedure, option_satisfies, procedure_is_well_typed, procedures_are_well_typed, section_mode, sequence_is_well_typed, typed_parameters}
+use Rattle.ob0_language_types.specs.WellTyped.{Mode, Signature, TypeEnvironment, TypedParameter, bind_names, bind_typed_parameters, block_is_well_typed, body_is_well_typed, declare_typed_variables, passes_type_check, bind_procedure, option_satisfies, procedure_is_well_typed, procedures_are_well_typed, parameter_section_mode, sequence_is_well_typed, typed_parameters}
 use Rattle.ob0_language_values.specs.Values.{Shape}
-use Rattle.ob0_language_fields.specs.Fields.{FieldRenaming, environment_after_heading, environment_after_procedures, environment_after_variables, parameters_of, rename_fields, rename_fields_in_block, rename_fields_in_formals, rename_fields_in_procedure, rename_fields_in_procedures, rename_fields_in_section, rename_fields_in_sections, rename_fields_in_type, rename_fields_in_type_section, rename_fields_in_types, rename_fields_in_variable_section, rename_fields_in_variables}
+use Rattle.ob0_language_fields.specs.Fields.{FieldRenaming, environment_after_heading, environment_after_procedures, environment_after_variables, typed_parameters_of_procedure, rename_fields, rename_fields_in_block, rename_fields_in_formals, rename_fields_in_procedure, rename_fields_in_procedures, rename_fields_in_parameter_section, rename_fields_in_parameter_sections, rename_fields_in_type, rename_fields_in_type_section, rename_fields_in_types, rename_fields_in_variable_section, rename_fields_in_variables}
 use Rattle.ob0_language_fields.proofs.MeaningsByName.{named, parameter_of, object_in}
 use Rattle.ob0_language_field_laws.specs.FieldLaws.{KeepsFieldsDistinct, FieldRenamingKeepsTypeCheck}
 use Rattle.ob0_language_field_laws.proofs.Apart.{constant_of-by, each-then, formal_by, map-then, object_by, shape_by, type_of_type_object-by}
@@ -65,23 +65,23 @@ pub section_variables-rename_fields : (l : FieldRenaming) (k : ℕ) (vs : Tree N
 section_variables-rename_fields l k none = refl
 section_variables-rename_fields l k (one (declares_variables vs)) = refl
 
-pub formal_sections-rename_fields : (l : FieldRenaming) (k : ℕ) (fs : Tree Name (maybe formals)) → formal_sections (rename_fields_in_formals l k fs) ≡ rename_fields_in_sections l k (formal_sections fs)
+pub formal_sections-rename_fields : (l : FieldRenaming) (k : ℕ) (fs : Tree Name (maybe formals)) → formal_sections (rename_fields_in_formals l k fs) ≡ rename_fields_in_parameter_sections l k (formal_sections fs)
 formal_sections-rename_fields l k (one no_formals) = refl
 formal_sections-rename_fields l k _ = refl
 
-pub parameter_section_type-rename_fields : (l : FieldRenaming) (k : ℕ) (f : Tree Name section) → parameter_section_type (rename_fields_in_section l k f) ≡ rename_fields_in_type l k (parameter_section_type f)
+pub parameter_section_type-rename_fields : (l : FieldRenaming) (k : ℕ) (f : Tree Name section) → parameter_section_type (rename_fields_in_parameter_section l k f) ≡ rename_fields_in_type l k (parameter_section_type f)
 parameter_section_type-rename_fields l k (value_section ns u) = refl
 parameter_section_type-rename_fields l k (variable_section ns u) = refl
 
-pub parameter_section_names-rename_fields : (l : FieldRenaming) (k : ℕ) (f : Tree Name section) → parameter_section_names (rename_fields_in_section l k f) ≡ parameter_section_names f
+pub parameter_section_names-rename_fields : (l : FieldRenaming) (k : ℕ) (f : Tree Name section) → parameter_section_names (rename_fields_in_parameter_section l k f) ≡ parameter_section_names f
 parameter_section_names-rename_fields l k (value_section ns u) = refl
 parameter_section_names-rename_fields l k (variable_section ns u) = refl
 
-pub section_mode-rename_fields : (l : FieldRenaming) (k : ℕ) (f : Tree Name section) → section_mode (rename_fields_in_section l k f) ≡ section_mode f
-section_mode-rename_fields l k (value_section ns u) = refl
-section_mode-rename_fields l k (variable_section ns u) = refl
+pub parameter_section_mode-rename_fields : (l : FieldRenaming) (k : ℕ) (f : Tree Name section) → parameter_section_mode (rename_fields_in_parameter_section l k f) ≡ parameter_section_mode f
+parameter_section_mode-rename_fields l k (value_section ns u) = refl
+parameter_section_mode-rename_fields l k (variable_section ns u) = refl
 
-pub procedure_formals-rename_fields : (l : FieldRenaming) (env : TypeEnvironment Name) (k : ℕ) (p : Tree Name (item procedure)) → procedure_formals (rename_fields_in_procedure l env k p) ≡ rename_fields_in_sections l k (procedure_formals p)
+pub procedure_formals-rename_fields : (l : FieldRenaming) (env : TypeEnvironment Name) (k : ℕ) (p : Tree Name (item procedure)) → procedure_formals (rename_fields_in_procedure l env k p) ≡ rename_fields_in_parameter_sections l k (procedure_formals p)
 procedure_formals-rename_fields l env k (declares_procedure x fs b closing) = formal_sections-rename_fields l k fs
 
 pub procedure_name-rename_fields : (l : FieldRenaming) (env : TypeEnvironment Name) (k : ℕ) (p : Tree Name (item procedure)) → procedure_name (rename_fields_in_procedure l env k p) ≡ procedure_name p
@@ -89,7 +89,7 @@ procedure_name-rename_fields l env k (declares_procedure x fs b closing) = refl
 
 -- The number of words ARRAY and RECORD is the same if fields have other names.
 
-pub section_constructors-rename_fields : (l : FieldRenaming) (k : ℕ) (f : Tree Name section) → constructor_count (parameter_section_type (rename_fields_in_section l k f)) ≡ constructor_count (parameter_section_type f)
+pub section_constructors-rename_fields : (l : FieldRenaming) (k : ℕ) (f : Tree Name section) → constructor_count (parameter_section_type (rename_fields_in_parameter_section l k f)) ≡ constructor_count (parameter_section_type f)
 section_constructors-rename_fields l k f = ap constructor_count (parameter_section_type-rename_fields l k f) ∙ constructor_count-rename_fields l k (parameter_section_type f)
 
 pub types_constructor_count-rename_fields : (l : FieldRenaming) (k : ℕ) (ds : Tree Name (items type_definition)) → types_constructor_count (rename_fields_in_types l k ds) ≡ types_constructor_count ds
@@ -100,7 +100,7 @@ pub variables_constructor_count-rename_fields : (l : FieldRenaming) (k : ℕ) (g
 variables_constructor_count-rename_fields l k end = refl
 variables_constructor_count-rename_fields l k (more (declares_variable ns u) gs) = λ i. constructor_count-rename_fields l k u i + variables_constructor_count-rename_fields l (k + constructor_count u) gs i
 
-pub sections_constructors-rename_fields : (l : FieldRenaming) (k : ℕ) (fs : Tree Name (items further_section)) → formals_constructor_count (rename_fields_in_sections l k fs) ≡ formals_constructor_count fs
+pub sections_constructors-rename_fields : (l : FieldRenaming) (k : ℕ) (fs : Tree Name (items further_section)) → formals_constructor_count (rename_fields_in_parameter_sections l k fs) ≡ formals_constructor_count fs
 sections_constructors-rename_fields l k end = refl
 sections_constructors-rename_fields l k (more (then_section f) fs) = λ i. section_constructors-rename_fields l k f i + sections_constructors-rename_fields l (k + constructor_count (parameter_section_type f)) fs i
 
@@ -123,7 +123,7 @@ mutual
   pub procedures_constructor_count-rename_fields : (l : FieldRenaming) (env : TypeEnvironment Name) (k : ℕ) (ps : Tree Name (items procedure)) → procedures_constructor_count (rename_fields_in_procedures l env k ps) ≡ procedures_constructor_count ps
   procedures_constructor_count-rename_fields l env k end = refl
   procedures_constructor_count-rename_fields l env k (more p rest) = λ i.
-      procedure_constructor_count-rename_fields l (bind_typed_parameters (parameters_of env k p) (environment_after_heading env k p)) k p i
+      procedure_constructor_count-rename_fields l (bind_typed_parameters (typed_parameters_of_procedure env k p) (environment_after_heading env k p)) k p i
       + procedures_constructor_count-rename_fields l (environment_after_heading env k p) (k + procedure_constructor_count p) rest i
 
   pub procedure_constructor_count-rename_fields : (l : FieldRenaming) (env : TypeEnvironment Name) (k : ℕ) (p : Tree Name (item procedure)) → procedure_constructor_count (rename_fields_in_procedure l env k p) ≡ procedure_constructor_count p
@@ -163,21 +163,21 @@ parameters-by : (l : FieldRenaming) (m : Mode) (s : Shape) (xs : List Name) (res
 parameters-by l m s [] rest = refl
 parameters-by l m s (x ∷ xs) rest = λ i. parameter_of m (shape_by l s) x ∷ parameters-by l m s xs rest i
 
-pub typed_parameters-by : (l : FieldRenaming) (env : TypeEnvironment Name) (k : ℕ) (fs : Tree Name (items further_section)) → typed_parameters naming_by_spelling (env_by l env) k (rename_fields_in_sections l k fs) ≡ option_map (map (parameter_by l)) (typed_parameters naming_by_spelling env k fs)
+pub typed_parameters-by : (l : FieldRenaming) (env : TypeEnvironment Name) (k : ℕ) (fs : Tree Name (items further_section)) → typed_parameters naming_by_spelling (env_by l env) k (rename_fields_in_parameter_sections l k fs) ≡ option_map (map (parameter_by l)) (typed_parameters naming_by_spelling env k fs)
 unfolding typed_parameters
 typed_parameters-by l env k end = refl
 typed_parameters-by l env k (more (then_section f) fs) =
-    (λ i. option_and_then (λ s. option_and_then (λ rest. Some (map (parameter_of (section_mode-rename_fields l k f i) s) (parameter_section_names-rename_fields l k f i) ++ rest))
-    (typed_parameters naming_by_spelling (bind_names (parameter_section_names-rename_fields l k f i) (a_variable s) (env_by l env)) (k + section_constructors-rename_fields l k f i) (rename_fields_in_sections l (k + constructor_count (parameter_section_type f)) fs))) (denoted_type (meanings naming_by_spelling (env_by l env)) k (parameter_section_type-rename_fields l k f i)))
+    (λ i. option_and_then (λ s. option_and_then (λ rest. Some (map (parameter_of (parameter_section_mode-rename_fields l k f i) s) (parameter_section_names-rename_fields l k f i) ++ rest))
+    (typed_parameters naming_by_spelling (bind_names (parameter_section_names-rename_fields l k f i) (a_variable s) (env_by l env)) (k + section_constructors-rename_fields l k f i) (rename_fields_in_parameter_sections l (k + constructor_count (parameter_section_type f)) fs))) (denoted_type (meanings naming_by_spelling (env_by l env)) k (parameter_section_type-rename_fields l k f i)))
     ∙ map-then (shape_by l) (map (parameter_by l)) (denoted_type (meanings naming_by_spelling env) k (parameter_section_type f)) (denoted_type (meanings naming_by_spelling (env_by l env)) k (rename_fields_in_type l k (parameter_section_type f)))
-    (λ s. option_and_then (λ rest. Some (map (parameter_of (section_mode f) s) (parameter_section_names f) ++ rest)) (typed_parameters naming_by_spelling (bind_names (parameter_section_names f) (a_variable s) env) (k + constructor_count (parameter_section_type f)) fs))
-    (λ s. option_and_then (λ rest. Some (map (parameter_of (section_mode f) s) (parameter_section_names f) ++ rest)) (typed_parameters naming_by_spelling (bind_names (parameter_section_names f) (a_variable s) (env_by l env)) (k + constructor_count (parameter_section_type f)) (rename_fields_in_sections l (k + constructor_count (parameter_section_type f)) fs)))
+    (λ s. option_and_then (λ rest. Some (map (parameter_of (parameter_section_mode f) s) (parameter_section_names f) ++ rest)) (typed_parameters naming_by_spelling (bind_names (parameter_section_names f) (a_variable s) env) (k + constructor_count (parameter_section_type f)) fs))
+    (λ s. option_and_then (λ rest. Some (map (parameter_of (parameter_section_mode f) s) (parameter_section_names f) ++ rest)) (typed_parameters naming_by_spelling (bind_names (parameter_section_names f) (a_variable s) (env_by l env)) (k + constructor_count (parameter_section_type f)) (rename_fields_in_parameter_sections l (k + constructor_count (parameter_section_type f)) fs)))
     (denoted_type-by l env k (parameter_section_type f))
     (λ s. map-then (map (parameter_by l)) (map (parameter_by l)) (typed_parameters naming_by_spelling (bind_names (parameter_section_names f) (a_variable s) env) (k + constructor_count (parameter_section_type f)) fs)
-    (typed_parameters naming_by_spelling (bind_names (parameter_section_names f) (a_variable (shape_by l s)) (env_by l env)) (k + constructor_count (parameter_section_type f)) (rename_fields_in_sections l (k + constructor_count (parameter_section_type f)) fs))
-    (λ rest. Some (map (parameter_of (section_mode f) s) (parameter_section_names f) ++ rest)) (λ rest. Some (map (parameter_of (section_mode f) (shape_by l s)) (parameter_section_names f) ++ rest))
-    (ap (λ inner. typed_parameters naming_by_spelling inner (k + constructor_count (parameter_section_type f)) (rename_fields_in_sections l (k + constructor_count (parameter_section_type f)) fs)) (bind_names-by l (parameter_section_names f) (a_variable s) env) ∙ typed_parameters-by l (bind_names (parameter_section_names f) (a_variable s) env) (k + constructor_count (parameter_section_type f)) fs)
-    (λ rest i. Some (parameters-by l (section_mode f) s (parameter_section_names f) rest i)))
+    (typed_parameters naming_by_spelling (bind_names (parameter_section_names f) (a_variable (shape_by l s)) (env_by l env)) (k + constructor_count (parameter_section_type f)) (rename_fields_in_parameter_sections l (k + constructor_count (parameter_section_type f)) fs))
+    (λ rest. Some (map (parameter_of (parameter_section_mode f) s) (parameter_section_names f) ++ rest)) (λ rest. Some (map (parameter_of (parameter_section_mode f) (shape_by l s)) (parameter_section_names f) ++ rest))
+    (ap (λ inner. typed_parameters naming_by_spelling inner (k + constructor_count (parameter_section_type f)) (rename_fields_in_parameter_sections l (k + constructor_count (parameter_section_type f)) fs)) (bind_names-by l (parameter_section_names f) (a_variable s) env) ∙ typed_parameters-by l (bind_names (parameter_section_names f) (a_variable s) env) (k + constructor_count (parameter_section_type f)) fs)
+    (λ rest i. Some (parameters-by l (parameter_section_mode f) s (parameter_section_names f) rest i)))
 
 -- A block is well-typed exactly if it is with its fields under other names.
 
@@ -215,7 +215,7 @@ mutual
       → procedures_are_well_typed naming_by_spelling (env_by l env) k (rename_fields l (meanings naming_by_spelling (environment_after_procedures env k ps)) None statements) (rename_fields_in_procedures l env k ps) ≡ procedures_are_well_typed naming_by_spelling env k statements ps
   procedures_are_well_typed-rename_fields l apart env k statements end = body_is_well_typed-rename_fields l apart env statements
   procedures_are_well_typed-rename_fields l apart env k statements (more p rest) =
-      let e : TypeEnvironment Name = bind_typed_parameters (parameters_of env k p) (environment_after_heading env k p) in
+      let e : TypeEnvironment Name = bind_typed_parameters (typed_parameters_of_procedure env k p) (environment_after_heading env k p) in
       (λ i. option_satisfies (typed_parameters naming_by_spelling (env_by l env) k (procedure_formals-rename_fields l e k p i)) (λ qs. procedure_is_well_typed naming_by_spelling (bind_typed_parameters qs (bind_procedure (procedure_name-rename_fields l e k p i) qs (env_by l env))) k (rename_fields_in_procedure l e k p)
       && procedures_are_well_typed naming_by_spelling (bind_procedure (procedure_name-rename_fields l e k p i) qs (env_by l env)) (k + procedure_constructor_count-rename_fields l e k p i) (rename_fields l (meanings naming_by_spelling (environment_after_procedures (environment_after_heading env k p) (k + procedure_constructor_count p) rest)) None statements) (rename_fields_in_procedures l (environment_after_heading env k p) (k + procedure_constructor_count p) rest)))
       ∙ (ap (λ o. option_satisfies o (λ qs. procedure_is_well_typed naming_by_spelling (bind_typed_parameters qs (bind_procedure (procedure_name p) qs (env_by l env))) k (rename_fields_in_procedure l e k p)

@@ -11,7 +11,7 @@ use Rattle.ob0_language_types.specs.Declarations.{constructors_before_procedure_
 use Rattle.ob0_language_types.specs.Environments.{outermost_environment}
 use Rattle.ob0_language_types.specs.Typing.{constructor_count, group_constructor_count}
 use Rattle.ob0_language_types.specs.WellTyped.{TypeEnvironment, bind_typed_parameters}
-use Rattle.ob0_language_fields.specs.Fields.{FieldRenaming, environment_after_heading, environment_after_variables, parameters_of, rename_fields_in_block, rename_fields_in_group, rename_fields_in_groups, rename_fields_in_procedure, rename_fields_in_procedures, rename_fields_in_sections, rename_fields_in_type, rename_fields_in_types, rename_fields_in_variables, rename_fields_in_module}
+use Rattle.ob0_language_fields.specs.Fields.{FieldRenaming, environment_after_heading, environment_after_variables, typed_parameters_of_procedure, rename_fields_in_block, rename_fields_in_group, rename_fields_in_groups, rename_fields_in_procedure, rename_fields_in_procedures, rename_fields_in_parameter_sections, rename_fields_in_type, rename_fields_in_types, rename_fields_in_variables, rename_fields_in_module}
 use Rattle.ob0_language_field_laws.specs.FieldLaws.{KeepsFieldsDistinct}
 use Rattle.ob0_language_field_laws.proofs.FieldRenamedModules.{formal_sections-rename_fields, procedure_name-rename_fields, parameter_section_names-rename_fields, parameter_section_type-rename_fields, section_types-rename_fields, section_variables-rename_fields}
 
@@ -67,7 +67,7 @@ variables_have_distinct_fields-rename_fields : (l : FieldRenaming) → KeepsFiel
 variables_have_distinct_fields-rename_fields l apart k end = refl
 variables_have_distinct_fields-rename_fields l apart k (more (declares_variable ns u) gs) = λ i. has_distinct_fields-rename_fields l apart k u i && variables_have_distinct_fields-rename_fields l apart (k + constructor_count u) gs i
 
-formals_have_distinct_fields-rename_fields : (l : FieldRenaming) → KeepsFieldsDistinct l → (k : ℕ) (fs : Tree Name (items further_section)) → formals_have_distinct_fields (rename_fields_in_sections l k fs) ≡ formals_have_distinct_fields fs
+formals_have_distinct_fields-rename_fields : (l : FieldRenaming) → KeepsFieldsDistinct l → (k : ℕ) (fs : Tree Name (items further_section)) → formals_have_distinct_fields (rename_fields_in_parameter_sections l k fs) ≡ formals_have_distinct_fields fs
 formals_have_distinct_fields-rename_fields l apart k end = refl
 formals_have_distinct_fields-rename_fields l apart k (more (then_section f) fs) = λ i.
     (ap has_distinct_fields (parameter_section_type-rename_fields l k f) ∙ has_distinct_fields-rename_fields l apart k (parameter_section_type f)) i && formals_have_distinct_fields-rename_fields l apart (k + constructor_count (parameter_section_type f)) fs i
@@ -80,14 +80,14 @@ variable_names-rename_fields : (l : FieldRenaming) (k : ℕ) (gs : Tree Name (it
 variable_names-rename_fields l k end = refl
 variable_names-rename_fields l k (more (declares_variable ns u) gs) = λ i. names_in_list ns ++ variable_names-rename_fields l (k + constructor_count u) gs i
 
-formal_names-rename_fields : (l : FieldRenaming) (k : ℕ) (fs : Tree Name (items further_section)) → formal_names (rename_fields_in_sections l k fs) ≡ formal_names fs
+formal_names-rename_fields : (l : FieldRenaming) (k : ℕ) (fs : Tree Name (items further_section)) → formal_names (rename_fields_in_parameter_sections l k fs) ≡ formal_names fs
 formal_names-rename_fields l k end = refl
 formal_names-rename_fields l k (more (then_section f) fs) = λ i. parameter_section_names-rename_fields l k f i ++ formal_names-rename_fields l (k + constructor_count (parameter_section_type f)) fs i
 
 procedure_names-rename_fields : (l : FieldRenaming) (env : TypeEnvironment Name) (k : ℕ) (ps : Tree Name (items procedure)) → procedure_names (rename_fields_in_procedures l env k ps) ≡ procedure_names ps
 procedure_names-rename_fields l env k end = refl
 procedure_names-rename_fields l env k (more p rest) = λ i.
-    procedure_name-rename_fields l (bind_typed_parameters (parameters_of env k p) (environment_after_heading env k p)) k p i ∷ procedure_names-rename_fields l (environment_after_heading env k p) (k + procedure_constructor_count p) rest i
+    procedure_name-rename_fields l (bind_typed_parameters (typed_parameters_of_procedure env k p) (environment_after_heading env k p)) k p i ∷ procedure_names-rename_fields l (environment_after_heading env k p) (k + procedure_constructor_count p) rest i
 
 mutual
   pub block_has_consistent_names-rename_fields : (l : FieldRenaming) → KeepsFieldsDistinct l → (env : TypeEnvironment Name) (k : ℕ) (own : List Name) (b : Tree Name block) → block_has_consistent_names own (rename_fields_in_block l env k b) ≡ block_has_consistent_names own b
@@ -104,7 +104,7 @@ mutual
   pub procedures_have_consistent_names-rename_fields : (l : FieldRenaming) → KeepsFieldsDistinct l → (env : TypeEnvironment Name) (k : ℕ) (ps : Tree Name (items procedure)) → procedures_have_consistent_names (rename_fields_in_procedures l env k ps) ≡ procedures_have_consistent_names ps
   procedures_have_consistent_names-rename_fields l apart env k end = refl
   procedures_have_consistent_names-rename_fields l apart env k (more p rest) = λ i.
-      procedure_has_consistent_names-rename_fields l apart (bind_typed_parameters (parameters_of env k p) (environment_after_heading env k p)) k p i && procedures_have_consistent_names-rename_fields l apart (environment_after_heading env k p) (k + procedure_constructor_count p) rest i
+      procedure_has_consistent_names-rename_fields l apart (bind_typed_parameters (typed_parameters_of_procedure env k p) (environment_after_heading env k p)) k p i && procedures_have_consistent_names-rename_fields l apart (environment_after_heading env k p) (k + procedure_constructor_count p) rest i
 
   pub procedure_has_consistent_names-rename_fields : (l : FieldRenaming) → KeepsFieldsDistinct l → (env : TypeEnvironment Name) (k : ℕ) (p : Tree Name (item procedure)) → procedure_has_consistent_names (rename_fields_in_procedure l env k p) ≡ procedure_has_consistent_names p
   procedure_has_consistent_names-rename_fields l apart env k (declares_procedure x fs b closing) =

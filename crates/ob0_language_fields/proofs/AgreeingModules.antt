@@ -8,13 +8,13 @@ use Rattle.ob0_language_types.specs.Declarations.{constructors_before_procedure_
 use Rattle.ob0_language_types.specs.Environments.{environment_from_binding, meanings, newest_object, outermost_environment}
 use Rattle.ob0_language_types.specs.Expressions.{Object, a_constant, a_type, a_variable}
 use Rattle.ob0_language_types.specs.Typing.{constant_value, constructor_count, denoted_type}
-use Rattle.ob0_language_types.specs.WellTyped.{Mode, TypeEnvironment, TypedParameter, Signature, bind_names, bind_typed_parameters, block_is_well_typed, body_is_well_typed, declare_typed_variables, passes_type_check, bind_procedure, procedure_is_well_typed, procedures_are_well_typed, section_mode, typed_parameters}
+use Rattle.ob0_language_types.specs.WellTyped.{Mode, TypeEnvironment, TypedParameter, Signature, bind_names, bind_typed_parameters, block_is_well_typed, body_is_well_typed, declare_typed_variables, passes_type_check, bind_procedure, procedure_is_well_typed, procedures_are_well_typed, parameter_section_mode, typed_parameters}
 use Rattle.ob0_language_types.proofs.Conditions.{both_true, hold-true}
 use Rattle.ob0_language_types.proofs.Literals.{some_inverse}
 use Rattle.ob0_language_types.proofs.TypedElsewhere.{then_some}
 use Rattle.ob0_language_values.specs.Values.{Shape}
-use Rattle.ob0_language_fields.specs.Fields.{FieldRenaming, environment_after_procedures, rename_fields, rename_fields_in_block, rename_fields_in_formals, rename_fields_in_procedure, rename_fields_in_procedures, rename_fields_in_section, rename_fields_in_sections, rename_fields_in_type_section, rename_fields_in_types, rename_fields_in_variable_section, rename_fields_in_variables, rename_fields_in_module}
-use Rattle.ob0_language_fields.specs.Renaming.{records, records_in_block, records_in_procedure, records_in_procedures, records_in_sections, records_in_type, records_in_types, records_in_variables}
+use Rattle.ob0_language_fields.specs.Fields.{FieldRenaming, environment_after_procedures, rename_fields, rename_fields_in_block, rename_fields_in_formals, rename_fields_in_procedure, rename_fields_in_procedures, rename_fields_in_parameter_section, rename_fields_in_parameter_sections, rename_fields_in_type_section, rename_fields_in_types, rename_fields_in_variable_section, rename_fields_in_variables, rename_fields_in_module}
+use Rattle.ob0_language_fields.specs.Renaming.{records, records_in_block, records_in_procedure, records_in_procedures, records_in_parameter_sections, records_in_type, records_in_types, records_in_variables}
 use Rattle.ob0_language_fields.proofs.AgreeingFields.{ObjectsAgree, ObjectAgrees, OptionAgrees, RecordsAgree, ShapeAgrees, denoted_type-agrees, records-split, sequence-alike, type-alike}
 use Rattle.ob0_language_fields.proofs.MeaningsByName.{parameter_of, object_in}
 
@@ -71,16 +71,16 @@ parameters-join : (p q : FieldRenaming) (m : Mode) (s : Shape) (xs : List Name) 
 parameters-join p q m s [] rest h k = k
 parameters-join p q m s (x ∷ xs) rest h k = (h, parameters-join p q m s xs rest h k)
 
-parameters-agree : (p q : FieldRenaming) (env : TypeEnvironment Name) (k : ℕ) (fs : Tree Name (items further_section)) (ps : List (TypedParameter Name)) → EnvironmentAgrees p q env → RecordsAgree p q (records_in_sections k fs) → typed_parameters naming_by_spelling env k fs ≡ Some ps → ParametersAgree p q ps
+parameters-agree : (p q : FieldRenaming) (env : TypeEnvironment Name) (k : ℕ) (fs : Tree Name (items further_section)) (ps : List (TypedParameter Name)) → EnvironmentAgrees p q env → RecordsAgree p q (records_in_parameter_sections k fs) → typed_parameters naming_by_spelling env k fs ≡ Some ps → ParametersAgree p q ps
 unfolding typed_parameters
 parameters-agree p q env k end ps h r e = subst (ParametersAgree p q) (some_inverse {a = []} {b = ps} e) tt
 parameters-agree p q env k (more (then_section f) fs) ps h r e =
-    let r₁ = records-split p q (records_in_type k (parameter_section_type f)) (records_in_sections (k + constructor_count (parameter_section_type f)) fs) r in
-    let (s, es, e₁) = then_some (denoted_type (meanings naming_by_spelling env) k (parameter_section_type f)) (λ s. option_and_then (λ rest. Some (map (parameter_of (section_mode f) s) (parameter_section_names f) ++ rest)) (typed_parameters naming_by_spelling (bind_names (parameter_section_names f) (a_variable s) env) (k + constructor_count (parameter_section_type f)) fs)) ps e in
-    let (rest, er, e₂) = then_some (typed_parameters naming_by_spelling (bind_names (parameter_section_names f) (a_variable s) env) (k + constructor_count (parameter_section_type f)) fs) (λ rest. Some (map (parameter_of (section_mode f) s) (parameter_section_names f) ++ rest)) ps e₁ in
+    let r₁ = records-split p q (records_in_type k (parameter_section_type f)) (records_in_parameter_sections (k + constructor_count (parameter_section_type f)) fs) r in
+    let (s, es, e₁) = then_some (denoted_type (meanings naming_by_spelling env) k (parameter_section_type f)) (λ s. option_and_then (λ rest. Some (map (parameter_of (parameter_section_mode f) s) (parameter_section_names f) ++ rest)) (typed_parameters naming_by_spelling (bind_names (parameter_section_names f) (a_variable s) env) (k + constructor_count (parameter_section_type f)) fs)) ps e in
+    let (rest, er, e₂) = then_some (typed_parameters naming_by_spelling (bind_names (parameter_section_names f) (a_variable s) env) (k + constructor_count (parameter_section_type f)) fs) (λ rest. Some (map (parameter_of (parameter_section_mode f) s) (parameter_section_names f) ++ rest)) ps e₁ in
     let agrees : ShapeAgrees p q s = denoted_type-agrees p q (object_in env) (objects-agree p q env h) k (parameter_section_type f) s r₁.0 es in
-    subst (ParametersAgree p q) (some_inverse {a = map (parameter_of (section_mode f) s) (parameter_section_names f) ++ rest} {b = ps} e₂)
-    (parameters-join p q (section_mode f) s (parameter_section_names f) rest agrees
+    subst (ParametersAgree p q) (some_inverse {a = map (parameter_of (parameter_section_mode f) s) (parameter_section_names f) ++ rest} {b = ps} e₂)
+    (parameters-join p q (parameter_section_mode f) s (parameter_section_names f) rest agrees
     (parameters-agree p q (bind_names (parameter_section_names f) (a_variable s) env) (k + constructor_count (parameter_section_type f)) fs rest (bind_names-agree p q (parameter_section_names f) (a_variable s) env agrees h) r₁.1 er))
 
 -- The texts of declarations are the same under two functions that agree on their records.
@@ -103,25 +103,25 @@ variable_section-alike : (p q : FieldRenaming) (k : ℕ) (vs : Tree Name (maybe 
 variable_section-alike p q k none r = refl
 variable_section-alike p q k (one (declares_variables vs)) r = λ i. one (declares_variables (variables-alike p q k vs r i))
 
-section-alike : (p q : FieldRenaming) (k : ℕ) (f : Tree Name section) → RecordsAgree p q (records_in_type k (parameter_section_type f)) → rename_fields_in_section p k f ≡ rename_fields_in_section q k f
+section-alike : (p q : FieldRenaming) (k : ℕ) (f : Tree Name section) → RecordsAgree p q (records_in_type k (parameter_section_type f)) → rename_fields_in_parameter_section p k f ≡ rename_fields_in_parameter_section q k f
 section-alike p q k (value_section ns u) r = λ i. value_section ns (type-alike p q k u r i)
 section-alike p q k (variable_section ns u) r = λ i. variable_section ns (type-alike p q k u r i)
 
-sections-alike : (p q : FieldRenaming) (k : ℕ) (fs : Tree Name (items further_section)) → RecordsAgree p q (records_in_sections k fs) → rename_fields_in_sections p k fs ≡ rename_fields_in_sections q k fs
+sections-alike : (p q : FieldRenaming) (k : ℕ) (fs : Tree Name (items further_section)) → RecordsAgree p q (records_in_parameter_sections k fs) → rename_fields_in_parameter_sections p k fs ≡ rename_fields_in_parameter_sections q k fs
 sections-alike p q k end r = refl
 sections-alike p q k (more (then_section f) fs) r =
-    let r₁ = records-split p q (records_in_type k (parameter_section_type f)) (records_in_sections (k + constructor_count (parameter_section_type f)) fs) r in
+    let r₁ = records-split p q (records_in_type k (parameter_section_type f)) (records_in_parameter_sections (k + constructor_count (parameter_section_type f)) fs) r in
     λ i. more (then_section (section-alike p q k f r₁.0 i)) (sections-alike p q (k + constructor_count (parameter_section_type f)) fs r₁.1 i)
 
-formals-alike : (p q : FieldRenaming) (k : ℕ) (fs : Tree Name (maybe formals)) → RecordsAgree p q (records_in_sections k (formal_sections fs)) → rename_fields_in_formals p k fs ≡ rename_fields_in_formals q k fs
+formals-alike : (p q : FieldRenaming) (k : ℕ) (fs : Tree Name (maybe formals)) → RecordsAgree p q (records_in_parameter_sections k (formal_sections fs)) → rename_fields_in_formals p k fs ≡ rename_fields_in_formals q k fs
 formals-alike p q k none r = refl
 formals-alike p q k (one no_formals) r = refl
 formals-alike p q k (one (some_formals f fs)) r =
-    let r₁ = records-split p q (records_in_type k (parameter_section_type f)) (records_in_sections (k + constructor_count (parameter_section_type f)) fs) r in
+    let r₁ = records-split p q (records_in_type k (parameter_section_type f)) (records_in_parameter_sections (k + constructor_count (parameter_section_type f)) fs) r in
     λ i. one (some_formals (section-alike p q k f r₁.0 i) (sections-alike p q (k + constructor_count (parameter_section_type f)) fs r₁.1 i))
 
-procedure-records : (p q : FieldRenaming) (k : ℕ) (a : Tree Name (item procedure)) → RecordsAgree p q (records_in_procedure k a) → RecordsAgree p q (records_in_sections k (procedure_formals a))
-procedure-records p q k (declares_procedure x fs b closing) r = (records-split p q (records_in_sections k (formal_sections fs)) (records_in_block (constructors_before_procedure_block k (declares_procedure x fs b closing)) b) r).0
+procedure-records : (p q : FieldRenaming) (k : ℕ) (a : Tree Name (item procedure)) → RecordsAgree p q (records_in_procedure k a) → RecordsAgree p q (records_in_parameter_sections k (procedure_formals a))
+procedure-records p q k (declares_procedure x fs b closing) r = (records-split p q (records_in_parameter_sections k (formal_sections fs)) (records_in_block (constructors_before_procedure_block k (declares_procedure x fs b closing)) b) r).0
 
 -- A well-typed block is the same under two functions that agree on its environment and its records.
 
@@ -172,7 +172,7 @@ mutual
   pub procedure-alike : (p q : FieldRenaming) (env : TypeEnvironment Name) (k : ℕ) (a : Tree Name (item procedure)) → EnvironmentAgrees p q env → RecordsAgree p q (records_in_procedure k a) → procedure_is_well_typed naming_by_spelling env k a ≡ true
       → rename_fields_in_procedure p env k a ≡ rename_fields_in_procedure q env k a
   procedure-alike p q env k (declares_procedure x fs b closing) h r e =
-      let r₁ = records-split p q (records_in_sections k (formal_sections fs)) (records_in_block (constructors_before_procedure_block k (declares_procedure x fs b closing)) b) r in
+      let r₁ = records-split p q (records_in_parameter_sections k (formal_sections fs)) (records_in_block (constructors_before_procedure_block k (declares_procedure x fs b closing)) b) r in
       λ i. declares_procedure x (formals-alike p q k fs r₁.0 i) (block-alike p q env (k + formals_constructor_count (formal_sections fs)) b h r₁.1 e i) closing
 
 pub module-alike : (p q : FieldRenaming) (m : Tree Name module_text) → RecordsAgree p q (records m) → passes_type_check naming_by_spelling m ≡ true → rename_fields_in_module p m ≡ rename_fields_in_module q m

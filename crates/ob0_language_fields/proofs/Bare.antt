@@ -9,7 +9,7 @@ use Rattle.ob0_language_types.specs.Environments.{meanings, outermost_environmen
 use Rattle.ob0_language_types.specs.Typing.{constructor_count, group_constructor_count, type_of_variable_or_constant}
 use Rattle.ob0_language_types.specs.WellTyped.{TypeEnvironment, TypeMeanings, bind_typed_parameters}
 use Rattle.ob0_language_values.specs.Values.{Shape}
-use Rattle.ob0_language_fields.specs.Fields.{FieldRenaming, type_including_selector, environment_after_heading, environment_after_procedures, environment_after_variables, parameters_of, rename_fields, rename_fields_in_block, rename_fields_in_formals, rename_fields_in_group, rename_fields_in_groups, rename_fields_in_procedure, rename_fields_in_procedures, rename_fields_in_section, rename_fields_in_sections, rename_fields_in_type, rename_fields_in_type_section, rename_fields_in_types, rename_fields_in_variable_section, rename_fields_in_variables, rename_fields_in_module}
+use Rattle.ob0_language_fields.specs.Fields.{FieldRenaming, type_including_selector, environment_after_heading, environment_after_procedures, environment_after_variables, typed_parameters_of_procedure, rename_fields, rename_fields_in_block, rename_fields_in_formals, rename_fields_in_group, rename_fields_in_groups, rename_fields_in_procedure, rename_fields_in_procedures, rename_fields_in_parameter_section, rename_fields_in_parameter_sections, rename_fields_in_type, rename_fields_in_type_section, rename_fields_in_types, rename_fields_in_variable_section, rename_fields_in_variables, rename_fields_in_module}
 
 -- the function that gives each field its present name
 abbrev pub bare : FieldRenaming
@@ -74,18 +74,18 @@ rename_fields_in_variable_section-bare : (k : ℕ) (vs : Tree Name (maybe variab
 rename_fields_in_variable_section-bare k none = refl
 rename_fields_in_variable_section-bare k (one (declares_variables vs)) = λ i. one (declares_variables (rename_fields_in_variables-bare k vs i))
 
-rename_fields_in_section-bare : (k : ℕ) (f : Tree Name section) → rename_fields_in_section bare k f ≡ f
-rename_fields_in_section-bare k (value_section ns u) = λ i. value_section ns (rename_fields_in_type-bare k u i)
-rename_fields_in_section-bare k (variable_section ns u) = λ i. variable_section ns (rename_fields_in_type-bare k u i)
+rename_fields_in_parameter_section-bare : (k : ℕ) (f : Tree Name section) → rename_fields_in_parameter_section bare k f ≡ f
+rename_fields_in_parameter_section-bare k (value_section ns u) = λ i. value_section ns (rename_fields_in_type-bare k u i)
+rename_fields_in_parameter_section-bare k (variable_section ns u) = λ i. variable_section ns (rename_fields_in_type-bare k u i)
 
-rename_fields_in_sections-bare : (k : ℕ) (fs : Tree Name (items further_section)) → rename_fields_in_sections bare k fs ≡ fs
-rename_fields_in_sections-bare k end = refl
-rename_fields_in_sections-bare k (more (then_section f) fs) = λ i. more (then_section (rename_fields_in_section-bare k f i)) (rename_fields_in_sections-bare (k + constructor_count (parameter_section_type f)) fs i)
+rename_fields_in_parameter_sections-bare : (k : ℕ) (fs : Tree Name (items further_section)) → rename_fields_in_parameter_sections bare k fs ≡ fs
+rename_fields_in_parameter_sections-bare k end = refl
+rename_fields_in_parameter_sections-bare k (more (then_section f) fs) = λ i. more (then_section (rename_fields_in_parameter_section-bare k f i)) (rename_fields_in_parameter_sections-bare (k + constructor_count (parameter_section_type f)) fs i)
 
 rename_fields_in_formals-bare : (k : ℕ) (fs : Tree Name (maybe formals)) → rename_fields_in_formals bare k fs ≡ fs
 rename_fields_in_formals-bare k none = refl
 rename_fields_in_formals-bare k (one no_formals) = refl
-rename_fields_in_formals-bare k (one (some_formals f fs)) = λ i. one (some_formals (rename_fields_in_section-bare k f i) (rename_fields_in_sections-bare (k + constructor_count (parameter_section_type f)) fs i))
+rename_fields_in_formals-bare k (one (some_formals f fs)) = λ i. one (some_formals (rename_fields_in_parameter_section-bare k f i) (rename_fields_in_parameter_sections-bare (k + constructor_count (parameter_section_type f)) fs i))
 
 mutual
   rename_fields_in_block-bare : (env : TypeEnvironment Name) (k : ℕ) (b : Tree Name block) → rename_fields_in_block bare env k b ≡ b
@@ -97,7 +97,7 @@ mutual
   rename_fields_in_procedures-bare : (env : TypeEnvironment Name) (k : ℕ) (ps : Tree Name (items procedure)) → rename_fields_in_procedures bare env k ps ≡ ps
   rename_fields_in_procedures-bare env k end = refl
   rename_fields_in_procedures-bare env k (more p rest) = λ i.
-      more (rename_fields_in_procedure-bare (bind_typed_parameters (parameters_of env k p) (environment_after_heading env k p)) k p i) (rename_fields_in_procedures-bare (environment_after_heading env k p) (k + procedure_constructor_count p) rest i)
+      more (rename_fields_in_procedure-bare (bind_typed_parameters (typed_parameters_of_procedure env k p) (environment_after_heading env k p)) k p i) (rename_fields_in_procedures-bare (environment_after_heading env k p) (k + procedure_constructor_count p) rest i)
 
   rename_fields_in_procedure-bare : (env : TypeEnvironment Name) (k : ℕ) (p : Tree Name (item procedure)) → rename_fields_in_procedure bare env k p ≡ p
   rename_fields_in_procedure-bare env k (declares_procedure x fs b closing) = λ i.

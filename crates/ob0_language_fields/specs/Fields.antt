@@ -2,7 +2,7 @@
 -- selector that selects this field.
 -- Rule: docs/LANGUAGE.md, Scopes 7.
 use Rattle.std.specs.Prelude.{ℕ, suc, ◌+◌, List, [], Some, None, Option, option_and_then, unwrap_or}
-use Rattle.ob0_tree.specs.Tree.{Item, Sort, Tree, adds, array_type, assigns, begins, block, branches, calls, compares, declares, declares_procedure, declares_type, declares_types, declares_variable, declares_variables, designator, else_branch, elsif_branch, end, field, fields, formals, further_fields, further_section, forms_block, index, is_module, item, items, maybe, module_text, more, multiplies, named_type, negation, no_fields, no_formals, none, one, parenthesised, procedure, product, record_type, relates, repeat_loop, runs, section, some_arguments, some_fields, some_formals, sum, then_argument, then_fields, then_section, then_statement, type_definition, type_definitions, value_section, variable, variable_section, variables, while_loop, written_type}
+use Rattle.ob0_tree.specs.Tree.{GrammarItem, Sort, Tree, adds, array_type, assigns, begins, block, branches, calls, compares, declares, declares_procedure, declares_type, declares_types, declares_variable, declares_variables, designator, else_branch, elsif_branch, end, field, fields, formals, further_fields, further_section, forms_block, index, is_module, item, items, maybe, module_text, more, multiplies, named_type, negation, no_fields, no_formals, none, one, parenthesised, procedure, product, record_type, relates, repeat_loop, runs, section, some_arguments, some_fields, some_formals, sum, then_argument, then_fields, then_section, then_statement, type_definition, type_definitions, value_section, variable, variable_section, variables, while_loop, written_type}
 use Rattle.ob0_language_names.specs.Mapping.{map_names}
 use Rattle.ob0_language_names.specs.Names.{Name, naming_by_spelling}
 use Rattle.ob0_language_names.specs.Parts.{block_variables, procedure_formals, procedure_name, parameter_section_type}
@@ -30,7 +30,7 @@ record_ordinal (Some (record_shape k fs)) = Some k
 -- returns the type of a designator including one more selector, given the type `s` before this
 -- selector; returns None if `s` is unknown (None) or has no such field or element; for a tree that
 -- isn't a selector, returns `s`
-abbrev pub type_including_selector : {i : Item} → Option Shape → Tree Name (item i) → Option Shape
+abbrev pub type_including_selector : {i : GrammarItem} → Option Shape → Tree Name (item i) → Option Shape
 type_including_selector s (field x) = option_and_then (λ t. field_type t x) s
 type_including_selector s (index e) = option_and_then (λ t. element_type t integer_shape) s
 type_including_selector s _ = s
@@ -154,20 +154,20 @@ rename_fields_in_variable_section l k (one (declares_variables vs)) =
 
 -- returns a section of parameters with the fields in its type renamed; `k` is the number of words
 -- ARRAY and RECORD before the section
-abbrev pub rename_fields_in_section : FieldRenaming → ℕ → Tree Name section → Tree Name section
-rename_fields_in_section l k (value_section ns u) = value_section ns (rename_fields_in_type l k u)
-rename_fields_in_section l k (variable_section ns u) = variable_section ns (rename_fields_in_type l k u)
+abbrev pub rename_fields_in_parameter_section : FieldRenaming → ℕ → Tree Name section → Tree Name section
+rename_fields_in_parameter_section l k (value_section ns u) = value_section ns (rename_fields_in_type l k u)
+rename_fields_in_parameter_section l k (variable_section ns u) = variable_section ns (rename_fields_in_type l k u)
 
 -- returns the sections of parameters after the first section, with the fields in their types
 -- renamed; `k` is the number of words ARRAY and RECORD before these sections
-abbrev pub rename_fields_in_sections : FieldRenaming
+abbrev pub rename_fields_in_parameter_sections : FieldRenaming
     → ℕ
     → Tree Name (items further_section)
     → Tree Name (items further_section)
-rename_fields_in_sections l k end = end
-rename_fields_in_sections l k (more (then_section f) fs) =
-    more (then_section (rename_fields_in_section l k f))
-    (rename_fields_in_sections l (k + constructor_count (parameter_section_type f)) fs)
+rename_fields_in_parameter_sections l k end = end
+rename_fields_in_parameter_sections l k (more (then_section f) fs) =
+    more (then_section (rename_fields_in_parameter_section l k f))
+    (rename_fields_in_parameter_sections l (k + constructor_count (parameter_section_type f)) fs)
 
 -- returns formal parameters with the fields in their types renamed; `k` is the number of words
 -- ARRAY and RECORD before the parameters
@@ -175,8 +175,8 @@ abbrev pub rename_fields_in_formals : FieldRenaming → ℕ → Tree Name (maybe
 rename_fields_in_formals l k none = none
 rename_fields_in_formals l k (one no_formals) = one no_formals
 rename_fields_in_formals l k (one (some_formals f fs)) =
-    one (some_formals (rename_fields_in_section l k f)
-    (rename_fields_in_sections l (k + constructor_count (parameter_section_type f)) fs))
+    one (some_formals (rename_fields_in_parameter_section l k f)
+    (rename_fields_in_parameter_sections l (k + constructor_count (parameter_section_type f)) fs))
 
 -- Returns the environment `env` with a block's constants, types and variables added. Returns `env`
 -- unchanged if one of these declarations has an error. `k` is the number of words ARRAY and RECORD
@@ -188,11 +188,11 @@ environment_after_variables env k b =
 
 -- returns the parameters of a procedure, or an empty list if a parameter's type has an error; `k`
 -- is the number of words ARRAY and RECORD before the procedure
-abbrev pub parameters_of : TypeEnvironment Name
+abbrev pub typed_parameters_of_procedure : TypeEnvironment Name
     → ℕ
     → Tree Name (item procedure)
     → List (TypedParameter Name)
-parameters_of env k p = unwrap_or (typed_parameters naming_by_spelling env k (procedure_formals p)) []
+typed_parameters_of_procedure env k p = unwrap_or (typed_parameters naming_by_spelling env k (procedure_formals p)) []
 
 -- returns the environment `env` with a procedure's name added; `k` is the number of words ARRAY and
 -- RECORD before the procedure
@@ -200,7 +200,7 @@ abbrev pub environment_after_heading : TypeEnvironment Name
     → ℕ
     → Tree Name (item procedure)
     → TypeEnvironment Name
-environment_after_heading env k p = bind_procedure (procedure_name p) (parameters_of env k p) env
+environment_after_heading env k p = bind_procedure (procedure_name p) (typed_parameters_of_procedure env k p) env
 
 -- returns the environment `env` with the names of these procedures added; `k` is the number of
 -- words ARRAY and RECORD before the procedures
@@ -241,7 +241,7 @@ abbrev mutual
       → Tree Name (items procedure)
   rename_fields_in_procedures l env k end = end
   rename_fields_in_procedures l env k (more p rest) =
-      more (rename_fields_in_procedure l (bind_typed_parameters (parameters_of env k p) (environment_after_heading env k p)) k
+      more (rename_fields_in_procedure l (bind_typed_parameters (typed_parameters_of_procedure env k p) (environment_after_heading env k p)) k
       p)
       (rename_fields_in_procedures l (environment_after_heading env k p) (k + procedure_constructor_count p) rest)
 

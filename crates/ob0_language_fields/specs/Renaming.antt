@@ -69,10 +69,10 @@ records_in_variables k (more (declares_variable ns u) gs) =
 
 -- returns the records in the types of parameters, in text order; `k` is the number of words ARRAY
 -- and RECORD before these parameters
-abbrev pub records_in_sections : ℕ → Tree Name (items further_section) → List RecordFields
-records_in_sections k end = []
-records_in_sections k (more (then_section f) fs) =
-    records_in_type k (parameter_section_type f) ++ records_in_sections (k + constructor_count (parameter_section_type f)) fs
+abbrev pub records_in_parameter_sections : ℕ → Tree Name (items further_section) → List RecordFields
+records_in_parameter_sections k end = []
+records_in_parameter_sections k (more (then_section f) fs) =
+    records_in_type k (parameter_section_type f) ++ records_in_parameter_sections (k + constructor_count (parameter_section_type f)) fs
 
 -- Returns the records in a block or in its procedures, in text order. `k` is the number of words
 -- ARRAY and RECORD before it.
@@ -96,7 +96,7 @@ abbrev mutual
   -- before the procedure
   pub records_in_procedure : ℕ → Tree Name (item procedure) → List RecordFields
   records_in_procedure k (declares_procedure x fs b closing) =
-      records_in_sections k (formal_sections fs)
+      records_in_parameter_sections k (formal_sections fs)
       ++ records_in_block (constructors_before_procedure_block k (declares_procedure x fs b closing)) b
 
 -- returns all records of a module, in the order of their words RECORD in the text

@@ -3,7 +3,7 @@
 -- or neither.
 use Rattle.std.proofs.Common.{Bool, List, [], add-zero, ap, arith, eqb-true, false, if◌then◌else◌, length, ne_eqb, refl, subst, suc, sym, true, ℕ, ◌&&◌, ◌++◌, ◌+◌, ◌<◌, ◌==◌, ◌∙◌, ◌∷◌, ◌≡◌}
 use Rattle.ob0_tree.specs.Tree.{Sort, Tree, adds, array_type, assigns, begins, block, branches, calls, compares, constant, constants, declares, declares_constant, declares_constants, declares_procedure, declares_type, declares_types, declares_variable, declares_variables, designator, else_branch, elsif_branch, empty, end, factor, field, further_name, forms_block, index, integer, is_module, item, items, listed, maybe, module_text, more, multiplies, named_type, names, negation, no_arguments, no_fields, no_formals, none, occurrences, one, parenthesised, procedure, product, record_type, relates, repeat_loop, runs, some_arguments, some_fields, some_formals, sum, then_argument, then_fields, then_name, then_section, then_statement, value_section, variable_section, while_loop}
-use Rattle.ob0_language_names.specs.Inlining.{OccurrenceSet, block_without_constant, inline_in_tree, inlined, module_without_constant, procedure_without_constant, procedures_without_constant, section_without_constant, constants_without}
+use Rattle.ob0_language_names.specs.Inlining.{OccurrenceSet, block_without_constant, inline_in_tree, inlined, module_without_constant, procedure_without_constant, procedures_without_constant, section_without_constant, constants_without_ordinal}
 use Rattle.ob0_language_names.specs.Mapping.{map_names}
 use Rattle.ob0_language_names.specs.Names.{Name}
 use Rattle.ob0_language_names.specs.Parts.{formal_names, formal_sections}
@@ -239,11 +239,11 @@ left-later v d j k (more (declares_constant x e) cs) h =
     (ne_eqb k d (λ e. omega (arith, e, h)))
     ∙ (λ i. more (declares_constant x (leaf-kept v j e i)) (left-later v d (j + length (occurrences e)) (suc k) cs (omega (arith, h)) i))
 
-left-constants : (v : Tree Name factor) (d j k : ℕ) (cs : Tree Name (items constant)) → edited_constants (leaving_out v d) j k cs ≡ constants_without d k cs
+left-constants : (v : Tree Name factor) (d j k : ℕ) (cs : Tree Name (items constant)) → edited_constants (leaving_out v d) j k cs ≡ constants_without_ordinal d k cs
 left-constants v d j k end = refl
 left-constants v d j k (more (declares_constant x e) cs) =
     (elim (k == d) as (λ b. k == d ≡ b → (if b then edited_constants (leaving_out v d) (j + length (occurrences e)) (suc k) cs else more (declares_constant x (leaf (leaving_out v d) j e)) (edited_constants (leaving_out v d) (j + length (occurrences e)) (suc k) cs))
-    ≡ (if b then cs else more (declares_constant x e) (constants_without d (suc k) cs))) [
+    ≡ (if b then cs else more (declares_constant x e) (constants_without_ordinal d (suc k) cs))) [
       | true ↦ λ h. left-later v d (j + length (occurrences e)) (suc k) cs (omega (arith, eqb-true k d h))
       | false ↦ λ h i. more (declares_constant x (leaf-kept v j e i)) (left-constants v d (j + length (occurrences e)) (suc k) cs i)
     ]) refl

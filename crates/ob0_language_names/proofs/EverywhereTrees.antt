@@ -1,7 +1,7 @@
 -- Writing the literals and removing the declaration in one edit gives the same module as doing one after the other.
 use Rattle.std.proofs.Common.{ap, arith, eqb-true, false, if◌then◌else◌, length, ne_eqb, refl, suc, sym, true, ℕ, ◌+◌, ◌<◌, ◌==◌, ◌∙◌, ◌∷◌, ◌≡◌}
 use Rattle.ob0_tree.specs.Tree.{Tree, block, constant, constants, declares, declares_constant, declares_constants, declares_procedure, end, factor, forms_block, is_module, item, items, maybe, module_text, more, none, occurrences, one, procedure}
-use Rattle.ob0_language_names.specs.Inlining.{OccurrenceSet, block_without_constant, inline_in_tree, inlined, module_without_constant, procedure_without_constant, procedures_without_constant, section_without_constant, constants_without}
+use Rattle.ob0_language_names.specs.Inlining.{OccurrenceSet, block_without_constant, inline_in_tree, inlined, module_without_constant, procedure_without_constant, procedures_without_constant, section_without_constant, constants_without_ordinal}
 use Rattle.ob0_language_names.specs.Names.{Name}
 use Rattle.ob0_language_names.specs.Parts.{constant_names, formal_names, formal_sections, section_constants}
 use Rattle.ob0_language_names.specs.Scopes.{ordinal_after_block, ordinal_after_names, ordinal_after_procedure, ordinal_after_procedures, first_procedure_ordinal}
@@ -47,11 +47,11 @@ gone-later uses v d j k (more (declares_constant x e) cs) h =
     (ne_eqb k d (λ e. omega (arith, e, h)))
     ∙ (λ i. more (declares_constant x (inline_in_tree uses v j e)) (gone-later uses v d (j + length (occurrences e)) (suc k) cs (omega (arith, h)) i))
 
-gone-constants : (uses : OccurrenceSet) (v : Tree Name factor) (d j k : ℕ) (cs : Tree Name (items constant)) → edited_constants (everywhere uses v d) j k cs ≡ constants_without d k (inline_in_tree uses v j cs)
+gone-constants : (uses : OccurrenceSet) (v : Tree Name factor) (d j k : ℕ) (cs : Tree Name (items constant)) → edited_constants (everywhere uses v d) j k cs ≡ constants_without_ordinal d k (inline_in_tree uses v j cs)
 gone-constants uses v d j k end = refl
 gone-constants uses v d j k (more (declares_constant x e) cs) =
     (elim (k == d) as (λ b. k == d ≡ b → (if b then edited_constants (everywhere uses v d) (j + length (occurrences e)) (suc k) cs else more (declares_constant x (inline_in_tree uses v j e)) (edited_constants (everywhere uses v d) (j + length (occurrences e)) (suc k) cs))
-    ≡ (if b then inline_in_tree uses v (j + length (occurrences e)) cs else more (declares_constant x (inline_in_tree uses v j e)) (constants_without d (suc k) (inline_in_tree uses v (j + length (occurrences e)) cs)))) [
+    ≡ (if b then inline_in_tree uses v (j + length (occurrences e)) cs else more (declares_constant x (inline_in_tree uses v j e)) (constants_without_ordinal d (suc k) (inline_in_tree uses v (j + length (occurrences e)) cs)))) [
       | true ↦ λ h. gone-later uses v d (j + length (occurrences e)) (suc k) cs (omega (arith, eqb-true k d h))
       | false ↦ λ h i. more (declares_constant x (inline_in_tree uses v j e)) (gone-constants uses v d (j + length (occurrences e)) (suc k) cs i)
     ]) refl

@@ -4,8 +4,9 @@ use Rattle.std.proofs.Common.{List, None, [], arith, length, map, refl, subst, s
 use Rattle.ob0_tree.specs.Tree.{Sort, Tree, block, body, constant, constants, declares, declares_constant, declares_constants, declares_procedure, declares_type, declares_types, declares_variable, declares_variables, end, expression, formals, further_section, forms_block, item, items, maybe, more, no_formals, none, occurrences, one, procedure, section, some_formals, then_section, type_definition, type_definitions, value_section, variable, variable_section, variables, written_type}
 use Rattle.ob0_language_names.specs.Names.{Label, Name, Naming}
 use Rattle.ob0_language_names.specs.Parts.{formal_names, formal_sections, names_in_list, procedure_name, section_constants, parameter_section_names, parameter_section_type, section_types, section_variables}
-use Rattle.ob0_language_names.specs.Scopes.{Scope, ordinal_after_names, ordinal_after_procedure, label_from_ordinal, body_scope, declare_names, first_procedure_ordinal, first_type_ordinal, first_variable_ordinal, label_of, scope_before_procedures, relabel_block, relabel_constant_section, relabel_constants, relabel_formals, relabel_procedure, relabel_procedures, relabel_section, relabel_sections, relabel_type_section, relabel_types, relabel_uses, relabel_variable_section, relabel_variables, scope_before_types, scope_before_variables}
-use Rattle.ob0_language_names.proofs.OccurrenceNames.{as_many-constant_section, as_many-formals, as_many-procedure, as_many-procedures, as_many-section, as_many-type_section, as_many-uses, as_many-variable_section, longer, occurrences-map_names}
+use Rattle.ob0_language_names.specs.Scopes.{Scope, ordinal_after_names, ordinal_after_procedure, label_from_ordinal, body_scope, declare_names, first_procedure_ordinal, first_type_ordinal, first_variable_ordinal, label_of, scope_before_procedures, relabel_block, relabel_constant_section, relabel_constants, relabel_formals, relabel_procedure, relabel_procedures, relabel_parameter_section, relabel_parameter_sections, relabel_type_section, relabel_types, relabel_uses, relabel_variable_section, relabel_variables, scope_before_types, scope_before_variables}
+use Rattle.ob0_language_names.proofs.OccurrenceNames.{as_many-constant_section, as_many-formals, as_many-procedure, as_many-procedures, as_many-section, as_many-type_section, as_many-uses, as_many-variable_section, longer}
+use Rattle.ob0_language_names.proofs.OccurrencesMapped.{occurrences-mapped}
 
 -- holds if `Q` holds for each occurrence in a list, whose numbers count up from `j`
 abbrev pub Each : (ℕ → Scope Name → Name → Type 0) → ℕ → Scope Name → List Name → Type 0
@@ -76,8 +77,8 @@ module _ (u v : Naming Name) (R S : ℕ → Label → Type 0) (L : Placed) (make
 
   pub each-uses : {s : Sort} (j : ℕ) (scope : Scope Name) (t : Tree Name s) → AllAt R j (occurrences (relabel_uses u (label_from_ordinal u) scope t)) → AllAt S j (occurrences (relabel_uses v (label_from_ordinal v) scope t)) → L s j scope t
   each-uses {s} j scope t f g =
-      make s j scope t (each-names j scope (occurrences t) (subst (AllAt R j) (occurrences-map_names (label_of u (label_from_ordinal u) scope) (label_from_ordinal u None) t) f)
-      (subst (AllAt S j) (occurrences-map_names (label_of v (label_from_ordinal v) scope) (label_from_ordinal v None) t) g))
+      make s j scope t (each-names j scope (occurrences t) (subst (AllAt R j) (occurrences-mapped (label_of u (label_from_ordinal u) scope) (label_from_ordinal u None) (λ n. n) t) f)
+      (subst (AllAt S j) (occurrences-mapped (label_of v (label_from_ordinal v) scope) (label_from_ordinal v None) (λ n. n) t) g))
 
   pub each-constants : (j : ℕ) (scope : Scope Name) (k : ℕ) (cs : Tree Name (items constant)) → AllAt R j (occurrences (relabel_constants u (label_from_ordinal u) scope k cs)) → AllAt S j (occurrences (relabel_constants v (label_from_ordinal v) scope k cs)) → EachConstant L j scope k cs
   each-constants j scope k end f g = tt
@@ -100,15 +101,15 @@ module _ (u v : Naming Name) (R S : ℕ → Label → Type 0) (L : Placed) (make
       let g' = cut S j (length (occurrences t)) (occurrences (relabel_uses v (label_from_ordinal v) scope t)) (occurrences (relabel_variables v (label_from_ordinal v) (declare_names k (names_in_list ns) scope) (ordinal_after_names k (names_in_list ns)) gs)) (as_many-uses v (label_from_ordinal v) scope t) g in
       (each-uses j scope t f'.0 g'.0, each-variables (j + length (occurrences t)) (declare_names k (names_in_list ns) scope) (ordinal_after_names k (names_in_list ns)) gs f'.1 g'.1)
 
-  each-section : (j : ℕ) (scope : Scope Name) (k : ℕ) (s : Tree Name section) → AllAt R j (occurrences (relabel_section u (label_from_ordinal u) scope k s)) → AllAt S j (occurrences (relabel_section v (label_from_ordinal v) scope k s)) → L written_type j scope (parameter_section_type s)
+  each-section : (j : ℕ) (scope : Scope Name) (k : ℕ) (s : Tree Name section) → AllAt R j (occurrences (relabel_parameter_section u (label_from_ordinal u) scope k s)) → AllAt S j (occurrences (relabel_parameter_section v (label_from_ordinal v) scope k s)) → L written_type j scope (parameter_section_type s)
   each-section j scope k (value_section ns t) f g = each-uses j scope t f g
   each-section j scope k (variable_section ns t) f g = each-uses j scope t f g
 
-  pub each-sections : (j : ℕ) (scope : Scope Name) (k : ℕ) (fs : Tree Name (items further_section)) → AllAt R j (occurrences (relabel_sections u (label_from_ordinal u) scope k fs)) → AllAt S j (occurrences (relabel_sections v (label_from_ordinal v) scope k fs)) → EachSection L j scope k fs
+  pub each-sections : (j : ℕ) (scope : Scope Name) (k : ℕ) (fs : Tree Name (items further_section)) → AllAt R j (occurrences (relabel_parameter_sections u (label_from_ordinal u) scope k fs)) → AllAt S j (occurrences (relabel_parameter_sections v (label_from_ordinal v) scope k fs)) → EachSection L j scope k fs
   each-sections j scope k end f g = tt
   each-sections j scope k (more (then_section s) fs) f g =
-      let f' = cut R j (length (occurrences s)) (occurrences (relabel_section u (label_from_ordinal u) scope k s)) (occurrences (relabel_sections u (label_from_ordinal u) (declare_names k (parameter_section_names s) scope) (ordinal_after_names k (parameter_section_names s)) fs)) (as_many-section u (label_from_ordinal u) scope k s) f in
-      let g' = cut S j (length (occurrences s)) (occurrences (relabel_section v (label_from_ordinal v) scope k s)) (occurrences (relabel_sections v (label_from_ordinal v) (declare_names k (parameter_section_names s) scope) (ordinal_after_names k (parameter_section_names s)) fs)) (as_many-section v (label_from_ordinal v) scope k s) g in
+      let f' = cut R j (length (occurrences s)) (occurrences (relabel_parameter_section u (label_from_ordinal u) scope k s)) (occurrences (relabel_parameter_sections u (label_from_ordinal u) (declare_names k (parameter_section_names s) scope) (ordinal_after_names k (parameter_section_names s)) fs)) (as_many-section u (label_from_ordinal u) scope k s) f in
+      let g' = cut S j (length (occurrences s)) (occurrences (relabel_parameter_section v (label_from_ordinal v) scope k s)) (occurrences (relabel_parameter_sections v (label_from_ordinal v) (declare_names k (parameter_section_names s) scope) (ordinal_after_names k (parameter_section_names s)) fs)) (as_many-section v (label_from_ordinal v) scope k s) g in
       (each-section j scope k s f'.0 g'.0, each-sections (j + length (occurrences s)) (declare_names k (parameter_section_names s) scope) (ordinal_after_names k (parameter_section_names s)) fs f'.1 g'.1)
 
   each-formals : (j : ℕ) (scope : Scope Name) (k : ℕ) (fs : Tree Name (maybe formals)) → AllAt R j (occurrences (relabel_formals u (label_from_ordinal u) scope k fs)) → AllAt S j (occurrences (relabel_formals v (label_from_ordinal v) scope k fs)) → EachSection L j scope k (formal_sections fs)

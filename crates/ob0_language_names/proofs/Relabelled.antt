@@ -3,7 +3,7 @@ use Rattle.std.proofs.Common.{◌≡◌, ℕ, suc, ◌∷◌, Some, refl}
 use Rattle.ob0_tree.specs.Tree.{Tree, constants, declares_constants, declares_types, declares_variables, end, formals, further_name, items, listed, maybe, more, names, no_formals, none, one, section, some_formals, then_name, type_definitions, value_section, variable_section, variables}
 use Rattle.ob0_language_names.specs.Names.{Naming}
 use Rattle.ob0_language_names.specs.Parts.{formal_sections, further_names, names_in_list, section_constants, parameter_section_names, parameter_section_type, section_types, section_variables}
-use Rattle.ob0_language_names.specs.Scopes.{Labelling, Scope, labels_of_declared_names, relabel_constant_section, relabel_constants, relabel_formals, relabel_further_names, relabel_names, relabel_section, relabel_sections, relabel_type_section, relabel_types, relabel_uses, relabel_variable_section, relabel_variables}
+use Rattle.ob0_language_names.specs.Scopes.{Labelling, Scope, labels_of_declared_names, relabel_constant_section, relabel_constants, relabel_formals, relabel_further_names, relabel_names, relabel_parameter_section, relabel_parameter_sections, relabel_type_section, relabel_types, relabel_uses, relabel_variable_section, relabel_variables}
 
 pub further-relabel : {N M : Type 0} (label : Labelling N M) (k : ℕ) (xs : Tree N (items further_name)) → further_names (relabel_further_names label k xs) ≡ labels_of_declared_names label k (further_names xs)
 further-relabel label k end = refl
@@ -12,11 +12,11 @@ further-relabel label k (more (then_name x) xs) = λ i. label (Some k) x ∷ fur
 pub names-relabel : {N M : Type 0} (label : Labelling N M) (k : ℕ) (ns : Tree N names) → names_in_list (relabel_names label k ns) ≡ labels_of_declared_names label k (names_in_list ns)
 names-relabel label k (listed x xs) = λ i. label (Some k) x ∷ further-relabel label (suc k) xs i
 
-pub parameter_section_names-relabel : {N M : Type 0} (naming : Naming N) (label : Labelling N M) (scope : Scope N) (k : ℕ) (s : Tree N section) → parameter_section_names (relabel_section naming label scope k s) ≡ labels_of_declared_names label k (parameter_section_names s)
+pub parameter_section_names-relabel : {N M : Type 0} (naming : Naming N) (label : Labelling N M) (scope : Scope N) (k : ℕ) (s : Tree N section) → parameter_section_names (relabel_parameter_section naming label scope k s) ≡ labels_of_declared_names label k (parameter_section_names s)
 parameter_section_names-relabel naming label scope k (value_section ns t) = names-relabel label k ns
 parameter_section_names-relabel naming label scope k (variable_section ns t) = names-relabel label k ns
 
-pub parameter_section_type-relabel : {N M : Type 0} (naming : Naming N) (label : Labelling N M) (scope : Scope N) (k : ℕ) (s : Tree N section) → parameter_section_type (relabel_section naming label scope k s) ≡ relabel_uses naming label scope (parameter_section_type s)
+pub parameter_section_type-relabel : {N M : Type 0} (naming : Naming N) (label : Labelling N M) (scope : Scope N) (k : ℕ) (s : Tree N section) → parameter_section_type (relabel_parameter_section naming label scope k s) ≡ relabel_uses naming label scope (parameter_section_type s)
 parameter_section_type-relabel naming label scope k (value_section ns t) = refl
 parameter_section_type-relabel naming label scope k (variable_section ns t) = refl
 
@@ -32,7 +32,7 @@ pub variables-section : {N M : Type 0} (naming : Naming N) (label : Labelling N 
 variables-section naming label scope k none = refl
 variables-section naming label scope k (one (declares_variables vs)) = refl
 
-pub formals-section : {N M : Type 0} (naming : Naming N) (label : Labelling N M) (scope : Scope N) (k : ℕ) (fs : Tree N (maybe formals)) → formal_sections (relabel_formals naming label scope k fs) ≡ relabel_sections naming label scope k (formal_sections fs)
+pub formals-section : {N M : Type 0} (naming : Naming N) (label : Labelling N M) (scope : Scope N) (k : ℕ) (fs : Tree N (maybe formals)) → formal_sections (relabel_formals naming label scope k fs) ≡ relabel_parameter_sections naming label scope k (formal_sections fs)
 formals-section naming label scope k none = refl
 formals-section naming label scope k (one no_formals) = refl
 formals-section naming label scope k (one (some_formals s fs)) = refl

@@ -10,7 +10,7 @@ use Rattle.ob0_language_names.specs.RenamingLaws.{FreeRenamingKeepsConsistentNam
 use Rattle.ob0_language_names.proofs.DistinctNames.{Falls, distinct-onto, distinct-renamed, labels_in, new_name, onto, onto-append, own_name}
 use Rattle.ob0_language_names.proofs.Ordinals.{le-ordinal_after_procedure}
 use Rattle.ob0_language_names.proofs.Relabelled.{constants-section, formals-section, names-relabel, parameter_section_names-relabel, parameter_section_type-relabel, types-section, variables-section}
-use Rattle.ob0_language_names.specs.Scopes.{Labelling, Scope, ordinal_after_block, ordinal_after_names, ordinal_after_procedure, ordinal_after_procedures, body_scope, declare_names, declare_procedure_names, first_procedure_ordinal, first_type_ordinal, first_variable_ordinal, labels_of_declared_names, label_of, predeclared_scope, scope_before_procedures, relabel_block, relabel_constant_section, relabel_constants, relabel_procedure, relabel_procedures, relabel_sections, relabel_type_section, relabel_types, relabel_variable_section, relabel_variables, scope_before_types, scope_before_variables}
+use Rattle.ob0_language_names.specs.Scopes.{Labelling, Scope, ordinal_after_block, ordinal_after_names, ordinal_after_procedure, ordinal_after_procedures, body_scope, declare_names, declare_procedure_names, first_procedure_ordinal, first_type_ordinal, first_variable_ordinal, labels_of_declared_names, label_of, predeclared_scope, scope_before_procedures, relabel_block, relabel_constant_section, relabel_constants, relabel_procedure, relabel_procedures, relabel_parameter_sections, relabel_type_section, relabel_types, relabel_variable_section, relabel_variables, scope_before_types, scope_before_variables}
 use Rattle.std.proofs.lemmas.Cmp.{nat_list_eq_equiv}
 use Rattle.std.proofs.lemmas.Bool.{and_from, and_parts, or_parts}
 use Rattle.std.proofs.lemmas.List.Folds.{list_any-append}
@@ -40,7 +40,7 @@ variables-labels naming label scope k (more (declares_variable ns t) gs) =
     (λ i. names-relabel label k ns i ++ variables-labels naming label (declare_names k (names_in_list ns) scope) (ordinal_after_names k (names_in_list ns)) gs i)
     ∙ sym (labels_of_declared_names-append label k (names_in_list ns) (variable_names gs))
 
-pub sections-labels : {N M : Type 0} (naming : Naming N) (label : Labelling N M) (scope : Scope N) (k : ℕ) (fs : Tree N (items further_section)) → formal_names (relabel_sections naming label scope k fs) ≡ labels_of_declared_names label k (formal_names fs)
+pub sections-labels : {N M : Type 0} (naming : Naming N) (label : Labelling N M) (scope : Scope N) (k : ℕ) (fs : Tree N (items further_section)) → formal_names (relabel_parameter_sections naming label scope k fs) ≡ labels_of_declared_names label k (formal_names fs)
 sections-labels naming label scope k end = refl
 sections-labels naming label scope k (more (then_section s) fs) =
     (λ i. parameter_section_names-relabel naming label scope k s i ++ sections-labels naming label (declare_names k (parameter_section_names s) scope) (ordinal_after_names k (parameter_section_names s)) fs i)
@@ -156,7 +156,7 @@ variables_have_distinct_fields-renamed d new scope k end = refl
 variables_have_distinct_fields-renamed d new scope k (more (declares_variable ns t) gs) = λ i.
     has_distinct_fields-kept (label_of naming_by_spelling (new_name d new) scope) t i && variables_have_distinct_fields-renamed d new (declare_names k (names_in_list ns) scope) (ordinal_after_names k (names_in_list ns)) gs i
 
-pub formals_have_distinct_fields-renamed : (d : ℕ) (new : Name) (scope : Scope Name) (k : ℕ) (fs : Tree Name (items further_section)) → formals_have_distinct_fields (relabel_sections naming_by_spelling (new_name d new) scope k fs) ≡ formals_have_distinct_fields fs
+pub formals_have_distinct_fields-renamed : (d : ℕ) (new : Name) (scope : Scope Name) (k : ℕ) (fs : Tree Name (items further_section)) → formals_have_distinct_fields (relabel_parameter_sections naming_by_spelling (new_name d new) scope k fs) ≡ formals_have_distinct_fields fs
 formals_have_distinct_fields-renamed d new scope k end = refl
 formals_have_distinct_fields-renamed d new scope k (more (then_section s) fs) = λ i.
     (ap has_distinct_fields (parameter_section_type-relabel naming_by_spelling (new_name d new) scope k s) ∙ has_distinct_fields-kept (label_of naming_by_spelling (new_name d new) scope) (parameter_section_type s)) i

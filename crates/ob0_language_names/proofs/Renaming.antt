@@ -5,7 +5,7 @@ use Rattle.ob0_language_names.specs.Laws.{FreeRenamingKeepsNumbering}
 use Rattle.ob0_language_names.specs.Names.{Label, Name, Naming, naming_by_spelling, as_written, declared}
 use Rattle.ob0_language_names.specs.Occurrences.{bindings}
 use Rattle.ob0_language_names.specs.Parts.{constant_names, formal_names, formal_sections, declared_type_names, names_in_list, procedure_name, section_constants, parameter_section_names, section_types, section_variables, variable_names}
-use Rattle.ob0_language_names.specs.Scopes.{Labelling, Scope, ordinal_after_block, ordinal_after_names, ordinal_after_procedure, ordinal_after_procedures, label_from_ordinal, body_scope, declare_names, first_procedure_ordinal, first_type_ordinal, first_variable_ordinal, labels_of_declared_names, label_of, numbered, predeclared_scope, scope_before_procedures, relabel_block, relabel_constant_section, relabel_constants, relabel_formals, relabel_further_names, relabel_names, relabel_procedure, relabel_procedures, relabel_section, relabel_sections, relabel_type_section, relabel_types, relabel_uses, relabel_variable_section, relabel_variables, renamed, same_ordinal, scope_before_types, scope_before_variables}
+use Rattle.ob0_language_names.specs.Scopes.{Labelling, Scope, ordinal_after_block, ordinal_after_names, ordinal_after_procedure, ordinal_after_procedures, label_from_ordinal, body_scope, declare_names, first_procedure_ordinal, first_type_ordinal, first_variable_ordinal, labels_of_declared_names, label_of, numbered, predeclared_scope, scope_before_procedures, relabel_block, relabel_constant_section, relabel_constants, relabel_formals, relabel_further_names, relabel_names, relabel_procedure, relabel_procedures, relabel_parameter_section, relabel_parameter_sections, relabel_type_section, relabel_types, relabel_uses, relabel_variable_section, relabel_variables, renamed, same_ordinal, scope_before_types, scope_before_variables}
 use Rattle.ob0_language_names.proofs.Ordinals.{ordinal_after_names-append}
 use Rattle.ob0_language_names.proofs.Peeling.{Peel, both, nothing, peel, to}
 use Rattle.ob0_language_names.proofs.Relabelled.{constants-section, formals-section, names-relabel, parameter_section_names-relabel, types-section, variables-section}
@@ -32,11 +32,11 @@ after_groups naming label scope j k (more (declares_variable ns u) gs) e =
     ∙ (after_groups naming label (declare_names k (names_in_list ns) scope) (ordinal_after_names j (labels_of_declared_names label k (names_in_list ns))) (ordinal_after_names k (names_in_list ns)) gs (ordinal_after_names-label label j k (names_in_list ns) e)
     ∙ sym (ordinal_after_names-append k (names_in_list ns) (variable_names gs))))
 
-pub after_sections : {N M : Type 0} (naming : Naming N) (label : Labelling N M) (scope : Scope N) (j k : ℕ) (fs : Tree N (items further_section)) → j ≡ k → ordinal_after_names j (formal_names (relabel_sections naming label scope k fs)) ≡ ordinal_after_names k (formal_names fs)
+pub after_sections : {N M : Type 0} (naming : Naming N) (label : Labelling N M) (scope : Scope N) (j k : ℕ) (fs : Tree N (items further_section)) → j ≡ k → ordinal_after_names j (formal_names (relabel_parameter_sections naming label scope k fs)) ≡ ordinal_after_names k (formal_names fs)
 after_sections naming label scope j k end e = e
 after_sections naming label scope j k (more (then_section f) fs) e =
-    ap (λ xs. ordinal_after_names j (xs ++ formal_names (relabel_sections naming label (declare_names k (parameter_section_names f) scope) (ordinal_after_names k (parameter_section_names f)) fs))) (parameter_section_names-relabel naming label scope k f)
-    ∙ (ordinal_after_names-append j (labels_of_declared_names label k (parameter_section_names f)) (formal_names (relabel_sections naming label (declare_names k (parameter_section_names f) scope) (ordinal_after_names k (parameter_section_names f)) fs))
+    ap (λ xs. ordinal_after_names j (xs ++ formal_names (relabel_parameter_sections naming label (declare_names k (parameter_section_names f) scope) (ordinal_after_names k (parameter_section_names f)) fs))) (parameter_section_names-relabel naming label scope k f)
+    ∙ (ordinal_after_names-append j (labels_of_declared_names label k (parameter_section_names f)) (formal_names (relabel_parameter_sections naming label (declare_names k (parameter_section_names f) scope) (ordinal_after_names k (parameter_section_names f)) fs))
     ∙ (after_sections naming label (declare_names k (parameter_section_names f) scope) (ordinal_after_names j (labels_of_declared_names label k (parameter_section_names f))) (ordinal_after_names k (parameter_section_names f)) fs (ordinal_after_names-label label j k (parameter_section_names f) e)
     ∙ sym (ordinal_after_names-append k (parameter_section_names f) (formal_names fs))))
 
@@ -119,21 +119,21 @@ peel_variables naming ren keeps there here j k jk (more (declares_variable ns t)
     (λ p i. more (declares_variable (names-twice naming ren j k jk ns i) (p.first i)) (p.second i))
 
 pub peel_section : {N : Type 0} (naming : Naming N) (ren : Labelling N N) → LeavesUnbound ren → (there here : Scope N) (j k : ℕ) → j ≡ k → (s : Tree N section)
-    → Peel Label (occurrences (relabel_section naming (label_from_ordinal naming) there j (relabel_section naming ren here k s))) (occurrences (relabel_section naming (label_from_ordinal naming) here k s))
-    (relabel_section naming (label_from_ordinal naming) there j (relabel_section naming ren here k s) ≡ relabel_section naming (label_from_ordinal naming) here k s)
+    → Peel Label (occurrences (relabel_parameter_section naming (label_from_ordinal naming) there j (relabel_parameter_section naming ren here k s))) (occurrences (relabel_parameter_section naming (label_from_ordinal naming) here k s))
+    (relabel_parameter_section naming (label_from_ordinal naming) there j (relabel_parameter_section naming ren here k s) ≡ relabel_parameter_section naming (label_from_ordinal naming) here k s)
 peel_section naming ren keeps there here j k jk (value_section ns t) = to (peel_uses naming ren keeps there here t) (λ p i. value_section (names-twice naming ren j k jk ns i) (p i))
 peel_section naming ren keeps there here j k jk (variable_section ns t) = to (peel_uses naming ren keeps there here t) (λ p i. variable_section (names-twice naming ren j k jk ns i) (p i))
 
-pub after_section : {N : Type 0} (naming : Naming N) (ren : Labelling N N) (here : Scope N) (j k : ℕ) → j ≡ k → (s : Tree N section) → ordinal_after_names j (parameter_section_names (relabel_section naming ren here k s)) ≡ ordinal_after_names k (parameter_section_names s)
+pub after_section : {N : Type 0} (naming : Naming N) (ren : Labelling N N) (here : Scope N) (j k : ℕ) → j ≡ k → (s : Tree N section) → ordinal_after_names j (parameter_section_names (relabel_parameter_section naming ren here k s)) ≡ ordinal_after_names k (parameter_section_names s)
 after_section naming ren here j k jk s = ap (ordinal_after_names j) (parameter_section_names-relabel naming ren here k s) ∙ ordinal_after_names-label ren j k (parameter_section_names s) jk
 
 pub peel_sections : {N : Type 0} (naming : Naming N) (ren : Labelling N N) → LeavesUnbound ren → (there here : Scope N) (j k : ℕ) → j ≡ k → (fs : Tree N (items further_section))
-    → Peel Label (occurrences (relabel_sections naming (label_from_ordinal naming) there j (relabel_sections naming ren here k fs))) (occurrences (relabel_sections naming (label_from_ordinal naming) here k fs))
-    (relabel_sections naming (label_from_ordinal naming) there j (relabel_sections naming ren here k fs) ≡ relabel_sections naming (label_from_ordinal naming) here k fs)
+    → Peel Label (occurrences (relabel_parameter_sections naming (label_from_ordinal naming) there j (relabel_parameter_sections naming ren here k fs))) (occurrences (relabel_parameter_sections naming (label_from_ordinal naming) here k fs))
+    (relabel_parameter_sections naming (label_from_ordinal naming) there j (relabel_parameter_sections naming ren here k fs) ≡ relabel_parameter_sections naming (label_from_ordinal naming) here k fs)
 peel_sections naming ren keeps there here j k jk end = nothing refl
 peel_sections naming ren keeps there here j k jk (more (then_section s) fs) =
     to (both (peel_section naming ren keeps there here j k jk s)
-    (peel_sections naming ren keeps (declare_names j (parameter_section_names (relabel_section naming ren here k s)) there) (declare_names k (parameter_section_names s) here) (ordinal_after_names j (parameter_section_names (relabel_section naming ren here k s))) (ordinal_after_names k (parameter_section_names s)) (after_section naming ren here j k jk s) fs))
+    (peel_sections naming ren keeps (declare_names j (parameter_section_names (relabel_parameter_section naming ren here k s)) there) (declare_names k (parameter_section_names s) here) (ordinal_after_names j (parameter_section_names (relabel_parameter_section naming ren here k s))) (ordinal_after_names k (parameter_section_names s)) (after_section naming ren here j k jk s) fs))
     (λ p i. more (then_section (p.first i)) (p.second i))
 
 pub peel_formals : {N : Type 0} (naming : Naming N) (ren : Labelling N N) → LeavesUnbound ren → (there here : Scope N) (j k : ℕ) → j ≡ k → (fs : Tree N (maybe formals))
@@ -143,7 +143,7 @@ peel_formals naming ren keeps there here j k jk none = nothing refl
 peel_formals naming ren keeps there here j k jk (one no_formals) = nothing refl
 peel_formals naming ren keeps there here j k jk (one (some_formals s fs)) =
     to (both (peel_section naming ren keeps there here j k jk s)
-    (peel_sections naming ren keeps (declare_names j (parameter_section_names (relabel_section naming ren here k s)) there) (declare_names k (parameter_section_names s) here) (ordinal_after_names j (parameter_section_names (relabel_section naming ren here k s))) (ordinal_after_names k (parameter_section_names s)) (after_section naming ren here j k jk s) fs))
+    (peel_sections naming ren keeps (declare_names j (parameter_section_names (relabel_parameter_section naming ren here k s)) there) (declare_names k (parameter_section_names s) here) (ordinal_after_names j (parameter_section_names (relabel_parameter_section naming ren here k s))) (ordinal_after_names k (parameter_section_names s)) (after_section naming ren here j k jk s) fs))
     (λ p i. one (some_formals (p.first i) (p.second i)))
 
 pub peel_constant_section : {N : Type 0} (naming : Naming N) (ren : Labelling N N) → LeavesUnbound ren → (there here : Scope N) (j k : ℕ) → j ≡ k → (cs : Tree N (maybe constants))

@@ -110,14 +110,14 @@ inlined m uses v = inline_in_tree uses v 0 m
 
 -- returns a list of constants without the constant with ordinal `d`; `k` is the ordinal of the first constant in the
 -- list
-abbrev pub constants_without : ℕ → ℕ → Tree Name (items constant) → Tree Name (items constant)
-constants_without d k end = end
-constants_without d k (more c cs) = if k == d then cs else more c (constants_without d (suc k) cs)
+abbrev pub constants_without_ordinal : ℕ → ℕ → Tree Name (items constant) → Tree Name (items constant)
+constants_without_ordinal d k end = end
+constants_without_ordinal d k (more c cs) = if k == d then cs else more c (constants_without_ordinal d (suc k) cs)
 
 -- returns a CONST section without the constant with ordinal `d`; `k` is the ordinal of the section's first constant
 abbrev pub section_without_constant : ℕ → ℕ → Tree Name (maybe constants) → Tree Name (maybe constants)
 section_without_constant d k none = none
-section_without_constant d k (one (declares_constants cs)) = one (declares_constants (constants_without d k cs))
+section_without_constant d k (one (declares_constants cs)) = one (declares_constants (constants_without_ordinal d k cs))
 
 -- Returns a block without the constant with ordinal `d`. The word CONST remains even if no constant is left.
 abbrev mutual

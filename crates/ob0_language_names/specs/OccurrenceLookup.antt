@@ -14,8 +14,8 @@ naming_for_lookup_of y = record { same = λ x. same_name y; written = λ x. x; p
 -- Returns the ordinal of the declaration to which the name `y` would be bound if `y` replaced the
 -- name at the occurrence with number `occurrence`. Occurrences of names are numbered from 0 in text
 -- order. Returns None if `y` would be unbound or there is no such occurrence.
-abbrev pub resolve_at_occurrence : Tree Name module_text → ℕ → Name → Option ℕ
-resolve_at_occurrence m occurrence y =
+abbrev pub resolve_name_at_occurrence : Tree Name module_text → ℕ → Name → Option ℕ
+resolve_name_at_occurrence m occurrence y =
     option_and_then label_ordinal
     (slice_get (occurrences (relabel_module (naming_for_lookup_of y) (label_from_ordinal (naming_for_lookup_of y)) m)) occurrence)
 

@@ -73,10 +73,10 @@ same_binding a b = same_label a b
 
 -- returns the first index, counted from 0, at which two lists of labels differ; None if the lists agree up to the end
 -- of the shorter list
-abbrev pub first_difference : List Label → List Label → Option ℕ
-first_difference (a ∷ as₁) (b ∷ bs) =
-    if same_binding a b then option_map suc (first_difference as₁ bs) else Some 0
-first_difference _ _ = None
+abbrev pub first_binding_difference : List Label → List Label → Option ℕ
+first_binding_difference (a ∷ as₁) (b ∷ bs) =
+    if same_binding a b then option_map suc (first_binding_difference as₁ bs) else Some 0
+first_binding_difference _ _ = None
 
 -- A conflict that a declaration's new name would cause. `at_declaration`: the block has another declaration with this
 -- name. `at_occurrence`: the binding of the occurrence with this number would change.
@@ -91,4 +91,4 @@ abbrev pub first_name_conflict : Tree Name module_text → ℕ → Name → Opti
 first_name_conflict m d new =
     if is_duplicate_name m d new
     then Some at_declaration
-    else option_map at_occurrence (first_difference (bindings (renamed m d new)) (bindings m))
+    else option_map at_occurrence (first_binding_difference (bindings (renamed m d new)) (bindings m))

@@ -19,6 +19,6 @@ FreeRenamingKeepsConsistentNames =
 
 -- States that a new name for a declaration has no conflict (`first_name_conflict` returns None) exactly if the new name
 -- is free.
-abbrev pub FreeMeansNoConflict : Type 0
-FreeMeansNoConflict =
+abbrev pub NameIsFreeIffNoConflict : Type 0
+NameIsFreeIffNoConflict =
     (m : Tree Name module_text) (d : ℕ) (new : Name) → first_name_conflict m d new ≡ None ↔ IsFreeName m d new

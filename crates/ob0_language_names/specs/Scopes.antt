@@ -13,10 +13,10 @@ Scope N = List (N × ℕ)
 
 -- returns the ordinal of the declaration that the name `x` is bound to: the first declaration with this name in the
 -- scope; None if the scope doesn't have this name
-abbrev pub ordinal_of : {N : Type 0} → Naming N → Scope N → N → Option ℕ
-ordinal_of naming [] x = None
-ordinal_of naming (b ∷ scope) x =
-    elim (naming.same x b.0) [ true ↦ Some b.1 | false ↦ ordinal_of naming scope x ]
+abbrev pub ordinal_in_scope : {N : Type 0} → Naming N → Scope N → N → Option ℕ
+ordinal_in_scope naming [] x = None
+ordinal_in_scope naming (b ∷ scope) x =
+    elim (naming.same x b.0) [ true ↦ Some b.1 | false ↦ ordinal_in_scope naming scope x ]
 
 -- Returns the scope with these names added. The first name gets the ordinal `k`, and each further
 -- name gets the next ordinal. The declarations of a module are numbered in text order, after the
@@ -66,7 +66,7 @@ Labelling N M = Option ℕ → N → M
 
 -- returns the label of the looked-up name `x`; `scope` is the scope at the name's place in the text
 abbrev pub label_of : {N M : Type 0} → Naming N → Labelling N M → Scope N → N → M
-label_of naming label scope x = label (ordinal_of naming scope x) x
+label_of naming label scope x = label (ordinal_in_scope naming scope x) x
 
 -- Returns a tree that contains no declarations (an expression, a written type or statements), with labels instead of
 -- names. Names are looked up in `scope`. The names of fields aren't looked up: they get the labels of unbound names.
@@ -143,31 +143,31 @@ relabel_variables naming label scope k (more (declares_variable ns t) gs) =
     (ordinal_after_names k (names_in_list ns)) gs)
 
 -- returns a section of parameters with labels instead of names; the parameters' ordinals count up from `k`
-abbrev pub relabel_section : {N M : Type 0}
+abbrev pub relabel_parameter_section : {N M : Type 0}
     → Naming N
     → Labelling N M
     → Scope N
     → ℕ
     → Tree N section
     → Tree M section
-relabel_section naming label scope k (value_section ns t) =
+relabel_parameter_section naming label scope k (value_section ns t) =
     value_section (relabel_names label k ns) (relabel_uses naming label scope t)
-relabel_section naming label scope k (variable_section ns t) =
+relabel_parameter_section naming label scope k (variable_section ns t) =
     variable_section (relabel_names label k ns) (relabel_uses naming label scope t)
 
 -- returns the sections of parameters after the first section, with labels instead of names; the parameters' ordinals
 -- count up from `k`, and each parameter is visible only after its own section
-abbrev pub relabel_sections : {N M : Type 0}
+abbrev pub relabel_parameter_sections : {N M : Type 0}
     → Naming N
     → Labelling N M
     → Scope N
     → ℕ
     → Tree N (items further_section)
     → Tree M (items further_section)
-relabel_sections naming label scope k end = end
-relabel_sections naming label scope k (more (then_section s) fs) =
-    more (then_section (relabel_section naming label scope k s))
-    (relabel_sections naming label (declare_names k (parameter_section_names s) scope)
+relabel_parameter_sections naming label scope k end = end
+relabel_parameter_sections naming label scope k (more (then_section s) fs) =
+    more (then_section (relabel_parameter_section naming label scope k s))
+    (relabel_parameter_sections naming label (declare_names k (parameter_section_names s) scope)
     (ordinal_after_names k (parameter_section_names s)) fs)
 
 -- returns formal parameters with labels instead of names; the parameters' ordinals count up from `k`
@@ -181,8 +181,8 @@ abbrev pub relabel_formals : {N M : Type 0}
 relabel_formals naming label scope k none = none
 relabel_formals naming label scope k (one no_formals) = one no_formals
 relabel_formals naming label scope k (one (some_formals s fs)) =
-    one (some_formals (relabel_section naming label scope k s)
-    (relabel_sections naming label (declare_names k (parameter_section_names s) scope)
+    one (some_formals (relabel_parameter_section naming label scope k s)
+    (relabel_parameter_sections naming label (declare_names k (parameter_section_names s) scope)
     (ordinal_after_names k (parameter_section_names s)) fs))
 
 -- returns a CONST section with labels instead of names; the ordinals of its constants count up from

@@ -4,7 +4,7 @@ use Rattle.ob0_tree.specs.Tree.{Tree, begins, block, body, constant, declares, d
 use Rattle.ob0_language_names.specs.Mapping.{map_names}
 use Rattle.ob0_language_names.specs.Names.{Label, Naming, naming_by_label, declared}
 use Rattle.ob0_language_names.specs.Parts.{block_statements, constant_names, formal_names, formal_sections, declared_type_names, names_in_list, procedure_formals, procedure_name, section_constants, parameter_section_names, section_types, section_variables, variable_names}
-use Rattle.ob0_language_names.specs.Scopes.{Labelling, Scope, ordinal_after_block, ordinal_after_names, ordinal_after_procedure, ordinal_after_procedures, label_from_ordinal, body_scope, declare_names, declare_procedure_names, first_procedure_ordinal, first_type_ordinal, first_variable_ordinal, labels_of_declared_names, label_of, predeclared_scope, scope_before_procedures, relabel_block, relabel_constants, relabel_formals, relabel_procedure, relabel_procedures, relabel_section, relabel_sections, relabel_type_section, relabel_types, relabel_uses, relabel_variable_section, relabel_variables, relabel_module, scope_before_types, scope_before_variables}
+use Rattle.ob0_language_names.specs.Scopes.{Labelling, Scope, ordinal_after_block, ordinal_after_names, ordinal_after_procedure, ordinal_after_procedures, label_from_ordinal, body_scope, declare_names, declare_procedure_names, first_procedure_ordinal, first_type_ordinal, first_variable_ordinal, labels_of_declared_names, label_of, predeclared_scope, scope_before_procedures, relabel_block, relabel_constants, relabel_formals, relabel_procedure, relabel_procedures, relabel_parameter_section, relabel_parameter_sections, relabel_type_section, relabel_types, relabel_uses, relabel_variable_section, relabel_variables, relabel_module, scope_before_types, scope_before_variables}
 use Rattle.ob0_language_names.proofs.Ordinals.{ordinal_after_names-append, declare_names-append, le-ordinal_after_procedure}
 use Rattle.ob0_language_names.proofs.Relabelled.{constants-section, formals-section, names-relabel, types-section, variables-section}
 use Rattle.ob0_language_types.specs.Declarations.{constructors_before_variables, constructors_before_procedures, declare_constants, declare_constants_and_types, declare_types, formals_constructor_count, procedure_constructor_count, types_constructor_count, variables_constructor_count}
@@ -12,11 +12,11 @@ use Rattle.ob0_language_types.specs.Environments.{meanings, newest_object}
 use Rattle.ob0_language_types.specs.Expressions.{Object, a_constant, a_procedure, a_standard, a_type, a_variable, read_procedure, write_procedure, write_line_procedure}
 use Rattle.ob0_language_types.specs.Typing.{constant_of, constant_value, constructor_count, denoted_type, type_of_type_object}
 use Rattle.ob0_language_values.specs.Values.{Place, Store, Value, boolean_shape, initial_value, integer_shape, truth}
-use Rattle.ob0_language_types.specs.WellTyped.{Mode, by_place, by_value, section_mode}
+use Rattle.ob0_language_types.specs.WellTyped.{Mode, by_place, by_value, parameter_section_mode}
 use Rattle.ob0_language_types.proofs.Agreeing.{Agree, HoldsOf, agree-map, agree-then, agree-value}
 use Rattle.ob0_language_types.proofs.Constructors.{formals_constructor_count-relabel, procedure_constructor_count-relabel, types_constructor_count-relabel, variables_constructor_count-relabel}
 use Rattle.ob0_language_types.proofs.TypeNaturality.{constant_value-map, constructor_count-map, denoted_type-map}
-use Rattle.ob0_language_runs.specs.Runs.{Activation, Argument, CallFunction, ProcedureText, Frame, Parameter, Progress, State, activate, allocate, bind_parameter, bind_parameters, call, declare_block, declare_procedures, declare_variables, execute_sequence, execute_body, run_result, formal_modes, continue_in_frame, parameters, object_for_statements, place_argument, run_with_naming, meanings_for_statements, value_argument, declare_procedures_in_frame}
+use Rattle.ob0_language_runs.specs.Runs.{Activation, Argument, CallFunction, ProcedureText, Frame, Parameter, Progress, State, activate, add_variables_to_frame, bind_parameter, bind_parameters, call, declare_block, declare_procedures, declare_variables, execute_sequence, execute_body, run_result, formal_modes, continue_in_frame, parameters, object_for_statements, place_argument, run_with_naming, meanings_for_statements, value_argument, declare_procedures_in_frame}
 use Rattle.ob0_language_runs.proofs.Noted.{Below, Below-from, Noted, OwnName, by_name, by_name-from, by_ordinal, by_ordinal-from, noted_from, numbered_code, numbered_object, scope_of}
 use Rattle.ob0_language_runs.proofs.RunNaturality.{execute_sequence-map}
 
@@ -27,11 +27,11 @@ labels_of_declared_names-modes label m k [] = refl
 labels_of_declared_names-modes label m k (x ∷ xs) = λ i. m ∷ labels_of_declared_names-modes label m (suc k) xs i
 
 pub section-modes : {N M : Type 0} (naming : Naming N) (label : Labelling N M) (scope : Scope N) (k : ℕ) (s : Tree N section)
-    → map (λ x. section_mode (relabel_section naming label scope k s)) (parameter_section_names (relabel_section naming label scope k s)) ≡ map (λ x. section_mode s) (parameter_section_names s)
+    → map (λ x. parameter_section_mode (relabel_parameter_section naming label scope k s)) (parameter_section_names (relabel_parameter_section naming label scope k s)) ≡ map (λ x. parameter_section_mode s) (parameter_section_names s)
 section-modes naming label scope k (value_section ns t) = ap (map (λ x. by_value)) (names-relabel label k ns) ∙ labels_of_declared_names-modes label by_value k (names_in_list ns)
 section-modes naming label scope k (variable_section ns t) = ap (map (λ x. by_place)) (names-relabel label k ns) ∙ labels_of_declared_names-modes label by_place k (names_in_list ns)
 
-pub relabel_formals-modes : {N M : Type 0} (naming : Naming N) (label : Labelling N M) (scope : Scope N) (k : ℕ) (fs : Tree N (items further_section)) → formal_modes (relabel_sections naming label scope k fs) ≡ formal_modes fs
+pub relabel_formals-modes : {N M : Type 0} (naming : Naming N) (label : Labelling N M) (scope : Scope N) (k : ℕ) (fs : Tree N (items further_section)) → formal_modes (relabel_parameter_sections naming label scope k fs) ≡ formal_modes fs
 relabel_formals-modes naming label scope k end = refl
 relabel_formals-modes naming label scope k (more (then_section f) fs) = λ i.
     section-modes naming label scope k f i ++ relabel_formals-modes naming label (declare_names k (parameter_section_names f) scope) (ordinal_after_names k (parameter_section_names f)) fs i
@@ -146,13 +146,13 @@ abbrev pub noted_variables : {N : Type 0} → ℕ → List N → Value → Noted
 noted_variables k [] v f = f
 noted_variables k (x ∷ xs) v f = noted_variables (suc k) xs v (noted_variable x k v f)
 
-pub allocate-by_name : {N : Type 0} (k : ℕ) (xs : List N) (v : Value) (f : NotedFrame N) → allocate xs v (frame_by_name f) ≡ frame_by_name (noted_variables k xs v f)
-allocate-by_name k [] v f = refl
-allocate-by_name k (x ∷ xs) v f = allocate-by_name (suc k) xs v (noted_variable x k v f)
+pub add_variables_to_frame-by_name : {N : Type 0} (k : ℕ) (xs : List N) (v : Value) (f : NotedFrame N) → add_variables_to_frame xs v (frame_by_name f) ≡ frame_by_name (noted_variables k xs v f)
+add_variables_to_frame-by_name k [] v f = refl
+add_variables_to_frame-by_name k (x ∷ xs) v f = add_variables_to_frame-by_name (suc k) xs v (noted_variable x k v f)
 
-pub allocate-by_ordinal : {N : Type 0} (naming : Naming N) (k : ℕ) (xs : List N) (v : Value) (f : NotedFrame N) → allocate (labels_of_declared_names (label_from_ordinal naming) k xs) v (frame_by_ordinal naming f) ≡ frame_by_ordinal naming (noted_variables k xs v f)
-allocate-by_ordinal naming k [] v f = refl
-allocate-by_ordinal naming k (x ∷ xs) v f = allocate-by_ordinal naming (suc k) xs v (noted_variable x k v f)
+pub add_variables_to_frame-by_ordinal : {N : Type 0} (naming : Naming N) (k : ℕ) (xs : List N) (v : Value) (f : NotedFrame N) → add_variables_to_frame (labels_of_declared_names (label_from_ordinal naming) k xs) v (frame_by_ordinal naming f) ≡ frame_by_ordinal naming (noted_variables k xs v f)
+add_variables_to_frame-by_ordinal naming k [] v f = refl
+add_variables_to_frame-by_ordinal naming k (x ∷ xs) v f = add_variables_to_frame-by_ordinal naming (suc k) xs v (noted_variable x k v f)
 
 pub noted_variables-within : {N : Type 0} (k : ℕ) (xs : List N) (v : Value) (f : NotedFrame N) → Below k f.noted → FrameWithin (ordinal_after_names k xs) (declare_names k xs (scope_of f.noted)) (noted_variables k xs v f)
 noted_variables-within k [] v f below = (refl, below)
@@ -161,14 +161,14 @@ noted_variables-within k (x ∷ xs) v f below = noted_variables-within (suc k) x
 -- Moves a fact along the scopes and the frames to which names are added.
 pub moved : {N X : Type 0} (Goal : ℕ → Scope N → Scope N → X → Frame N → Frame Label → Type 0) (naming : Naming N) (k : ℕ) (xs ys : List N) (v : Value) (f : NotedFrame N) (below : Below k f.noted) (x : X)
     → Goal (ordinal_after_names (ordinal_after_names k xs) ys) (declare_names (ordinal_after_names k xs) ys (scope_of (noted_variables k xs v f).noted)) (scope_of (noted_variables k xs v f).noted) x (frame_by_name (noted_variables k xs v f)) (frame_by_ordinal naming (noted_variables k xs v f))
-    → Goal (ordinal_after_names k (xs ++ ys)) (declare_names k (xs ++ ys) (scope_of f.noted)) (declare_names k xs (scope_of f.noted)) x (allocate xs v (frame_by_name f)) (allocate (labels_of_declared_names (label_from_ordinal naming) k xs) v (frame_by_ordinal naming f))
+    → Goal (ordinal_after_names k (xs ++ ys)) (declare_names k (xs ++ ys) (scope_of f.noted)) (declare_names k xs (scope_of f.noted)) x (add_variables_to_frame xs v (frame_by_name f)) (add_variables_to_frame (labels_of_declared_names (label_from_ordinal naming) k xs) v (frame_by_ordinal naming f))
 moved Goal naming k xs ys v f below x h =
     let e = (noted_variables-within k xs v f below).0 in
-    subst₂ (λ n s. Goal n s (declare_names k xs (scope_of f.noted)) x (allocate xs v (frame_by_name f)) (allocate (labels_of_declared_names (label_from_ordinal naming) k xs) v (frame_by_ordinal naming f)))
+    subst₂ (λ n s. Goal n s (declare_names k xs (scope_of f.noted)) x (add_variables_to_frame xs v (frame_by_name f)) (add_variables_to_frame (labels_of_declared_names (label_from_ordinal naming) k xs) v (frame_by_ordinal naming f)))
     (sym (ordinal_after_names-append k xs ys)) (sym (declare_names-append k xs ys (scope_of f.noted)))
-    (subst (λ s. Goal (ordinal_after_names (ordinal_after_names k xs) ys) (declare_names (ordinal_after_names k xs) ys s) s x (allocate xs v (frame_by_name f)) (allocate (labels_of_declared_names (label_from_ordinal naming) k xs) v (frame_by_ordinal naming f))) e
+    (subst (λ s. Goal (ordinal_after_names (ordinal_after_names k xs) ys) (declare_names (ordinal_after_names k xs) ys s) s x (add_variables_to_frame xs v (frame_by_name f)) (add_variables_to_frame (labels_of_declared_names (label_from_ordinal naming) k xs) v (frame_by_ordinal naming f))) e
     (subst₂ (λ a b. Goal (ordinal_after_names (ordinal_after_names k xs) ys) (declare_names (ordinal_after_names k xs) ys (scope_of (noted_variables k xs v f).noted)) (scope_of (noted_variables k xs v f).noted) x a b)
-    (sym (allocate-by_name k xs v f)) (sym (allocate-by_ordinal naming k xs v f)) h))
+    (sym (add_variables_to_frame-by_name k xs v f)) (sym (add_variables_to_frame-by_ordinal naming k xs v f)) h))
 
 pub variables_declared : {N : Type 0} (naming : Naming N) (j k : ℕ) (f : NotedFrame N) → Below k f.noted → (gs : Tree N (items variable))
     → Agree frame_by_name (frame_by_ordinal naming) (FrameWithin (ordinal_after_names k (variable_names gs)) (declare_names k (variable_names gs) (scope_of f.noted)))
@@ -178,8 +178,8 @@ variables_declared naming j k f below end = (Some f, refl, refl, (refl, below))
 variables_declared naming j k f below (more (declares_variable ns u) gs) =
     rw (constructor_count-map (label_of naming (label_from_ordinal naming) (scope_of f.noted)) (label_from_ordinal naming None) u, names-relabel (label_from_ordinal naming) k ns)
     (agree-value frame_by_name (frame_by_ordinal naming) (FrameWithin (ordinal_after_names k (names_in_list ns ++ variable_names gs)) (declare_names k (names_in_list ns ++ variable_names gs) (scope_of f.noted)))
-    (λ s. declare_variables naming (j + constructor_count u) gs (allocate (names_in_list ns) (initial_value s) (frame_by_name f)))
-    (λ s. declare_variables naming_by_label (j + constructor_count u) (relabel_variables naming (label_from_ordinal naming) (declare_names k (names_in_list ns) (scope_of f.noted)) (ordinal_after_names k (names_in_list ns)) gs) (allocate (labels_of_declared_names (label_from_ordinal naming) k (names_in_list ns)) (initial_value s) (frame_by_ordinal naming f)))
+    (λ s. declare_variables naming (j + constructor_count u) gs (add_variables_to_frame (names_in_list ns) (initial_value s) (frame_by_name f)))
+    (λ s. declare_variables naming_by_label (j + constructor_count u) (relabel_variables naming (label_from_ordinal naming) (declare_names k (names_in_list ns) (scope_of f.noted)) (ordinal_after_names k (names_in_list ns)) gs) (add_variables_to_frame (labels_of_declared_names (label_from_ordinal naming) k (names_in_list ns)) (initial_value s) (frame_by_ordinal naming f)))
     (denoted_type (meanings naming (by_name f.noted)) j u) (denoted_type (meanings naming_by_label (by_ordinal naming f.noted)) j (relabel_uses naming (label_from_ordinal naming) (scope_of f.noted) u))
     (denoted_type-map (label_at_token naming f.noted) (label_from_ordinal naming None) (meanings naming_by_label (by_ordinal naming f.noted)) (meanings naming (by_name f.noted)) (constants-agree naming k f.noted below) (types-agree naming k f.noted below) (λ x. refl) j u)
     (λ s. moved (λ n scope inner i a b. Agree frame_by_name (frame_by_ordinal naming) (FrameWithin n scope) (declare_variables naming i gs a) (declare_variables naming_by_label i (relabel_variables naming (label_from_ordinal naming) inner (ordinal_after_names k (names_in_list ns)) gs) b))
@@ -310,23 +310,23 @@ parameter_names-append m (x ∷ xs) ps = λ i. x ∷ parameter_names-append m xs
 
 pub formal_names-parameters : {N : Type 0} (fs : Tree N (items further_section)) → parameter_names (parameters fs) ≡ formal_names fs
 formal_names-parameters end = refl
-formal_names-parameters (more (then_section f) fs) = parameter_names-append (section_mode f) (parameter_section_names f) (parameters fs) ∙ ap (λ ys. parameter_section_names f ++ ys) (formal_names-parameters fs)
+formal_names-parameters (more (then_section f) fs) = parameter_names-append (parameter_section_mode f) (parameter_section_names f) (parameters fs) ∙ ap (λ ys. parameter_section_names f ++ ys) (formal_names-parameters fs)
 
 pub label_parameters-append : {N M : Type 0} (label : Labelling N M) (m : Mode) (k : ℕ) (xs : List N) (ps : List (Parameter N)) → map (with_mode m) (labels_of_declared_names label k xs) ++ label_parameters label (ordinal_after_names k xs) ps ≡ label_parameters label k (map (with_mode m) xs ++ ps)
 label_parameters-append label m k [] ps = refl
 label_parameters-append label m k (x ∷ xs) ps = λ i. record { mode = m; name = label (Some k) x } ∷ label_parameters-append label m (suc k) xs ps i
 
 pub section-parameters : {N M : Type 0} (naming : Naming N) (label : Labelling N M) (scope : Scope N) (k : ℕ) (s : Tree N section)
-    → map (with_mode (section_mode (relabel_section naming label scope k s))) (parameter_section_names (relabel_section naming label scope k s)) ≡ map (with_mode (section_mode s)) (labels_of_declared_names label k (parameter_section_names s))
+    → map (with_mode (parameter_section_mode (relabel_parameter_section naming label scope k s))) (parameter_section_names (relabel_parameter_section naming label scope k s)) ≡ map (with_mode (parameter_section_mode s)) (labels_of_declared_names label k (parameter_section_names s))
 section-parameters naming label scope k (value_section ns t) = ap (map (with_mode by_value)) (names-relabel label k ns)
 section-parameters naming label scope k (variable_section ns t) = ap (map (with_mode by_place)) (names-relabel label k ns)
 
-pub relabel_formals-parameters : {N M : Type 0} (naming : Naming N) (label : Labelling N M) (scope : Scope N) (k : ℕ) (fs : Tree N (items further_section)) → parameters (relabel_sections naming label scope k fs) ≡ label_parameters label k (parameters fs)
+pub relabel_formals-parameters : {N M : Type 0} (naming : Naming N) (label : Labelling N M) (scope : Scope N) (k : ℕ) (fs : Tree N (items further_section)) → parameters (relabel_parameter_sections naming label scope k fs) ≡ label_parameters label k (parameters fs)
 relabel_formals-parameters naming label scope k end = refl
 relabel_formals-parameters naming label scope k (more (then_section f) fs) =
-    ap (λ ys. ys ++ parameters (relabel_sections naming label (declare_names k (parameter_section_names f) scope) (ordinal_after_names k (parameter_section_names f)) fs)) (section-parameters naming label scope k f)
-    ∙ ap (λ ps. map (with_mode (section_mode f)) (labels_of_declared_names label k (parameter_section_names f)) ++ ps) (relabel_formals-parameters naming label (declare_names k (parameter_section_names f) scope) (ordinal_after_names k (parameter_section_names f)) fs)
-    ∙ label_parameters-append label (section_mode f) k (parameter_section_names f) (parameters fs)
+    ap (λ ys. ys ++ parameters (relabel_parameter_sections naming label (declare_names k (parameter_section_names f) scope) (ordinal_after_names k (parameter_section_names f)) fs)) (section-parameters naming label scope k f)
+    ∙ ap (λ ps. map (with_mode (parameter_section_mode f)) (labels_of_declared_names label k (parameter_section_names f)) ++ ps) (relabel_formals-parameters naming label (declare_names k (parameter_section_names f) scope) (ordinal_after_names k (parameter_section_names f)) fs)
+    ∙ label_parameters-append label (parameter_section_mode f) k (parameter_section_names f) (parameters fs)
 
 pub parameters_bound : {N : Type 0} (naming : Naming N) (k : ℕ) (f : NotedFrame N) → Below k f.noted → (ps : List (Parameter N)) (args : List Argument)
     → Agree frame_by_name (frame_by_ordinal naming) (FrameWithin (ordinal_after_names k (parameter_names ps)) (declare_names k (parameter_names ps) (scope_of f.noted)))
@@ -401,7 +401,7 @@ activation_declared {N} naming j k f below x outer e fs b args =
     let Goal : ℕ → List (Parameter Label) → Type 0 = λ m ps. Agree frame_by_name (frame_by_ordinal naming) (FrameWithin (ordinal_after_block n b) (body_scope n b scope))
     (option_and_then (declare_block naming (j + formals_constructor_count (formal_sections fs)) b) (bind_parameters (parameters (formal_sections fs)) args (frame_by_name f)))
     (option_and_then (declare_block naming_by_label (j + m) (relabel_block naming (label_from_ordinal naming) scope n b)) (bind_parameters ps args (frame_by_ordinal naming f))) in
-    let labelled : formal_sections (relabel_formals naming (label_from_ordinal naming) outer (suc k) fs) ≡ relabel_sections naming (label_from_ordinal naming) outer (suc k) (formal_sections fs) = formals-section naming (label_from_ordinal naming) outer (suc k) fs in
+    let labelled : formal_sections (relabel_formals naming (label_from_ordinal naming) outer (suc k) fs) ≡ relabel_parameter_sections naming (label_from_ordinal naming) outer (suc k) (formal_sections fs) = formals-section naming (label_from_ordinal naming) outer (suc k) fs in
     subst₂ Goal (sym (ap formals_constructor_count labelled ∙ formals_constructor_count-relabel naming (label_from_ordinal naming) outer (suc k) (formal_sections fs)))
     (sym (ap parameters labelled ∙ relabel_formals-parameters naming (label_from_ordinal naming) outer (suc k) (formal_sections fs)))
     (agree-then frame_by_name (frame_by_ordinal naming) (FrameWithin n scope) frame_by_name (frame_by_ordinal naming) (FrameWithin (ordinal_after_block n b) (body_scope n b scope))

@@ -7,7 +7,7 @@ use Rattle.ob0_language_names.proofs.EditedTrees.{Edit, SameAt, edited, edited_b
 use Rattle.ob0_language_names.proofs.Ordinals.{ordinal_after_names-append, le-ordinal_after_names, le-ordinal_after_procedure}
 use Rattle.ob0_language_names.proofs.Places.{EachBlock, EachProcedure, EachVariable, OneProcedure}
 use Rattle.ob0_language_values.specs.Values.{Place, Store, Stuck, Value, initial_value, truth}
-use Rattle.ob0_language_types.specs.ConstantValues.{ConstantEnvironment, non_constant, value_in_block, value_in_procedure, value_in_procedures}
+use Rattle.ob0_language_types.specs.ConstantValues.{ConstantEnvironment, non_constant_placeholder, value_in_block, value_in_procedure, value_in_procedures}
 use Rattle.ob0_language_types.specs.Declarations.{constructors_before_variables, constructors_before_procedures, declare_constants, declare_constants_and_types, formals_constructor_count, procedure_constructor_count, types_constructor_count, variables_constructor_count}
 use Rattle.ob0_language_types.specs.Environments.{meanings}
 use Rattle.ob0_language_types.specs.Expressions.{Meanings, Object, a_constant, a_procedure, a_standard, a_type, a_variable}
@@ -16,19 +16,19 @@ use Rattle.ob0_language_types.specs.WellTyped.{Mode, bind_names, by_place, by_va
 use Rattle.ob0_language_types.proofs.Agreeing.{Agree, HoldsOf, agree-map, agree-then}
 use Rattle.ob0_language_types.proofs.DenotedInlined.{NamesConstant, constructor_count-inlined, uses-map}
 use Rattle.ob0_language_types.proofs.EditedDeclarations.{Left, Outside, HasValueBetween, agree-known, not-constant, outside-right}
-use Rattle.ob0_language_types.proofs.EditedModules.{IsFitted, inlining_keeps_well_typed-holds, removing_unused_keeps_well_typed-holds, left-fitted, marked_outermost, outermost-sound, read_edited-below, written-fitted}
+use Rattle.ob0_language_types.proofs.EditedModules.{IsFitted, inlining_keeps_well_typed-holds, removing_unused_constant_keeps_well_typed-holds, left-fitted, marked_outermost, outermost-sound, read_edited-below, written-fitted}
 use Rattle.ob0_language_types.proofs.EditedParts.{agree-weaken, all-left, bind_all, body-has_value, edited-all, first-edited, formals-of, formals_constructor_count-leaf, bind_procedure-outside, left-join, left-then, mark_all, names_of, own-has_value, procedure_constructor_count-edited, procedures-has_value, read-all, rest-has_value, types-of, types-outside, types_constructor_count-leaf, variables-of, variables_constructor_count-leaf}
 use Rattle.ob0_language_types.proofs.EditedTypes.{procedures-below}
 use Rattle.ob0_language_types.proofs.Inlined.{IsConstantOf}
 use Rattle.ob0_language_types.proofs.Leaves.{AllStay, Here, Literal, denoted_type-leaf, edited-object_for, edited_meanings, none-used, read-object_for, read_meanings, seen-read, shown, uses-read}
 use Rattle.ob0_language_types.proofs.Literals.{IsSeen, literal-has_value, some_inverse}
 use Rattle.ob0_language_types.proofs.Marks.{IsRight, Mark, Marks, OfProcedure, Sound, Sound-from, Stays, found, is_left, knowns, marks_from, not-left, object_as, object_of, read, read-from, read_edited, read_edited-from, scope_marked}
-use Rattle.ob0_language_runs.specs.EditLaws.{InliningKeepsTypingAndRuns, RemovingUnusedKeepsTypingAndRuns}
-use Rattle.ob0_language_runs.specs.Runs.{Activation, Argument, CallFunction, ProcedureText, Frame, Parameter, Progress, State, activate, allocate, bind_parameter, bind_parameters, call, declare_block, declare_procedures, declare_variables, execute_sequence, execute_body, run_result, formal_modes, continue_in_frame, parameters, object_for_statements, place_argument, run, run_with_naming, meanings_for_statements, stopped, value_argument, declare_procedures_in_frame}
+use Rattle.ob0_language_runs.specs.EditLaws.{InliningKeepsTypingAndRuns, RemovingUnusedConstantKeepsTypingAndRuns}
+use Rattle.ob0_language_runs.specs.Runs.{Activation, Argument, CallFunction, ProcedureText, Frame, Parameter, Progress, State, activate, add_variables_to_frame, bind_parameter, bind_parameters, call, declare_block, declare_procedures, declare_variables, execute_sequence, execute_body, run_result, formal_modes, continue_in_frame, parameters, object_for_statements, place_argument, run, run_with_naming, meanings_for_statements, stopped, value_argument, declare_procedures_in_frame}
 use Rattle.ob0_language_runs.proofs.ByOrdinal.{formal_names-parameters, parameter_names}
 use Rattle.ob0_language_runs.proofs.InlinedStatements.{execute_sequence-written}
 use Rattle.ob0_language_runs.proofs.RunNaturality.{execute_sequence-map}
-use Rattle.ob0_language_names.specs.Scopes.{Scope, ordinal_after_block, ordinal_after_names, ordinal_after_procedure, ordinal_after_procedures, body_scope, declare_names, declare_procedure_names, first_procedure_ordinal, first_type_ordinal, first_variable_ordinal, ordinal_of, predeclared_scope, scope_before_procedures, scope_before_variables}
+use Rattle.ob0_language_names.specs.Scopes.{Scope, ordinal_after_block, ordinal_after_names, ordinal_after_procedure, ordinal_after_procedures, body_scope, declare_names, declare_procedure_names, first_procedure_ordinal, first_type_ordinal, first_variable_ordinal, ordinal_in_scope, predeclared_scope, scope_before_procedures, scope_before_variables}
 use Rattle.std.proofs.lemmas.Bool.{cases_Bool}
 
 -- a procedure in a run, with the number of the first occurrence in its text
@@ -48,7 +48,7 @@ pub record IsText (edit : Edit) (w : Value) (marks : Marks Place Text) (x : Name
   pub from_seven : 7 ≤ k
   pub named : procedure_name t.code.text ≡ x
   pub here : OneProcedure (Here edit w) t.at (scope_marked marks) k t.code.text
-  pub has_value : HasValueBetween edit w k (ordinal_after_procedure (suc k) t.code.text) (value_in_procedure ((x, non_constant) ∷ knowns marks) edit.constant (suc k) t.code.text)
+  pub has_value : HasValueBetween edit w k (ordinal_after_procedure (suc k) t.code.text) (value_in_procedure ((x, non_constant_placeholder) ∷ knowns marks) edit.constant (suc k) t.code.text)
 
 abbrev pub Run_sound : Edit → Value → ℕ → Marks Place Text → Type 0
 Run_sound edit w n marks = Sound edit w (IsText edit w) n marks
@@ -161,22 +161,22 @@ pub names_of-places : (xs : List Name) (v : Value) (store : Store) → names_of 
 names_of-places [] v store = refl
 names_of-places (x ∷ xs) v store = λ i. x ∷ names_of-places xs v (store ++ v ∷ []) i
 
-pub allocate-places : (xs : List Name) (v : Value) (env : Activation Name) (store : Store) → allocate xs v record { env = env; store = store } ≡ record { env = bind_all (places xs v store) env; store = stored xs v store }
-allocate-places [] v env store = refl
-allocate-places (x ∷ xs) v env store = allocate-places xs v ((x, a_variable record { variable = length store; path = [] }) ∷ env) (store ++ v ∷ [])
+pub add_variables_to_frame-places : (xs : List Name) (v : Value) (env : Activation Name) (store : Store) → add_variables_to_frame xs v record { env = env; store = store } ≡ record { env = bind_all (places xs v store) env; store = stored xs v store }
+add_variables_to_frame-places [] v env store = refl
+add_variables_to_frame-places (x ∷ xs) v env store = add_variables_to_frame-places xs v ((x, a_variable record { variable = length store; path = [] }) ∷ env) (store ++ v ∷ [])
 
 -- Adding variables for names makes the same marks and the same store before and after the edit.
 pub allocated : (edit : Edit) (w : Value) (k : ℕ) (xs : List Name) (v : Value) (f : MarkedFrame) → Run_sound edit w k f.marks → 7 ≤ k → Outside edit k (ordinal_after_names k xs)
-    → LeftRun edit w (ordinal_after_names k xs) (declare_names k xs (scope_marked f.marks)) (Some (bind_names xs non_constant (knowns f.marks))) (mark_all k (places xs v f.store) f.marks)
-    × (allocate xs v (frame_before f) ≡ frame_before record { marks = mark_all k (places xs v f.store) f.marks; store = stored xs v f.store })
-    × (allocate xs v (frame_after edit f) ≡ frame_after edit record { marks = mark_all k (places xs v f.store) f.marks; store = stored xs v f.store })
+    → LeftRun edit w (ordinal_after_names k xs) (declare_names k xs (scope_marked f.marks)) (Some (bind_names xs non_constant_placeholder (knowns f.marks))) (mark_all k (places xs v f.store) f.marks)
+    × (add_variables_to_frame xs v (frame_before f) ≡ frame_before record { marks = mark_all k (places xs v f.store) f.marks; store = stored xs v f.store })
+    × (add_variables_to_frame xs v (frame_after edit f) ≡ frame_after edit record { marks = mark_all k (places xs v f.store) f.marks; store = stored xs v f.store })
 allocated edit w k xs v f s seven outside =
     let e : names_of (places xs v f.store) ≡ xs = names_of-places xs v f.store in
     let outside' : Outside edit k (ordinal_after_names k (names_of (places xs v f.store))) = subst (λ ys. Outside edit k (ordinal_after_names k ys)) (sym e) outside in (
-      subst (λ ys. LeftRun edit w (ordinal_after_names k ys) (declare_names k ys (scope_marked f.marks)) (Some (bind_names ys non_constant (knowns f.marks))) (mark_all k (places xs v f.store) f.marks)) e
+      subst (λ ys. LeftRun edit w (ordinal_after_names k ys) (declare_names k ys (scope_marked f.marks)) (Some (bind_names ys non_constant_placeholder (knowns f.marks))) (mark_all k (places xs v f.store) f.marks)) e
           (all-left edit w (IsText edit w) k (places xs v f.store) f.marks s seven outside'),
-      allocate-places xs v (read before f.marks) f.store ∙ ap (λ env. record { env = env; store = stored xs v f.store }) (read-all before k (places xs v f.store) f.marks),
-      allocate-places xs v (read_edited edit (after edit) f.marks) f.store ∙ ap (λ env. record { env = env; store = stored xs v f.store }) (edited-all edit (after edit) k (places xs v f.store) f.marks outside'),
+      add_variables_to_frame-places xs v (read before f.marks) f.store ∙ ap (λ env. record { env = env; store = stored xs v f.store }) (read-all before k (places xs v f.store) f.marks),
+      add_variables_to_frame-places xs v (read_edited edit (after edit) f.marks) f.store ∙ ap (λ env. record { env = env; store = stored xs v f.store }) (edited-all edit (after edit) k (places xs v f.store) f.marks outside'),
     )
 
 abbrev pub LeftFrame : Edit → Value → ℕ → Scope Name → Option ConstantEnvironment → MarkedFrame → Type 0
@@ -184,7 +184,7 @@ LeftFrame edit w n scope known f = LeftRun edit w n scope known f.marks
 
 pub variables-kept : (edit : Edit) (w : Value) → Literal edit w → (i j k : ℕ) (f : MarkedFrame) → Run_sound edit w k f.marks → 7 ≤ k → (gs : Tree Name (items variable))
     → EachVariable (Here edit w) j (scope_marked f.marks) k gs → Outside edit k (ordinal_after_names k (variable_names gs))
-    → Agree frame_before (frame_after edit) (LeftFrame edit w (ordinal_after_names k (variable_names gs)) (declare_names k (variable_names gs) (scope_marked f.marks)) (Some (bind_names (variable_names gs) non_constant (knowns f.marks))))
+    → Agree frame_before (frame_after edit) (LeftFrame edit w (ordinal_after_names k (variable_names gs)) (declare_names k (variable_names gs) (scope_marked f.marks)) (Some (bind_names (variable_names gs) non_constant_placeholder (knowns f.marks))))
     (declare_variables naming_by_spelling i gs (frame_before f)) (declare_variables naming_by_spelling i (leaf edit j gs) (frame_after edit f))
 unfolding declare_variables
 variables-kept edit w lit i j k f s seven end here outside = (Some f, refl, refl, record { scoped = refl; sound = s; value = refl })
@@ -196,17 +196,17 @@ variables-kept edit w lit i j k f s seven (more (declares_variable ns t) gs) her
     let above : k ≤ n = le-ordinal_after_names k xs in
     let joined : ordinal_after_names k (xs ++ ys) ≡ ordinal_after_names n ys = ordinal_after_names-append k xs ys in
     let last : n ≤ ordinal_after_names n ys = le-ordinal_after_names n ys in
-    let Result : MarkedFrame → Type 0 = LeftFrame edit w (ordinal_after_names k (xs ++ ys)) (declare_names k (xs ++ ys) (scope_marked f.marks)) (Some (bind_names (xs ++ ys) non_constant (knowns f.marks))) in
-    subst (λ m. Agree frame_before (frame_after edit) Result (option_and_then (λ shape. declare_variables naming_by_spelling (i + constructor_count t) gs (allocate xs (initial_value shape) (frame_before f))) (denoted_type (read_meanings before f.marks) i t))
-    (option_and_then (λ shape. declare_variables naming_by_spelling (i + m) gs' (allocate xs (initial_value shape) (frame_after edit f))) (denoted_type (edited_meanings edit (after edit) f.marks) i (leaf edit j t))))
+    let Result : MarkedFrame → Type 0 = LeftFrame edit w (ordinal_after_names k (xs ++ ys)) (declare_names k (xs ++ ys) (scope_marked f.marks)) (Some (bind_names (xs ++ ys) non_constant_placeholder (knowns f.marks))) in
+    subst (λ m. Agree frame_before (frame_after edit) Result (option_and_then (λ shape. declare_variables naming_by_spelling (i + constructor_count t) gs (add_variables_to_frame xs (initial_value shape) (frame_before f))) (denoted_type (read_meanings before f.marks) i t))
+    (option_and_then (λ shape. declare_variables naming_by_spelling (i + m) gs' (add_variables_to_frame xs (initial_value shape) (frame_after edit f))) (denoted_type (edited_meanings edit (after edit) f.marks) i (leaf edit j t))))
     (sym (constructor_count-inlined edit.uses edit.literal j t))
-    (agree-known frame_before (frame_after edit) Result (λ shape. declare_variables naming_by_spelling (i + constructor_count t) gs (allocate xs (initial_value shape) (frame_before f))) (λ shape. declare_variables naming_by_spelling (i + constructor_count t) gs' (allocate xs (initial_value shape) (frame_after edit f)))
+    (agree-known frame_before (frame_after edit) Result (λ shape. declare_variables naming_by_spelling (i + constructor_count t) gs (add_variables_to_frame xs (initial_value shape) (frame_before f))) (λ shape. declare_variables naming_by_spelling (i + constructor_count t) gs' (add_variables_to_frame xs (initial_value shape) (frame_after edit f)))
     (denoted_type (read_meanings before f.marks) i t) (denoted_type (edited_meanings edit (after edit) f.marks) i (leaf edit j t)) (denoted_type-leaf edit w lit (IsText edit w) before (after edit) k f.marks s j i t here.0)
     (λ shape known.
     let inner : MarkedFrame = record { marks = mark_all k (places xs (initial_value shape) f.store) f.marks; store = stored xs (initial_value shape) f.store } in
     let bound = allocated edit w k xs (initial_value shape) f s seven (λ l m. outside l (omega (arith, m, joined, last))) in
     subst₂ (λ a b. Agree frame_before (frame_after edit) Result (declare_variables naming_by_spelling (i + constructor_count t) gs a) (declare_variables naming_by_spelling (i + constructor_count t) gs' b)) (sym bound.1) (sym bound.2)
-    (agree-weaken frame_before (frame_after edit) (LeftFrame edit w (ordinal_after_names n ys) (declare_names n ys (scope_marked inner.marks)) (Some (bind_names ys non_constant (knowns inner.marks)))) Result
+    (agree-weaken frame_before (frame_after edit) (LeftFrame edit w (ordinal_after_names n ys) (declare_names n ys (scope_marked inner.marks)) (Some (bind_names ys non_constant_placeholder (knowns inner.marks)))) Result
     (declare_variables naming_by_spelling (i + constructor_count t) gs (frame_before inner)) (declare_variables naming_by_spelling (i + constructor_count t) gs' (frame_after edit inner))
     (λ m left. left-join edit w (IsText edit w) k xs ys (scope_marked f.marks) (scope_marked inner.marks) (knowns f.marks) (knowns inner.marks) m.marks bound.0.scoped bound.0.value left)
     (variables-kept edit w lit (i + constructor_count t) (j + length (occurrences t)) n inner bound.0.sound (omega (arith, seven, above)) gs
@@ -242,7 +242,7 @@ procedures-after edit w i j k (more p rest) marks has_value =
     let p' : Tree Name (item procedure) = edited_procedure edit j (suc k) p in
     let rest' : Tree Name (items procedure) = edited_procedures edit jr (ordinal_after_procedure (suc k) p) rest in
     let c : Object Place (ProcedureText Name) = a_procedure record { constructors_before = i; text = p' } in
-    let own : Outside edit k (suc k) = own-outside edit w ((procedure_name p, non_constant) ∷ knowns marks) k p (own-has_value edit w (knowns marks) k p rest has_value) in
+    let own : Outside edit k (suc k) = own-outside edit w ((procedure_name p, non_constant_placeholder) ∷ knowns marks) k p (own-has_value edit w (knowns marks) k p rest has_value) in
     (λ m. declare_procedures (i + procedure_constructor_count-edited edit j (suc k) p m) rest' ((edited_procedure-name edit j (suc k) p m, c) ∷ read_edited edit (after edit) marks))
     ∙ (ap (declare_procedures (i + procedure_constructor_count p) rest') (sym (ap (λ t. if t then read_edited edit (after edit) marks else (procedure_name p, c) ∷ read_edited edit (after edit) marks) (not-constant edit k own)))
     ∙ procedures-after edit w (i + procedure_constructor_count p) jr (ordinal_after_procedure (suc k) p) rest
@@ -257,11 +257,11 @@ pub procedures-right : (edit : Edit) (w : Value) (i j k : ℕ) (ps : Tree Name (
 procedures-right edit w i j k end marks s seven here has_value = (refl, s)
 procedures-right edit w i j k (more p rest) marks s seven here has_value =
     let following : suc k ≤ ordinal_after_procedure (suc k) p = le-ordinal_after_procedure (suc k) p in
-    let mine : HasValueBetween edit w k (ordinal_after_procedure (suc k) p) (value_in_procedure ((procedure_name p, non_constant) ∷ knowns marks) edit.constant (suc k) p) = own-has_value edit w (knowns marks) k p rest has_value in
+    let mine : HasValueBetween edit w k (ordinal_after_procedure (suc k) p) (value_in_procedure ((procedure_name p, non_constant_placeholder) ∷ knowns marks) edit.constant (suc k) p) = own-has_value edit w (knowns marks) k p rest has_value in
     let t : Text = record { code = record { constructors_before = i; text = p }; at = j } in
     procedures-right edit w (i + procedure_constructor_count p) (j + length (occurrences p)) (ordinal_after_procedure (suc k) p) rest
     (record { name = procedure_name p; ordinal = k; object = a_procedure t } ∷ marks)
-    (following, outside-right edit w (procedure_name p) k (a_procedure t) seven (own-outside edit w ((procedure_name p, non_constant) ∷ knowns marks) k p mine), record { from_seven = seven; named = refl; here = here.0; has_value = mine }, s)
+    (following, outside-right edit w (procedure_name p) k (a_procedure t) seven (own-outside edit w ((procedure_name p, non_constant_placeholder) ∷ knowns marks) k p mine), record { from_seven = seven; named = refl; here = here.0; has_value = mine }, s)
     (omega (arith, seven, following)) here.1 (rest-has_value edit w (knowns marks) k p rest has_value)
 
 -- The declarations of a block give the same frame before and after the edit, except a removed constant.
@@ -276,7 +276,7 @@ block-kept edit w lit i j k f s seven (forms_block (declares cs ts vs ps) statem
     let jv : ℕ = j + length (occurrences cs) + length (occurrences ts) in
     let jp : ℕ = j + length (occurrences cs) + length (occurrences ts) + length (occurrences vs) in
     let ps' : Tree Name (items procedure) = edited_procedures edit jp (first_procedure_ordinal k b) ps in
-    let known : Option ConstantEnvironment = option_map (bind_names (declared_type_names (section_types ts)) non_constant) (declare_constants naming_by_spelling (knowns f.marks) (section_constants cs)) in
+    let known : Option ConstantEnvironment = option_map (bind_names (declared_type_names (section_types ts)) non_constant_placeholder) (declare_constants naming_by_spelling (knowns f.marks) (section_constants cs)) in
     let types : first_type_ordinal k b ≤ first_variable_ordinal k b = le-ordinal_after_names (first_type_ordinal k b) (declared_type_names (section_types ts)) in
     let above : k ≤ first_type_ordinal k b = le-ordinal_after_names k (constant_names (section_constants cs)) in
     let over : k ≤ first_procedure_ordinal k b = procedures-below k b in
@@ -297,7 +297,7 @@ block-kept edit w lit i j k f s seven (forms_block (declares cs ts vs ps) statem
     (first-edited edit w lit (IsText edit w) before (after edit) i j k f.marks s seven b here has_value)
     (λ inner left.
     let g : MarkedFrame = record { marks = inner; store = f.store } in
-    agree-map frame_before (frame_after edit) (LeftFrame edit w (first_procedure_ordinal k b) (declare_names (first_variable_ordinal k b) (variable_names (section_variables vs)) (scope_marked inner)) (Some (bind_names (variable_names (section_variables vs)) non_constant (knowns inner))))
+    agree-map frame_before (frame_after edit) (LeftFrame edit w (first_procedure_ordinal k b) (declare_names (first_variable_ordinal k b) (variable_names (section_variables vs)) (scope_marked inner)) (Some (bind_names (variable_names (section_variables vs)) non_constant_placeholder (knowns inner))))
     frame_before (frame_after edit) Result
     (declare_procedures_in_frame (constructors_before_procedures i b) ps) (declare_procedures_in_frame (constructors_before_procedures i b) ps')
     (declare_variables naming_by_spelling (constructors_before_variables i b) (section_variables vs) (frame_before g)) (declare_variables naming_by_spelling (constructors_before_variables i b) (leaf edit jv (section_variables vs)) (frame_after edit g))
@@ -305,7 +305,7 @@ block-kept edit w lit i j k f s seven (forms_block (declares cs ts vs ps) statem
     (subst (λ scope. EachVariable (Here edit w) jv scope (first_variable_ordinal k b) (section_variables vs)) (sym left.scoped) here.2)
     (λ l m. types-outside edit w (knowns f.marks) k b has_value (omega (arith, l, types)) m))
     (λ h last.
-    let final = left-then edit w (IsText edit w) (first_procedure_ordinal k b) (declare_names (first_variable_ordinal k b) (variable_names (section_variables vs)) (scope_marked inner)) (scope_marked inner) (scope_before_procedures k b (scope_marked f.marks)) (bind_names (variable_names (section_variables vs)) non_constant) known (knowns inner) h.marks
+    let final = left-then edit w (IsText edit w) (first_procedure_ordinal k b) (declare_names (first_variable_ordinal k b) (variable_names (section_variables vs)) (scope_marked inner)) (scope_marked inner) (scope_before_procedures k b (scope_marked f.marks)) (bind_names (variable_names (section_variables vs)) non_constant_placeholder) known (knowns inner) h.marks
     (ap (declare_names (first_variable_ordinal k b) (variable_names (section_variables vs))) left.scoped) left.value last in
     let procedures = procedures-has_value edit w (knowns f.marks) (knowns h.marks) k b has_value final.value in
     let right = procedures-right edit w (constructors_before_procedures i b) jp (first_procedure_ordinal k b) ps h.marks final.sound (omega (arith, seven, over)) (subst (λ scope. EachProcedure (Here edit w) jp scope (first_procedure_ordinal k b) ps) (sym final.scoped) here.3) procedures in (
@@ -323,7 +323,7 @@ parameters-leaf edit j (more (then_section (value_section ns t)) fs) = λ i. map
 parameters-leaf edit j (more (then_section (variable_section ns t)) fs) = λ i. map (λ x. record { mode = by_place; name = x }) (names_in_list ns) ++ parameters-leaf edit (j + length (occurrences t)) fs i
 
 pub parameters-kept : (edit : Edit) (w : Value) (k : ℕ) (f : MarkedFrame) → Run_sound edit w k f.marks → 7 ≤ k → (ps : List (Parameter Name)) → Outside edit k (ordinal_after_names k (parameter_names ps)) → (args : List Argument)
-    → Agree frame_before (frame_after edit) (LeftFrame edit w (ordinal_after_names k (parameter_names ps)) (declare_names k (parameter_names ps) (scope_marked f.marks)) (Some (bind_names (parameter_names ps) non_constant (knowns f.marks))))
+    → Agree frame_before (frame_after edit) (LeftFrame edit w (ordinal_after_names k (parameter_names ps)) (declare_names k (parameter_names ps) (scope_marked f.marks)) (Some (bind_names (parameter_names ps) non_constant_placeholder (knowns f.marks))))
     (bind_parameters ps args (frame_before f)) (bind_parameters ps args (frame_after edit f))
 parameters-kept edit w k f s seven [] outside [] = (Some f, refl, refl, record { scoped = refl; sound = s; value = refl })
 parameters-kept edit w k f s seven (p ∷ ps) outside (a ∷ args) =
@@ -334,7 +334,7 @@ parameters-kept edit w k f s seven (p ∷ ps) outside (a ∷ args) =
     own l m = let above : suc k ≤ ordinal_after_names (suc k) (parameter_names ps) = le-ordinal_after_names (suc k) (parameter_names ps) in outside l (omega (arith, m, above))
 
     Result : MarkedFrame → Type 0
-    Result = LeftFrame edit w (ordinal_after_names (suc k) (parameter_names ps)) (declare_names (suc k) (parameter_names ps) ((p.name, k) ∷ scope_marked f.marks)) (Some (bind_names (parameter_names ps) non_constant ((p.name, non_constant) ∷ knowns f.marks)))
+    Result = LeftFrame edit w (ordinal_after_names (suc k) (parameter_names ps)) (declare_names (suc k) (parameter_names ps) ((p.name, k) ∷ scope_marked f.marks)) (Some (bind_names (parameter_names ps) non_constant_placeholder ((p.name, non_constant_placeholder) ∷ knowns f.marks)))
 
     bound : (place : Place) (store : Store)
         → Agree frame_before (frame_after edit) Result (bind_parameters ps args (frame_before record { marks = record { name = p.name; ordinal = k; object = a_variable place } ∷ f.marks; store = store }))
@@ -400,7 +400,7 @@ activation-kept edit w lit i j k f s seven x closing fs b each has_value args =
     let jb : ℕ = j + length (occurrences fs) in
     let scope : Scope Name = declare_names (suc k) xs (scope_marked f.marks) in
     let Result : MarkedFrame → Type 0 = RightFrame edit w (ordinal_after_block n b) (body_scope n b scope) in
-    let Middle : MarkedFrame → Type 0 = LeftFrame edit w n scope (Some (bind_names xs non_constant (knowns f.marks))) in
+    let Middle : MarkedFrame → Type 0 = LeftFrame edit w n scope (Some (bind_names xs non_constant_placeholder (knowns f.marks))) in
     let above : suc k ≤ n = le-ordinal_after_names (suc k) xs in
     let named : parameter_names (parameters (formal_sections fs)) ≡ xs = formal_names-parameters (formal_sections fs) in
     let outside : Outside edit (suc k) (ordinal_after_names (suc k) (parameter_names (parameters (formal_sections fs)))) = λ l m.
@@ -411,7 +411,7 @@ activation-kept edit w lit i j k f s seven x closing fs b each has_value args =
     (agree-then frame_before (frame_after edit) Middle frame_before (frame_after edit) Result
     (declare_block naming_by_spelling (i + formals_constructor_count (formal_sections fs)) b) (declare_block naming_by_spelling (i + formals_constructor_count (formal_sections fs)) (edited_block edit jb n b))
     (bind_parameters (parameters (formal_sections fs)) args (frame_before f)) (bind_parameters (parameters (formal_sections fs)) args (frame_after edit f))
-    (subst (λ ys. Agree frame_before (frame_after edit) (LeftFrame edit w (ordinal_after_names (suc k) ys) (declare_names (suc k) ys (scope_marked f.marks)) (Some (bind_names ys non_constant (knowns f.marks)))) (bind_parameters (parameters (formal_sections fs)) args (frame_before f)) (bind_parameters (parameters (formal_sections fs)) args (frame_after edit f))) named
+    (subst (λ ys. Agree frame_before (frame_after edit) (LeftFrame edit w (ordinal_after_names (suc k) ys) (declare_names (suc k) ys (scope_marked f.marks)) (Some (bind_names ys non_constant_placeholder (knowns f.marks)))) (bind_parameters (parameters (formal_sections fs)) args (frame_before f)) (bind_parameters (parameters (formal_sections fs)) args (frame_after edit f))) named
     (parameters-kept edit w (suc k) f s (omega (arith, seven)) (parameters (formal_sections fs)) outside args))
     (λ g left. subst (λ inner. Agree frame_before (frame_after edit) (RightFrame edit w (ordinal_after_block n b) (body_scope n b inner)) (declare_block naming_by_spelling (i + formals_constructor_count (formal_sections fs)) b (frame_before g)) (declare_block naming_by_spelling (i + formals_constructor_count (formal_sections fs)) (edited_block edit jb n b) (frame_after edit g))) left.scoped
     (block-kept edit w lit (i + formals_constructor_count (formal_sections fs)) jb n g left.sound (omega (arith, seven, above)) b
@@ -426,7 +426,7 @@ HeadStays edit (b ∷ marks) = is_left edit b.ordinal ≡ false
 pub head-stays : (edit : Edit) (marks : Marks Place Text) (x : Name) → Stays edit (scope_marked marks) x → HeadStays edit (marks_from marks x)
 head-stays edit [] x h = tt
 head-stays edit (b ∷ marks) x h =
-    (elim (same_name x b.name) as (λ v. (edit.gone ≡ true → (elim v [ true ↦ Some b.ordinal | false ↦ ordinal_of naming_by_spelling (scope_marked marks) x ]) ≡ Some edit.constant → ⊥) → HeadStays edit (elim v [ true ↦ b ∷ marks | false ↦ marks_from marks x ]))
+    (elim (same_name x b.name) as (λ v. (edit.gone ≡ true → (elim v [ true ↦ Some b.ordinal | false ↦ ordinal_in_scope naming_by_spelling (scope_marked marks) x ]) ≡ Some edit.constant → ⊥) → HeadStays edit (elim v [ true ↦ b ∷ marks | false ↦ marks_from marks x ]))
     [ true ↦ λ stays. not-left edit b.ordinal stays | false ↦ λ stays. head-stays edit marks x stays ]) h
 
 pub activate-kept : (edit : Edit) (w : Value) → Literal edit w → (there here : Activation Name → CallFunction Name) → CallsKept edit w there here → (t n : ℕ) (marks : Marks Place Text) → Run_sound edit w n marks → HeadStays edit marks
@@ -449,7 +449,7 @@ activate-kept edit w lit there here known t n (b ∷ marks) sound head args s =
         let scope : Scope Name = declare_names (suc k) (formal_names (formal_sections fs)) (scope_marked f.marks) in
         let each : EachBlock (Here edit w) (j + length (occurrences fs)) scope m inner =
         subst (λ y. EachBlock (Here edit w) (j + length (occurrences fs)) (declare_names (suc k) (formal_names (formal_sections fs)) ((y, k) ∷ scope_marked marks)) m inner) text.named text.here.1 in
-        let outside : Outside edit k (suc k) = own-outside edit w ((b.name, non_constant) ∷ knowns marks) k (declares_procedure x fs inner closing) text.has_value in
+        let outside : Outside edit k (suc k) = own-outside edit w ((b.name, non_constant_placeholder) ∷ knowns marks) k (declares_procedure x fs inner closing) text.has_value in
         ap (λ env. continue_in_frame s (option_and_then (declare_block naming_by_spelling (i + formals_constructor_count (formal_sections (leaf edit j fs))) (edited_block edit (j + length (occurrences fs)) m inner)) (bind_parameters (parameters (formal_sections (leaf edit j fs))) args record { env = env; store = s.store }))
         (λ f. execute_body naming_by_spelling f.env (there f.env) t (block_statements (edited_block edit (j + length (occurrences fs)) m inner))))
         (sym (ap (λ v. if v then read_edited edit (after edit) marks else (b.name, a_procedure record { constructors_before = i; text = edited_procedure edit j (suc k) (declares_procedure x fs inner closing) }) ∷ read_edited edit (after edit) marks) (not-constant edit k outside)))
@@ -494,9 +494,9 @@ inlining_keeps_typing_and_runs-holds m d w v uses c u well = (
   λ input c' t. ap (λ a. run_with_naming naming_by_spelling a input c' t) (sym (written-module uses v d m)) ∙ run-edited (writing uses v d) w m (written-fitted m d w v uses c u) input c' t,
 )
 
-pub removing_unused_keeps_typing_and_runs-holds : RemovingUnusedKeepsTypingAndRuns
+pub removing_unused_constant_keeps_typing_and_runs-holds : RemovingUnusedConstantKeepsTypingAndRuns
 unfolding run
-removing_unused_keeps_typing_and_runs-holds m d w v c u well = (
-  removing_unused_keeps_well_typed-holds m d w v c u well,
+removing_unused_constant_keeps_typing_and_runs-holds m d w v c u well = (
+  removing_unused_constant_keeps_well_typed-holds m d w v c u well,
   λ input c' t. ap (λ a. run_with_naming naming_by_spelling a input c' t) (sym (left-module v d m)) ∙ run-edited (leaving_out v d) w m (left-fitted m d w v c u) input c' t,
 )

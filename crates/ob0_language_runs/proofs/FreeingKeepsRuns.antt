@@ -15,8 +15,8 @@ use Rattle.ob0_language_types.specs.WellTyped.{by_place, by_value}
 use Rattle.ob0_language_types.proofs.TypeNaturality.{constant_value-map, denoted_type-map}
 use Rattle.ob0_language_values.specs.Values.{Place, Value, initial_value}
 use Rattle.ob0_language_runs.specs.Freed.{call_freeing_variables, drop_variables, run_freeing_variables}
-use Rattle.ob0_language_runs.specs.Laws.{FreeingVariablesKeepsRuns}
-use Rattle.ob0_language_runs.specs.Runs.{Activation, Argument, CallFunction, ProcedureText, Frame, Parameter, Progress, State, activate, allocate, bind_parameter, bind_parameters, call, declare_block, declare_procedures, declare_variables, execute_body, run_result, formal_modes, continue_in_frame, parameters, object_for_statements, place_argument, run_with_naming, running, meanings_for_statements, stopped, value_argument, declare_procedures_in_frame}
+use Rattle.ob0_language_runs.specs.Laws.{DroppingVariablesKeepsRuns}
+use Rattle.ob0_language_runs.specs.Runs.{Activation, Argument, CallFunction, ProcedureText, Frame, Parameter, Progress, State, activate, add_variables_to_frame, bind_parameter, bind_parameters, call, declare_block, declare_procedures, declare_variables, execute_body, run_result, formal_modes, continue_in_frame, parameters, object_for_statements, place_argument, run_with_naming, running, meanings_for_statements, stopped, value_argument, declare_procedures_in_frame}
 use Rattle.ob0_language_runs.proofs.LargerStores.{Alike, ArgumentIs, ArgumentsAre, EntersAlike, MeaningIs, ObjectIs, PlaceIs, ProgressIs, StateIs, StoreIs, execute_sequence-alike, variable-added, variable-last, variables-cut}
 use Rattle.ob0_language_runs.proofs.SoundStatements.{slice_get-grows}
 
@@ -165,25 +165,25 @@ module _ {N : Type 0} (naming : Naming N) where
       option-then (EnvironmentIs at) (EnvironmentIs at) (declare_constants naming env (block_constants b)) (declare_constants naming other (block_constants b)) (λ env. declare_types naming env k (block_types b)) (λ env. declare_types naming env k (block_types b)) (constants-are at env other (block_constants b) h)
       (λ env other h. types-are at env other k (block_types b) h)
 
-  allocate-is : (at : List ℕ) (xs : List N) (v : Value) (f g : Frame N) → FrameIs at f g → FrameGrown at (allocate xs v f) (allocate xs v g)
-  allocate-is at [] v f g h = frame-here at f g h
-  allocate-is at (x ∷ xs) v f g h =
+  add_variables_to_frame-is : (at : List ℕ) (xs : List N) (v : Value) (f g : Frame N) → FrameIs at f g → FrameGrown at (add_variables_to_frame xs v f) (add_variables_to_frame xs v g)
+  add_variables_to_frame-is at [] v f g h = frame-here at f g h
+  add_variables_to_frame-is at (x ∷ xs) v f g h =
       let f₁ : Frame N = record { env = (x, a_variable record { variable = length f.store; path = [] }) ∷ f.env; store = f.store ++ v ∷ [] } in
       let g₁ : Frame N = record { env = (x, a_variable record { variable = length g.store; path = [] }) ∷ g.env; store = g.store ++ v ∷ [] } in
       let here : FrameIs (at ++ length g.store ∷ []) f₁ g₁ = record {
         same_variables = variable-added at f.store g.store v h.same_variables;
         same_bindings = (refl, record { variable_is = variable-last at f.store g.store (length g.store) h.same_variables; same_path = refl }, environment-grows at (length g.store ∷ []) f.env g.env h.same_bindings);
       } in
-      frame-on at (length g.store ∷ []) (allocate xs v f₁) (allocate xs v g₁) (allocate-is (at ++ length g.store ∷ []) xs v f₁ g₁ here)
+      frame-on at (length g.store ∷ []) (add_variables_to_frame xs v f₁) (add_variables_to_frame xs v g₁) (add_variables_to_frame-is (at ++ length g.store ∷ []) xs v f₁ g₁ here)
 
   variables-are : (at : List ℕ) (k : ℕ) (gs : Tree N (items variable)) (f g : Frame N) → FrameIs at f g → OptionIs (FrameGrown at) (declare_variables naming k gs f) (declare_variables naming k gs g)
   unfolding declare_variables
   variables-are at k end f g h = frame-here at f g h
   variables-are at k (more (declares_variable ns u) gs) f g h =
-      same_option-then (FrameGrown at) (denoted_type (meanings naming f.env) k u) (denoted_type (meanings naming g.env) k u) (λ s. declare_variables naming (k + constructor_count u) gs (allocate (names_in_list ns) (initial_value s) f)) (λ s. declare_variables naming (k + constructor_count u) gs (allocate (names_in_list ns) (initial_value s) g)) (denoted_type-same at f.env g.env h.same_bindings k u)
-      (λ s. let inner = allocate-is at (names_in_list ns) (initial_value s) f g h in
-      frames-on at inner.0 (declare_variables naming (k + constructor_count u) gs (allocate (names_in_list ns) (initial_value s) f)) (declare_variables naming (k + constructor_count u) gs (allocate (names_in_list ns) (initial_value s) g))
-      (variables-are (at ++ inner.0) (k + constructor_count u) gs (allocate (names_in_list ns) (initial_value s) f) (allocate (names_in_list ns) (initial_value s) g) inner.1))
+      same_option-then (FrameGrown at) (denoted_type (meanings naming f.env) k u) (denoted_type (meanings naming g.env) k u) (λ s. declare_variables naming (k + constructor_count u) gs (add_variables_to_frame (names_in_list ns) (initial_value s) f)) (λ s. declare_variables naming (k + constructor_count u) gs (add_variables_to_frame (names_in_list ns) (initial_value s) g)) (denoted_type-same at f.env g.env h.same_bindings k u)
+      (λ s. let inner = add_variables_to_frame-is at (names_in_list ns) (initial_value s) f g h in
+      frames-on at inner.0 (declare_variables naming (k + constructor_count u) gs (add_variables_to_frame (names_in_list ns) (initial_value s) f)) (declare_variables naming (k + constructor_count u) gs (add_variables_to_frame (names_in_list ns) (initial_value s) g))
+      (variables-are (at ++ inner.0) (k + constructor_count u) gs (add_variables_to_frame (names_in_list ns) (initial_value s) f) (add_variables_to_frame (names_in_list ns) (initial_value s) g) inner.1))
 
   procedures-are : (at : List ℕ) (k : ℕ) (ps : Tree N (items procedure)) (env other : Activation N) → EnvironmentIs at env other → EnvironmentIs at (declare_procedures k ps env) (declare_procedures k ps other)
   procedures-are at k end env other h = h
@@ -209,7 +209,7 @@ module _ {N : Type 0} (naming : Naming N) where
     where
       go : (m : _) (a b : Argument) → ArgumentIs at a b → OptionIs (FrameGrown at) (bind_parameter m p.name a f) (bind_parameter m p.name b g)
       go by_place (place_argument place) (place_argument other) is = frame-here at record { env = (p.name, a_variable place) ∷ f.env; store = f.store } record { env = (p.name, a_variable other) ∷ g.env; store = g.store } record { same_variables = h.same_variables; same_bindings = (refl, is, h.same_bindings) }
-      go by_value (value_argument v) (value_argument w) is = subst (λ w. FrameGrown at (allocate (p.name ∷ []) v f) (allocate (p.name ∷ []) w g)) is (allocate-is at (p.name ∷ []) v f g h)
+      go by_value (value_argument v) (value_argument w) is = subst (λ w. FrameGrown at (add_variables_to_frame (p.name ∷ []) v f) (add_variables_to_frame (p.name ∷ []) w g)) is (add_variables_to_frame-is at (p.name ∷ []) v f g h)
       go by_place (value_argument v) (value_argument w) is = tt
       go by_value (place_argument v) (place_argument w) is = tt
       go m _ _ is = absurd is
@@ -306,5 +306,5 @@ module _ {N : Type 0} (naming : Naming N) where
       (block-is [] 0 (module_block m) f f record { same_variables = tt; same_bindings = (refl, refl, (refl, refl, (refl, refl, (refl, refl, (refl, refl, (refl, refl, (refl, refl, tt))))))) }) in
       run_result-same new (continue_in_frame start o (λ f. execute_body naming f.env (call_freeing_variables naming c t f.env) t (block_statements (module_block m)))) (continue_in_frame start o (λ f. execute_body naming f.env (call naming c t f.env) t (block_statements (module_block m)))) same
 
-pub freeing_variables_keeps_runs-holds : FreeingVariablesKeepsRuns
-freeing_variables_keeps_runs-holds = (λ naming. freeing-keeps naming, λ naming. freeing-keeps naming)
+pub dropping_variables_keeps_runs-holds : DroppingVariablesKeepsRuns
+dropping_variables_keeps_runs-holds = (λ naming. freeing-keeps naming, λ naming. freeing-keeps naming)

@@ -3,7 +3,7 @@
 use Rattle.std.proofs.Common.{◌≡◌, ℕ, ◌<◌, ◌≤◌, true, false, List, [], ◌∷◌, Some, refl, le_of_lt, arith}
 use Rattle.ob0_language_names.specs.Names.{Label, Naming, naming_by_label, declared, same_label}
 use Rattle.ob0_language_names.specs.Parts.{procedure_name}
-use Rattle.ob0_language_names.specs.Scopes.{Scope, label_from_ordinal, ordinal_of, relabel_procedure}
+use Rattle.ob0_language_names.specs.Scopes.{Scope, label_from_ordinal, ordinal_in_scope, relabel_procedure}
 use Rattle.ob0_language_types.specs.Environments.{environment_from_binding}
 use Rattle.ob0_language_types.specs.Expressions.{Object, a_constant, a_procedure, a_standard, a_type, a_variable}
 use Rattle.ob0_language_values.specs.Values.{Place}
@@ -68,16 +68,16 @@ by_name-from naming (b ∷ noted) x =
     [ true ↦ refl | false ↦ by_name-from naming noted x ]
 
 -- The ordinal of a name is below the ordinals of all bindings newer than its own.
-pub older_ordinal : {N : Type 0} (naming : Naming N) (n : ℕ) (noted : Noted N) (x : N) → Below n noted → same_label (label_from_ordinal naming (ordinal_of naming (scope_of noted) x) x) (declared n) ≡ false
+pub older_ordinal : {N : Type 0} (naming : Naming N) (n : ℕ) (noted : Noted N) (x : N) → Below n noted → same_label (label_from_ordinal naming (ordinal_in_scope naming (scope_of noted) x) x) (declared n) ≡ false
 older_ordinal naming n [] x below = refl
 older_ordinal naming n (b ∷ noted) x below =
-    elim (naming.same x b.name) as (λ v. same_label (label_from_ordinal naming (elim v [ true ↦ Some b.ordinal | false ↦ ordinal_of naming (scope_of noted) x ]) x) (declared n) ≡ false)
+    elim (naming.same x b.name) as (λ v. same_label (label_from_ordinal naming (elim v [ true ↦ Some b.ordinal | false ↦ ordinal_in_scope naming (scope_of noted) x ]) x) (declared n) ≡ false)
     [ true ↦ ne_eqb b.ordinal n (λ e. omega (arith, e, below.0)) | false ↦ older_ordinal naming n noted x (Below-weaken b.ordinal n noted (le_of_lt below.0) below.2) ]
 
-pub by_ordinal-from : {N : Type 0} (naming : Naming N) (n : ℕ) (noted : Noted N) (x : N) → Below n noted → environment_from_binding naming_by_label (by_ordinal naming noted) (label_from_ordinal naming (ordinal_of naming (scope_of noted) x) x) ≡ by_ordinal naming (noted_from naming noted x)
+pub by_ordinal-from : {N : Type 0} (naming : Naming N) (n : ℕ) (noted : Noted N) (x : N) → Below n noted → environment_from_binding naming_by_label (by_ordinal naming noted) (label_from_ordinal naming (ordinal_in_scope naming (scope_of noted) x) x) ≡ by_ordinal naming (noted_from naming noted x)
 by_ordinal-from naming n [] x below = refl
 by_ordinal-from naming n (b ∷ noted) x below =
-    elim (naming.same x b.name) as (λ v. environment_from_binding naming_by_label (by_ordinal naming (b ∷ noted)) (label_from_ordinal naming (elim v [ true ↦ Some b.ordinal | false ↦ ordinal_of naming (scope_of noted) x ]) x) ≡ by_ordinal naming (elim v [ true ↦ b ∷ noted | false ↦ noted_from naming noted x ]))
+    elim (naming.same x b.name) as (λ v. environment_from_binding naming_by_label (by_ordinal naming (b ∷ noted)) (label_from_ordinal naming (elim v [ true ↦ Some b.ordinal | false ↦ ordinal_in_scope naming (scope_of noted) x ]) x) ≡ by_ordinal naming (elim v [ true ↦ b ∷ noted | false ↦ noted_from naming noted x ]))
     [ true ↦ rw (eq-eqb b.ordinal b.ordinal refl, environment_from_binding) refl | false ↦ rw (older_ordinal naming b.ordinal noted x below.2, environment_from_binding) (by_ordinal-from naming b.ordinal noted x below.2) ]
 
 pub Below-from : {N : Type 0} (naming : Naming N) (n : ℕ) (noted : Noted N) (x : N) → Below n noted → Below n (noted_from naming noted x)

@@ -16,7 +16,7 @@ use Rattle.ob0_language_values.specs.Values.{FieldShapes, Index, Members, Outcom
 use Rattle.ob0_language_types.specs.WellTyped.{Mode, Signature, TypeMeanings}
 use Rattle.ob0_language_types.proofs.Conditions.{of_some}
 use Rattle.ob0_language_types.proofs.TypedElsewhere.{then_some}
-use Rattle.ob0_language_runs.specs.TypeAgreement.{EachElementHasShape, HasShape, MembersHaveShapes, RunMeaningsAgree, RunObjectAgrees, PlaceHasType, StoreHasTypes, StoreTyping, shape_at_step, shape_at_path}
+use Rattle.ob0_language_runs.specs.TypeAgreement.{EachElementHasShape, HasShape, MembersHaveShapes, RunMeaningsAgreeWithCheckedMeanings, RunObjectAgreesWithCheckedObject, PlaceHasType, StoreHasTypes, StoreTyping, shape_at_step, shape_at_path}
 use Rattle.ob0_language_runs.proofs.Soundness.{OutcomeFits}
 
 pub fits-then : {A B : Type 0} (P : A → Type 0) (Q : B → Type 0) (o : Outcome A) (next : A → Outcome B) → OutcomeFits P o → ((a : A) → P a → OutcomeFits Q (next a)) → OutcomeFits Q (o >>= next)
@@ -151,7 +151,7 @@ place-fits typing store p s h e =
 
 -- A constant or a variable evaluates to a value of its type.
 pub object-fits : (typing : StoreTyping) (store : Store) (checked : Option (Object Shape Signature)) (active : Option (Object Place (List Mode))) (s : Shape)
-    → StoreHasTypes typing store → RunObjectAgrees typing checked active → type_of_variable_or_constant checked ≡ Some s → OutcomeFits (λ v. HasShape v s) (object_value store active)
+    → StoreHasTypes typing store → RunObjectAgreesWithCheckedObject typing checked active → type_of_variable_or_constant checked ≡ Some s → OutcomeFits (λ v. HasShape v s) (object_value store active)
 object-fits typing store (Some (a_constant v)) (Some (a_constant w)) s h o e =
     subst (λ w. OutcomeFits (λ v. HasShape v s) (object_value {P = List Mode} store (Some (a_constant w)))) o (go v e)
   where
@@ -197,7 +197,7 @@ field_part _ x u e = absurd (cc)
 -- holds if the store fits its typing, and the meanings of names fit the checker's
 pub record TypeAgreement {N : Type 0} (typing : StoreTyping) (checked : TypeMeanings N) (active : Meanings N Place (List Mode)) (store : Store) : Type 0 where
   pub store_fits : StoreHasTypes typing store
-  pub names_fit : RunMeaningsAgree typing checked active
+  pub names_fit : RunMeaningsAgreeWithCheckedMeanings typing checked active
 
 mutual
   unfolding evaluate type_of

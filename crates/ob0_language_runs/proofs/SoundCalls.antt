@@ -9,17 +9,17 @@ use Rattle.ob0_language_types.specs.Environments.{environment_from_binding, mean
 use Rattle.ob0_language_types.specs.Expressions.{Object, a_constant, a_procedure, a_standard, a_type, a_variable}
 use Rattle.ob0_language_types.specs.Typing.{constant_of, constant_value, constructor_count, denoted_type, type_of_type_object}
 use Rattle.ob0_language_values.specs.Values.{FieldShapes, Place, Shape, Store, Stuck, Value, array_shape, copies, count_values, fits_in_32_bits, initial_value, initial_members, next_field_shape, no_field_shape, record_shape}
-use Rattle.ob0_language_types.specs.WellTyped.{FormalParameter, Mode, Signature, TypeEnvironment, TypedParameter, WellTyped, bind_names, bind_typed_parameters, block_is_well_typed, body_is_well_typed, declare_typed_variables, passes_type_check, bind_procedure, procedure_is_well_typed, procedures_are_well_typed, section_mode, signature_of, typed_parameters}
+use Rattle.ob0_language_types.specs.WellTyped.{FormalParameter, Mode, Signature, TypeEnvironment, TypedParameter, WellTyped, bind_names, bind_typed_parameters, block_is_well_typed, body_is_well_typed, declare_typed_variables, passes_type_check, bind_procedure, procedure_is_well_typed, procedures_are_well_typed, parameter_section_mode, signature_of, typed_parameters}
 use Rattle.ob0_language_types.proofs.Literals.{some_inverse}
 use Rattle.ob0_language_types.proofs.TypeNaturality.{constant_value-map, denoted_type-map}
 use Rattle.ob0_language_types.proofs.TypesByOrdinal.{typed_parameter}
 use Rattle.ob0_language_types.proofs.Conditions.{both_true, hold-true}
 use Rattle.ob0_language_types.proofs.TypedElsewhere.{then_some}
-use Rattle.ob0_language_runs.specs.Laws.{NeverStuck}
-use Rattle.ob0_language_runs.specs.Runs.{Activation, Argument, CallFunction, ProcedureText, Frame, Parameter, Progress, State, activate, allocate, bind_parameter, bind_parameters, call, declare_block, declare_procedures, declare_variables, execute_sequence, execute_body, run_result, formal_modes, continue_in_frame, parameters, object_for_statements, place_argument, run, run_with_naming, running, meanings_for_statements, stopped, value_argument, declare_procedures_in_frame}
+use Rattle.ob0_language_runs.specs.Laws.{RunsNeverGetStuck}
+use Rattle.ob0_language_runs.specs.Runs.{Activation, Argument, CallFunction, ProcedureText, Frame, Parameter, Progress, State, activate, add_variables_to_frame, bind_parameter, bind_parameters, call, declare_block, declare_procedures, declare_variables, execute_sequence, execute_body, run_result, formal_modes, continue_in_frame, parameters, object_for_statements, place_argument, run, run_with_naming, running, meanings_for_statements, stopped, value_argument, declare_procedures_in_frame}
 use Rattle.ob0_language_runs.proofs.ByOrdinal.{with_mode}
-use Rattle.ob0_language_runs.proofs.SoundStatements.{RunObjectAgrees-grows, PlaceHasType-grows, ProgressFits-grown, execute_sequence-keeps, keeps-here, same_store-fits}
-use Rattle.ob0_language_runs.specs.TypeAgreement.{ArgumentsMatchSignature, RunBindingAgrees, RunEnvironmentAgrees, EachElementHasShape, HasShape, MembersHaveShapes, RunObjectAgrees, StoreHasTypes, StoreTyping, signature_modes, shape_at_path}
+use Rattle.ob0_language_runs.proofs.SoundStatements.{RunObjectAgreesWithCheckedObject-grows, PlaceHasType-grows, ProgressFits-grown, execute_sequence-keeps, keeps-here, same_store-fits}
+use Rattle.ob0_language_runs.specs.TypeAgreement.{ArgumentsMatchSignature, RunBindingAgreesWithCheckedBinding, RunEnvironmentAgreesWithCheckedEnvironment, EachElementHasShape, HasShape, MembersHaveShapes, RunObjectAgreesWithCheckedObject, StoreHasTypes, StoreTyping, signature_modes, shape_at_path}
 use Rattle.ob0_language_runs.proofs.Soundness.{CallsFit, ProgressFits}
 
 -- ---- environments that fit
@@ -33,12 +33,12 @@ pub modes-typed : {N : Type 0} (naming : Naming N) (env : TypeEnvironment N) (k 
 unfolding typed_parameters
 modes-typed naming env k end ps e = ap (λ ps. signature_modes (map (λ p. p.formal) ps)) (some_inverse e)
 modes-typed naming env k (more (then_section f) fs) ps e =
-    let (s, es, e₁) = then_some (denoted_type (meanings naming env) k (parameter_section_type f)) (λ s. option_and_then (λ rest. Some (map (typed_parameter record { mode = (section_mode f); shape = s }) (parameter_section_names f) ++ rest)) (typed_parameters naming (bind_names (parameter_section_names f) (a_variable s) env) (k + constructor_count (parameter_section_type f)) fs)) ps e in
-    let (rest, er, e₂) = then_some (typed_parameters naming (bind_names (parameter_section_names f) (a_variable s) env) (k + constructor_count (parameter_section_type f)) fs) (λ rest. Some (map (typed_parameter record { mode = (section_mode f); shape = s }) (parameter_section_names f) ++ rest)) ps e₁ in
-    ap (λ ms. map (λ x. (section_mode f)) (parameter_section_names f) ++ ms) (modes-typed naming (bind_names (parameter_section_names f) (a_variable s) env) (k + constructor_count (parameter_section_type f)) fs rest er)
-    ∙ (sym (modes-of_parameters record { mode = (section_mode f); shape = s } (parameter_section_names f) rest) ∙ ap (λ ps. signature_modes (map (λ p. p.formal) ps)) (some_inverse e₂))
+    let (s, es, e₁) = then_some (denoted_type (meanings naming env) k (parameter_section_type f)) (λ s. option_and_then (λ rest. Some (map (typed_parameter record { mode = (parameter_section_mode f); shape = s }) (parameter_section_names f) ++ rest)) (typed_parameters naming (bind_names (parameter_section_names f) (a_variable s) env) (k + constructor_count (parameter_section_type f)) fs)) ps e in
+    let (rest, er, e₂) = then_some (typed_parameters naming (bind_names (parameter_section_names f) (a_variable s) env) (k + constructor_count (parameter_section_type f)) fs) (λ rest. Some (map (typed_parameter record { mode = (parameter_section_mode f); shape = s }) (parameter_section_names f) ++ rest)) ps e₁ in
+    ap (λ ms. map (λ x. (parameter_section_mode f)) (parameter_section_names f) ++ ms) (modes-typed naming (bind_names (parameter_section_names f) (a_variable s) env) (k + constructor_count (parameter_section_type f)) fs rest er)
+    ∙ (sym (modes-of_parameters record { mode = (parameter_section_mode f); shape = s } (parameter_section_names f) rest) ∙ ap (λ ps. signature_modes (map (λ p. p.formal) ps)) (some_inverse e₂))
 
-pub binding-object : {N : Type 0} (naming : Naming N) (typing : StoreTyping) (checked : TypeEnvironment N) (x : N) (o : Object Shape Signature) (r : Object Place (ProcedureText N)) → RunBindingAgrees naming typing checked x o r → RunObjectAgrees typing (Some o) (object_for_statements (Some r))
+pub binding-object : {N : Type 0} (naming : Naming N) (typing : StoreTyping) (checked : TypeEnvironment N) (x : N) (o : Object Shape Signature) (r : Object Place (ProcedureText N)) → RunBindingAgreesWithCheckedBinding naming typing checked x o r → RunObjectAgreesWithCheckedObject typing (Some o) (object_for_statements (Some r))
 binding-object naming typing checked x (a_procedure signature) (a_procedure code) h =
     modes-typed naming checked code.constructors_before (procedure_formals code.text) h.0 h.1 ∙ ap signature_modes (sym h.2)
 binding-object naming typing checked x (a_type s) r h = h
@@ -47,34 +47,34 @@ binding-object naming typing checked x (a_variable s) r h = h
 binding-object naming typing checked x (a_standard s) r h = h
 binding-object naming typing checked x (a_procedure signature) _ h = h
 
-pub names-fit : {N : Type 0} (naming : Naming N) (typing : StoreTyping) (checked : TypeEnvironment N) (active : Activation N) → RunEnvironmentAgrees naming typing checked active → (z : N) → RunObjectAgrees typing (newest_object (environment_from_binding naming checked z)) (object_for_statements (newest_object (environment_from_binding naming active z)))
+pub names-fit : {N : Type 0} (naming : Naming N) (typing : StoreTyping) (checked : TypeEnvironment N) (active : Activation N) → RunEnvironmentAgreesWithCheckedEnvironment naming typing checked active → (z : N) → RunObjectAgreesWithCheckedObject typing (newest_object (environment_from_binding naming checked z)) (object_for_statements (newest_object (environment_from_binding naming active z)))
 names-fit naming typing [] [] h z = tt
 names-fit {N} naming typing (b ∷ checked) (d ∷ active) h z =
-    subst (λ y. RunObjectAgrees typing (newest_object (elim (naming.same z b.0) [ true ↦ b ∷ checked | false ↦ environment_from_binding naming checked z ])) (object_for_statements (newest_object (elim (naming.same z y) [ true ↦ d ∷ active | false ↦ environment_from_binding naming active z ])))) h.0
+    subst (λ y. RunObjectAgreesWithCheckedObject typing (newest_object (elim (naming.same z b.0) [ true ↦ b ∷ checked | false ↦ environment_from_binding naming checked z ])) (object_for_statements (newest_object (elim (naming.same z y) [ true ↦ d ∷ active | false ↦ environment_from_binding naming active z ])))) h.0
     (go (names-fit naming typing checked active h.2 z) (naming.same z b.0))
   where
-    go : RunObjectAgrees typing (newest_object (environment_from_binding naming checked z)) (object_for_statements (newest_object (environment_from_binding naming active z))) → (v : Bool) → RunObjectAgrees typing (newest_object {N = N} {V = Shape} {P = Signature} (elim v [ true ↦ b ∷ checked | false ↦ environment_from_binding naming checked z ])) (object_for_statements (newest_object {N = N} {V = Place} {P = ProcedureText N} (elim v [ true ↦ d ∷ active | false ↦ environment_from_binding naming active z ])))
+    go : RunObjectAgreesWithCheckedObject typing (newest_object (environment_from_binding naming checked z)) (object_for_statements (newest_object (environment_from_binding naming active z))) → (v : Bool) → RunObjectAgreesWithCheckedObject typing (newest_object {N = N} {V = Shape} {P = Signature} (elim v [ true ↦ b ∷ checked | false ↦ environment_from_binding naming checked z ])) (object_for_statements (newest_object {N = N} {V = Place} {P = ProcedureText N} (elim v [ true ↦ d ∷ active | false ↦ environment_from_binding naming active z ])))
     go older true = binding-object naming typing checked b.0 b.1 d.1 h.1
     go older false = older
 names-fit naming typing _ _ h z = absurd h
 
-pub from-fit : {N : Type 0} (naming : Naming N) (typing : StoreTyping) (checked : TypeEnvironment N) (active : Activation N) (z : N) → RunEnvironmentAgrees naming typing checked active → RunEnvironmentAgrees naming typing (environment_from_binding naming checked z) (environment_from_binding naming active z)
+pub from-fit : {N : Type 0} (naming : Naming N) (typing : StoreTyping) (checked : TypeEnvironment N) (active : Activation N) (z : N) → RunEnvironmentAgreesWithCheckedEnvironment naming typing checked active → RunEnvironmentAgreesWithCheckedEnvironment naming typing (environment_from_binding naming checked z) (environment_from_binding naming active z)
 from-fit naming typing [] [] z h = tt
 from-fit naming typing (b ∷ checked) (d ∷ active) z h =
-    subst (λ y. RunEnvironmentAgrees naming typing (elim (naming.same z b.0) [ true ↦ b ∷ checked | false ↦ environment_from_binding naming checked z ]) (elim (naming.same z y) [ true ↦ d ∷ active | false ↦ environment_from_binding naming active z ])) h.0
-    (elim (naming.same z b.0) as (λ v. RunEnvironmentAgrees naming typing (elim v [ true ↦ b ∷ checked | false ↦ environment_from_binding naming checked z ]) (elim v [ true ↦ d ∷ active | false ↦ environment_from_binding naming active z ]))
+    subst (λ y. RunEnvironmentAgreesWithCheckedEnvironment naming typing (elim (naming.same z b.0) [ true ↦ b ∷ checked | false ↦ environment_from_binding naming checked z ]) (elim (naming.same z y) [ true ↦ d ∷ active | false ↦ environment_from_binding naming active z ])) h.0
+    (elim (naming.same z b.0) as (λ v. RunEnvironmentAgreesWithCheckedEnvironment naming typing (elim v [ true ↦ b ∷ checked | false ↦ environment_from_binding naming checked z ]) (elim v [ true ↦ d ∷ active | false ↦ environment_from_binding naming active z ]))
     [ true ↦ h | false ↦ from-fit naming typing checked active z h.2 ])
 from-fit naming typing _ _ z h = absurd h
 
-pub binding-grows : {N : Type 0} (naming : Naming N) (typing others : StoreTyping) (checked : TypeEnvironment N) (x : N) (o : Object Shape Signature) (r : Object Place (ProcedureText N)) → RunBindingAgrees naming typing checked x o r → RunBindingAgrees naming (typing ++ others) checked x o r
+pub binding-grows : {N : Type 0} (naming : Naming N) (typing others : StoreTyping) (checked : TypeEnvironment N) (x : N) (o : Object Shape Signature) (r : Object Place (ProcedureText N)) → RunBindingAgreesWithCheckedBinding naming typing checked x o r → RunBindingAgreesWithCheckedBinding naming (typing ++ others) checked x o r
 binding-grows naming typing others checked x (a_procedure signature) (a_procedure code) h = h
-binding-grows naming typing others checked x (a_type s) r h = RunObjectAgrees-grows typing others (Some (a_type s)) (object_for_statements (Some r)) h
-binding-grows naming typing others checked x (a_constant s) r h = RunObjectAgrees-grows typing others (Some (a_constant s)) (object_for_statements (Some r)) h
-binding-grows naming typing others checked x (a_variable s) r h = RunObjectAgrees-grows typing others (Some (a_variable s)) (object_for_statements (Some r)) h
-binding-grows naming typing others checked x (a_standard s) r h = RunObjectAgrees-grows typing others (Some (a_standard s)) (object_for_statements (Some r)) h
+binding-grows naming typing others checked x (a_type s) r h = RunObjectAgreesWithCheckedObject-grows typing others (Some (a_type s)) (object_for_statements (Some r)) h
+binding-grows naming typing others checked x (a_constant s) r h = RunObjectAgreesWithCheckedObject-grows typing others (Some (a_constant s)) (object_for_statements (Some r)) h
+binding-grows naming typing others checked x (a_variable s) r h = RunObjectAgreesWithCheckedObject-grows typing others (Some (a_variable s)) (object_for_statements (Some r)) h
+binding-grows naming typing others checked x (a_standard s) r h = RunObjectAgreesWithCheckedObject-grows typing others (Some (a_standard s)) (object_for_statements (Some r)) h
 binding-grows naming typing others checked x _ _ h = h
 
-pub environments-grow : {N : Type 0} (naming : Naming N) (typing others : StoreTyping) (checked : TypeEnvironment N) (active : Activation N) → RunEnvironmentAgrees naming typing checked active → RunEnvironmentAgrees naming (typing ++ others) checked active
+pub environments-grow : {N : Type 0} (naming : Naming N) (typing others : StoreTyping) (checked : TypeEnvironment N) (active : Activation N) → RunEnvironmentAgreesWithCheckedEnvironment naming typing checked active → RunEnvironmentAgreesWithCheckedEnvironment naming (typing ++ others) checked active
 environments-grow naming typing others [] [] h = tt
 environments-grow naming typing others (b ∷ checked) (d ∷ active) h = (h.0, binding-grows naming typing others checked b.0 b.1 d.1 h.1, environments-grow naming typing others checked active h.2)
 environments-grow naming typing others _ _ h = h
@@ -117,7 +117,7 @@ pub object_for_statements-type : {N : Type 0} (o : Option (Object Place (Procedu
 object_for_statements-type (Some (a_type s)) = refl
 object_for_statements-type _ = refl
 
-pub fit-constant : (typing : StoreTyping) (checked : Option (Object Shape Signature)) (active : Option (Object Place (List Mode))) → RunObjectAgrees typing checked active → constant_of active ≡ constant_of checked
+pub fit-constant : (typing : StoreTyping) (checked : Option (Object Shape Signature)) (active : Option (Object Place (List Mode))) → RunObjectAgreesWithCheckedObject typing checked active → constant_of active ≡ constant_of checked
 fit-constant typing None None h = refl
 fit-constant typing (Some (a_constant v)) (Some (a_constant w)) h = ap Some (sym h)
 fit-constant typing (Some (a_type s)) (Some (a_type t)) h = refl
@@ -126,7 +126,7 @@ fit-constant typing (Some (a_procedure s)) (Some (a_procedure t)) h = refl
 fit-constant typing (Some (a_standard s)) (Some (a_standard t)) h = refl
 fit-constant typing _ _ h = absurd h
 
-pub fit-type : (typing : StoreTyping) (checked : Option (Object Shape Signature)) (active : Option (Object Place (List Mode))) → RunObjectAgrees typing checked active → type_of_type_object active ≡ type_of_type_object checked
+pub fit-type : (typing : StoreTyping) (checked : Option (Object Shape Signature)) (active : Option (Object Place (List Mode))) → RunObjectAgreesWithCheckedObject typing checked active → type_of_type_object active ≡ type_of_type_object checked
 fit-type typing None None h = refl
 fit-type typing (Some (a_type s)) (Some (a_type t)) h = ap Some (sym h)
 fit-type typing (Some (a_constant v)) (Some (a_constant w)) h = refl
@@ -135,35 +135,35 @@ fit-type typing (Some (a_procedure s)) (Some (a_procedure t)) h = refl
 fit-type typing (Some (a_standard s)) (Some (a_standard t)) h = refl
 fit-type typing _ _ h = absurd h
 
-pub constants-same : {N : Type 0} (naming : Naming N) (typing : StoreTyping) (checked : TypeEnvironment N) (active : Activation N) → RunEnvironmentAgrees naming typing checked active → (x : N) → constant_of ((meanings naming active).object_for x) ≡ constant_of ((meanings naming checked).object_for x)
+pub constants-same : {N : Type 0} (naming : Naming N) (typing : StoreTyping) (checked : TypeEnvironment N) (active : Activation N) → RunEnvironmentAgreesWithCheckedEnvironment naming typing checked active → (x : N) → constant_of ((meanings naming active).object_for x) ≡ constant_of ((meanings naming checked).object_for x)
 constants-same naming typing checked active h x =
     sym (object_for_statements-constant (newest_object (environment_from_binding naming active x))) ∙ fit-constant typing (newest_object (environment_from_binding naming checked x)) (object_for_statements (newest_object (environment_from_binding naming active x))) (names-fit naming typing checked active h x)
 
-pub types-same : {N : Type 0} (naming : Naming N) (typing : StoreTyping) (checked : TypeEnvironment N) (active : Activation N) → RunEnvironmentAgrees naming typing checked active → (x : N) → type_of_type_object ((meanings naming active).object_for x) ≡ type_of_type_object ((meanings naming checked).object_for x)
+pub types-same : {N : Type 0} (naming : Naming N) (typing : StoreTyping) (checked : TypeEnvironment N) (active : Activation N) → RunEnvironmentAgreesWithCheckedEnvironment naming typing checked active → (x : N) → type_of_type_object ((meanings naming active).object_for x) ≡ type_of_type_object ((meanings naming checked).object_for x)
 types-same naming typing checked active h x =
     sym (object_for_statements-type (newest_object (environment_from_binding naming active x))) ∙ fit-type typing (newest_object (environment_from_binding naming checked x)) (object_for_statements (newest_object (environment_from_binding naming active x))) (names-fit naming typing checked active h x)
 
-pub value-same : {N : Type 0} (naming : Naming N) (typing : StoreTyping) (checked : TypeEnvironment N) (active : Activation N) → RunEnvironmentAgrees naming typing checked active → (e : Tree N expression) → constant_value (meanings naming active) e ≡ constant_value (meanings naming checked) e
+pub value-same : {N : Type 0} (naming : Naming N) (typing : StoreTyping) (checked : TypeEnvironment N) (active : Activation N) → RunEnvironmentAgreesWithCheckedEnvironment naming typing checked active → (e : Tree N expression) → constant_value (meanings naming active) e ≡ constant_value (meanings naming checked) e
 value-same naming typing checked active h e =
     ap (constant_value (meanings naming active)) (sym (map_names-id e)) ∙ constant_value-map (λ x. x) (λ x. x) (meanings naming active) (meanings naming checked) e (constants-same naming typing checked active h) (λ x. refl)
 
-pub denoted_type-same : {N : Type 0} (naming : Naming N) (typing : StoreTyping) (checked : TypeEnvironment N) (active : Activation N) → RunEnvironmentAgrees naming typing checked active → (k : ℕ) (t : Tree N written_type) → denoted_type (meanings naming active) k t ≡ denoted_type (meanings naming checked) k t
+pub denoted_type-same : {N : Type 0} (naming : Naming N) (typing : StoreTyping) (checked : TypeEnvironment N) (active : Activation N) → RunEnvironmentAgreesWithCheckedEnvironment naming typing checked active → (k : ℕ) (t : Tree N written_type) → denoted_type (meanings naming active) k t ≡ denoted_type (meanings naming checked) k t
 denoted_type-same naming typing checked active h k t =
     ap (denoted_type (meanings naming active) k) (sym (map_names-id t)) ∙ denoted_type-map (λ x. x) (λ x. x) (meanings naming active) (meanings naming checked) (constants-same naming typing checked active h) (types-same naming typing checked active h) (λ x. refl) k t
 
 pub constants-run : {N : Type 0} (naming : Naming N) (typing : StoreTyping) (checked : TypeEnvironment N) (active : Activation N) (cs : Tree N (items constant)) (after : TypeEnvironment N)
-    → RunEnvironmentAgrees naming typing checked active → declare_constants naming checked cs ≡ Some after → (d : Activation N) × (declare_constants naming active cs ≡ Some d) × RunEnvironmentAgrees naming typing after d
+    → RunEnvironmentAgreesWithCheckedEnvironment naming typing checked active → declare_constants naming checked cs ≡ Some after → (d : Activation N) × (declare_constants naming active cs ≡ Some d) × RunEnvironmentAgreesWithCheckedEnvironment naming typing after d
 unfolding declare_constants
-constants-run naming typing checked active end after h e = (active, refl, subst (λ c. RunEnvironmentAgrees naming typing c active) (some_inverse {a = checked} {b = after} e) h)
+constants-run naming typing checked active end after h e = (active, refl, subst (λ c. RunEnvironmentAgreesWithCheckedEnvironment naming typing c active) (some_inverse {a = checked} {b = after} e) h)
 constants-run {N} naming typing checked active (more (declares_constant x v₀) cs) after h e =
     let (v, ev, e₁) = then_some (constant_value (meanings naming checked) v₀) (λ v. declare_constants naming ((x, a_constant v) ∷ checked) cs) after e in
     let (d, ed, fit) = constants-run naming typing ((x, a_constant v) ∷ checked) ((x, a_constant v) ∷ active) cs after (refl, refl, h) e₁ in
     (d, ap (option_and_then (λ v. declare_constants naming ((x, a_constant v) ∷ active) cs)) (value-same naming typing checked active h v₀ ∙ ev) ∙ ed, fit)
 
 pub types-run : {N : Type 0} (naming : Naming N) (typing : StoreTyping) (checked : TypeEnvironment N) (active : Activation N) (k : ℕ) (ds : Tree N (items type_definition)) (after : TypeEnvironment N)
-    → RunEnvironmentAgrees naming typing checked active → declare_types naming checked k ds ≡ Some after → (d : Activation N) × (declare_types naming active k ds ≡ Some d) × RunEnvironmentAgrees naming typing after d
+    → RunEnvironmentAgreesWithCheckedEnvironment naming typing checked active → declare_types naming checked k ds ≡ Some after → (d : Activation N) × (declare_types naming active k ds ≡ Some d) × RunEnvironmentAgreesWithCheckedEnvironment naming typing after d
 unfolding declare_types
-types-run naming typing checked active k end after h e = (active, refl, subst (λ c. RunEnvironmentAgrees naming typing c active) (some_inverse {a = checked} {b = after} e) h)
+types-run naming typing checked active k end after h e = (active, refl, subst (λ c. RunEnvironmentAgreesWithCheckedEnvironment naming typing c active) (some_inverse {a = checked} {b = after} e) h)
 types-run {N} naming typing checked active k (more (declares_type x u) cs) after h e =
     let (s, es, e₁) = then_some (denoted_type (meanings naming checked) k u) (λ s. declare_types naming ((x, a_type s) ∷ checked) (k + constructor_count u) cs) after e in
     let (d, ed, fit) = types-run naming typing ((x, a_type s) ∷ checked) ((x, a_type s) ∷ active) (k + constructor_count u) cs after (refl, refl, h) e₁ in
@@ -171,37 +171,37 @@ types-run {N} naming typing checked active k (more (declares_type x u) cs) after
 
 -- holds if a frame fits a checked environment in a store that has at most grown
 abbrev pub FrameFits : {N : Type 0} → Naming N → StoreTyping → TypeEnvironment N → Frame N → Type 0
-FrameFits naming typing checked f = (others : StoreTyping) × StoreHasTypes (typing ++ others) f.store × RunEnvironmentAgrees naming (typing ++ others) checked f.env
+FrameFits naming typing checked f = (others : StoreTyping) × StoreHasTypes (typing ++ others) f.store × RunEnvironmentAgreesWithCheckedEnvironment naming (typing ++ others) checked f.env
 
 pub frame-grown : {N : Type 0} (naming : Naming N) (typing others : StoreTyping) (checked : TypeEnvironment N) (f : Frame N) → FrameFits naming (typing ++ others) checked f → FrameFits naming typing checked f
 frame-grown naming typing others checked f h =
-    (others ++ h.0, subst (λ all. StoreHasTypes all f.store) (append_assoc typing others h.0) h.1, subst (λ all. RunEnvironmentAgrees naming all checked f.env) (append_assoc typing others h.0) h.2)
+    (others ++ h.0, subst (λ all. StoreHasTypes all f.store) (append_assoc typing others h.0) h.1, subst (λ all. RunEnvironmentAgreesWithCheckedEnvironment naming all checked f.env) (append_assoc typing others h.0) h.2)
 
-pub frame-here : {N : Type 0} (naming : Naming N) (typing : StoreTyping) (checked : TypeEnvironment N) (f : Frame N) → StoreHasTypes typing f.store → RunEnvironmentAgrees naming typing checked f.env → FrameFits naming typing checked f
+pub frame-here : {N : Type 0} (naming : Naming N) (typing : StoreTyping) (checked : TypeEnvironment N) (f : Frame N) → StoreHasTypes typing f.store → RunEnvironmentAgreesWithCheckedEnvironment naming typing checked f.env → FrameFits naming typing checked f
 frame-here naming typing checked f h k =
-    ([], subst (λ all. StoreHasTypes all f.store) (sym (append-nil typing)) h, subst (λ all. RunEnvironmentAgrees naming all checked f.env) (sym (append-nil typing)) k)
+    ([], subst (λ all. StoreHasTypes all f.store) (sym (append-nil typing)) h, subst (λ all. RunEnvironmentAgreesWithCheckedEnvironment naming all checked f.env) (sym (append-nil typing)) k)
 
-pub allocate-fits : {N : Type 0} (naming : Naming N) (typing : StoreTyping) (checked : TypeEnvironment N) (xs : List N) (s : Shape) (v : Value) (f : Frame N) → HasShape v s → StoreHasTypes typing f.store → RunEnvironmentAgrees naming typing checked f.env
-    → FrameFits naming typing (bind_names xs (a_variable s) checked) (allocate xs v f)
-allocate-fits naming typing checked [] s v f hv store env = frame-here naming typing checked f store env
-allocate-fits {N} naming typing checked (x ∷ xs) s v f hv store env =
+pub add_variables_to_frame-fits : {N : Type 0} (naming : Naming N) (typing : StoreTyping) (checked : TypeEnvironment N) (xs : List N) (s : Shape) (v : Value) (f : Frame N) → HasShape v s → StoreHasTypes typing f.store → RunEnvironmentAgreesWithCheckedEnvironment naming typing checked f.env
+    → FrameFits naming typing (bind_names xs (a_variable s) checked) (add_variables_to_frame xs v f)
+add_variables_to_frame-fits naming typing checked [] s v f hv store env = frame-here naming typing checked f store env
+add_variables_to_frame-fits {N} naming typing checked (x ∷ xs) s v f hv store env =
     let g : Frame N = record { env = (x, a_variable record { variable = length f.store; path = [] }) ∷ f.env; store = f.store ++ v ∷ [] } in
-    frame-grown naming typing (s ∷ []) (bind_names xs (a_variable s) ((x, a_variable s) ∷ checked)) (allocate xs v g)
-    (allocate-fits naming (typing ++ s ∷ []) ((x, a_variable s) ∷ checked) xs s v g hv (store-appends typing f.store s v store hv)
+    frame-grown naming typing (s ∷ []) (bind_names xs (a_variable s) ((x, a_variable s) ∷ checked)) (add_variables_to_frame xs v g)
+    (add_variables_to_frame-fits naming (typing ++ s ∷ []) ((x, a_variable s) ∷ checked) xs s v g hv (store-appends typing f.store s v store hv)
     (refl, ap (option_and_then (shape_at_path [])) (last-shape typing f.store s store), environments-grow naming typing (s ∷ []) checked f.env env))
 
 pub variables-run : {N : Type 0} (naming : Naming N) (typing : StoreTyping) (checked : TypeEnvironment N) (k : ℕ) (gs : Tree N (items variable)) (after : TypeEnvironment N) (f : Frame N)
-    → StoreHasTypes typing f.store → RunEnvironmentAgrees naming typing checked f.env → declare_typed_variables naming k gs checked ≡ Some after → (g : Frame N) × (declare_variables naming k gs f ≡ Some g) × FrameFits naming typing after g
+    → StoreHasTypes typing f.store → RunEnvironmentAgreesWithCheckedEnvironment naming typing checked f.env → declare_typed_variables naming k gs checked ≡ Some after → (g : Frame N) × (declare_variables naming k gs f ≡ Some g) × FrameFits naming typing after g
 unfolding declare_typed_variables declare_variables
-variables-run naming typing checked k end after f store env e = (f, refl, frame-here naming typing after f store (subst (λ c. RunEnvironmentAgrees naming typing c f.env) (some_inverse {a = checked} {b = after} e) env))
+variables-run naming typing checked k end after f store env e = (f, refl, frame-here naming typing after f store (subst (λ c. RunEnvironmentAgreesWithCheckedEnvironment naming typing c f.env) (some_inverse {a = checked} {b = after} e) env))
 variables-run {N} naming typing checked k (more (declares_variable ns u) ds) after f store env e =
     let (s, es, e₁) = then_some (denoted_type (meanings naming checked) k u) (λ s. declare_typed_variables naming (k + constructor_count u) ds (bind_names (names_in_list ns) (a_variable s) checked)) after e in
-    let inner = allocate-fits naming typing checked (names_in_list ns) s (initial_value s) f (initial-fits s) store env in
-    let (g, eg, fit) = variables-run naming (typing ++ inner.0) (bind_names (names_in_list ns) (a_variable s) checked) (k + constructor_count u) ds after (allocate (names_in_list ns) (initial_value s) f) inner.1 inner.2 e₁ in
-    (g, ap (option_and_then (λ s. declare_variables naming (k + constructor_count u) ds (allocate (names_in_list ns) (initial_value s) f))) (denoted_type-same naming typing checked f.env env k u ∙ es) ∙ eg, frame-grown naming typing inner.0 after g fit)
+    let inner = add_variables_to_frame-fits naming typing checked (names_in_list ns) s (initial_value s) f (initial-fits s) store env in
+    let (g, eg, fit) = variables-run naming (typing ++ inner.0) (bind_names (names_in_list ns) (a_variable s) checked) (k + constructor_count u) ds after (add_variables_to_frame (names_in_list ns) (initial_value s) f) inner.1 inner.2 e₁ in
+    (g, ap (option_and_then (λ s. declare_variables naming (k + constructor_count u) ds (add_variables_to_frame (names_in_list ns) (initial_value s) f))) (denoted_type-same naming typing checked f.env env k u ∙ es) ∙ eg, frame-grown naming typing inner.0 after g fit)
 
-pub procedures-run : {N : Type 0} (naming : Naming N) (typing : StoreTyping) (checked : TypeEnvironment N) (active : Activation N) (k : ℕ) (statements : Tree N (maybe body)) (ps : Tree N (items procedure)) → RunEnvironmentAgrees naming typing checked active
-    → procedures_are_well_typed naming checked k statements ps ≡ true → (after : TypeEnvironment N) × RunEnvironmentAgrees naming typing after (declare_procedures k ps active) × (body_is_well_typed naming after statements ≡ true)
+pub procedures-run : {N : Type 0} (naming : Naming N) (typing : StoreTyping) (checked : TypeEnvironment N) (active : Activation N) (k : ℕ) (statements : Tree N (maybe body)) (ps : Tree N (items procedure)) → RunEnvironmentAgreesWithCheckedEnvironment naming typing checked active
+    → procedures_are_well_typed naming checked k statements ps ≡ true → (after : TypeEnvironment N) × RunEnvironmentAgreesWithCheckedEnvironment naming typing after (declare_procedures k ps active) × (body_is_well_typed naming after statements ≡ true)
 unfolding block_is_well_typed
 procedures-run naming typing checked active k statements end h e = (checked, h, e)
 procedures-run {N} naming typing checked active k statements (more p rest) h e =
@@ -210,7 +210,7 @@ procedures-run {N} naming typing checked active k statements (more p rest) h e =
     procedures-run naming typing (bind_procedure (procedure_name p) ps checked) ((procedure_name p, a_procedure record { constructors_before = k; text = p }) ∷ active) (k + procedure_constructor_count p) statements rest
     (refl, (ps, eps, refl, both.0), h) both.1
 
-pub block-run : {N : Type 0} (naming : Naming N) (typing : StoreTyping) (checked : TypeEnvironment N) (k : ℕ) (b : Tree N block) (f : Frame N) → StoreHasTypes typing f.store → RunEnvironmentAgrees naming typing checked f.env → block_is_well_typed naming checked k b ≡ true
+pub block-run : {N : Type 0} (naming : Naming N) (typing : StoreTyping) (checked : TypeEnvironment N) (k : ℕ) (b : Tree N block) (f : Frame N) → StoreHasTypes typing f.store → RunEnvironmentAgreesWithCheckedEnvironment naming typing checked f.env → block_is_well_typed naming checked k b ≡ true
     → (g : Frame N) × (after : TypeEnvironment N) × (declare_block naming k b f ≡ Some g) × FrameFits naming typing after g × (body_is_well_typed naming after (block_statements b) ≡ true)
 unfolding block_is_well_typed declare_block
 block-run {N} naming typing checked k (forms_block (declares cs ts vs ps) statements) f store env e =
@@ -242,10 +242,10 @@ pub parameters-of_typed : {N : Type 0} (naming : Naming N) (env : TypeEnvironmen
 unfolding typed_parameters
 parameters-of_typed naming env k end ps e = ap (map as_parameter) (some_inverse {a = []} {b = ps} e)
 parameters-of_typed naming env k (more (then_section f) fs) ps e =
-    let (s, es, e₁) = then_some (denoted_type (meanings naming env) k (parameter_section_type f)) (λ s. option_and_then (λ rest. Some (map (typed_parameter record { mode = (section_mode f); shape = s }) (parameter_section_names f) ++ rest)) (typed_parameters naming (bind_names (parameter_section_names f) (a_variable s) env) (k + constructor_count (parameter_section_type f)) fs)) ps e in
-    let (rest, er, e₂) = then_some (typed_parameters naming (bind_names (parameter_section_names f) (a_variable s) env) (k + constructor_count (parameter_section_type f)) fs) (λ rest. Some (map (typed_parameter record { mode = (section_mode f); shape = s }) (parameter_section_names f) ++ rest)) ps e₁ in
-    ap (λ l. map (with_mode (section_mode f)) (parameter_section_names f) ++ l) (parameters-of_typed naming (bind_names (parameter_section_names f) (a_variable s) env) (k + constructor_count (parameter_section_type f)) fs rest er)
-    ∙ (sym (parameters-append record { mode = (section_mode f); shape = s } (parameter_section_names f) rest) ∙ ap (map as_parameter) (some_inverse e₂))
+    let (s, es, e₁) = then_some (denoted_type (meanings naming env) k (parameter_section_type f)) (λ s. option_and_then (λ rest. Some (map (typed_parameter record { mode = (parameter_section_mode f); shape = s }) (parameter_section_names f) ++ rest)) (typed_parameters naming (bind_names (parameter_section_names f) (a_variable s) env) (k + constructor_count (parameter_section_type f)) fs)) ps e in
+    let (rest, er, e₂) = then_some (typed_parameters naming (bind_names (parameter_section_names f) (a_variable s) env) (k + constructor_count (parameter_section_type f)) fs) (λ rest. Some (map (typed_parameter record { mode = (parameter_section_mode f); shape = s }) (parameter_section_names f) ++ rest)) ps e₁ in
+    ap (λ l. map (with_mode (parameter_section_mode f)) (parameter_section_names f) ++ l) (parameters-of_typed naming (bind_names (parameter_section_names f) (a_variable s) env) (k + constructor_count (parameter_section_type f)) fs rest er)
+    ∙ (sym (parameters-append record { mode = (parameter_section_mode f); shape = s } (parameter_section_names f) rest) ∙ ap (map as_parameter) (some_inverse e₂))
 
 pub ArgumentsMatchSignature-grows : (typing others : StoreTyping) (fs : Signature) (args : List Argument) → ArgumentsMatchSignature typing fs args → ArgumentsMatchSignature (typing ++ others) fs args
 ArgumentsMatchSignature-grows typing others [] [] h = tt
@@ -253,7 +253,7 @@ ArgumentsMatchSignature-grows typing others (f ∷ fs) (place_argument p ∷ arg
 ArgumentsMatchSignature-grows typing others (f ∷ fs) (value_argument v ∷ args) h = (h.0, h.1, ArgumentsMatchSignature-grows typing others fs args h.2)
 ArgumentsMatchSignature-grows typing others _ _ h = h
 
-pub parameters-run : {N : Type 0} (naming : Naming N) (typing : StoreTyping) (checked : TypeEnvironment N) (ps : List (TypedParameter N)) (args : List Argument) (f : Frame N) → StoreHasTypes typing f.store → RunEnvironmentAgrees naming typing checked f.env
+pub parameters-run : {N : Type 0} (naming : Naming N) (typing : StoreTyping) (checked : TypeEnvironment N) (ps : List (TypedParameter N)) (args : List Argument) (f : Frame N) → StoreHasTypes typing f.store → RunEnvironmentAgreesWithCheckedEnvironment naming typing checked f.env
     → ArgumentsMatchSignature typing (map (λ p. p.formal) ps) args → (g : Frame N) × (bind_parameters (map as_parameter ps) args f ≡ Some g) × FrameFits naming typing (bind_typed_parameters ps checked) g
 parameters-run naming typing checked [] [] f store env h = (f, refl, frame-here naming typing checked f store env)
 parameters-run {N} naming typing checked (p ∷ ps) (place_argument place ∷ args) f store env h =
@@ -269,7 +269,7 @@ parameters-run naming typing checked _ _ f store env h = absurd h
 
 -- Bodies and calls preserve the typing of the store.
 
-pub body-run : {N : Type 0} (naming : Naming N) (typing : StoreTyping) (checked : TypeEnvironment N) (active : Activation N) (enter : CallFunction N) (t : ℕ) (statements : Tree N (maybe body)) (s : State) → RunEnvironmentAgrees naming typing checked active → CallsFit typing (meanings naming checked) enter
+pub body-run : {N : Type 0} (naming : Naming N) (typing : StoreTyping) (checked : TypeEnvironment N) (active : Activation N) (enter : CallFunction N) (t : ℕ) (statements : Tree N (maybe body)) (s : State) → RunEnvironmentAgreesWithCheckedEnvironment naming typing checked active → CallsFit typing (meanings naming checked) enter
     → StoreHasTypes typing s.store → body_is_well_typed naming checked statements ≡ true → ProgressFits typing (execute_body naming active enter t statements s)
 unfolding execute_body body_is_well_typed
 body-run naming typing checked active enter t none s env calls_fit store h = same_store-fits typing s store
@@ -280,10 +280,10 @@ body-run naming typing checked active enter t (one (begins statements)) s env ca
 -- holds if calls preserve the typing; this is the induction hypothesis for a smaller bound
 abbrev pub CallsRun : {N : Type 0} → Naming N → (Activation N → CallFunction N) → Type 0
 CallsRun {N} naming enter =
-    (typing : StoreTyping) (checked : TypeEnvironment N) (active : Activation N) → RunEnvironmentAgrees naming typing checked active → CallsFit typing (meanings naming checked) (enter active)
+    (typing : StoreTyping) (checked : TypeEnvironment N) (active : Activation N) → RunEnvironmentAgreesWithCheckedEnvironment naming typing checked active → CallsFit typing (meanings naming checked) (enter active)
 
 pub activate-run : {N : Type 0} (naming : Naming N) (enter : Activation N → CallFunction N) → CallsRun naming enter → (t : ℕ) (typing : StoreTyping) (checked : TypeEnvironment N) (active : Activation N) (signature : Signature) (args : List Argument) (s : State)
-    → RunEnvironmentAgrees naming typing checked active → newest_object checked ≡ Some (a_procedure signature) → ArgumentsMatchSignature typing signature args → StoreHasTypes typing s.store → ProgressFits typing (activate naming enter t active args s)
+    → RunEnvironmentAgreesWithCheckedEnvironment naming typing checked active → newest_object checked ≡ Some (a_procedure signature) → ArgumentsMatchSignature typing signature args → StoreHasTypes typing s.store → ProgressFits typing (activate naming enter t active args s)
 unfolding activate block_is_well_typed
 activate-run naming enter known t typing [] active signature args s env e fit store = absurd (cc)
 activate-run naming enter known t typing (b ∷ checked) [] signature args s env e fit store = absurd env
@@ -301,7 +301,7 @@ activate-run {N} naming enter known t typing ((x, o) ∷ checked) ((y, r) ∷ ac
         (ProgressFits-grown (typing ++ fit₁.0) fit₂.0 (execute_body naming h.env (enter h.env) t (block_statements b) record s { store = h.store })
         (body-run naming ((typing ++ fit₁.0) ++ fit₂.0) after h.env (enter h.env) t (block_statements b) record s { store = h.store } fit₂.2 (known ((typing ++ fit₁.0) ++ fit₂.0) after h.env fit₂.2) fit₂.1 statements)))
 
-    of_objects : (o : Object Shape Signature) (r : Object Place (ProcedureText N)) → RunBindingAgrees naming typing checked x o r → o ≡ a_procedure signature → ProgressFits typing (activate naming enter t ((y, r) ∷ active) args s)
+    of_objects : (o : Object Shape Signature) (r : Object Place (ProcedureText N)) → RunBindingAgreesWithCheckedBinding naming typing checked x o r → o ≡ a_procedure signature → ProgressFits typing (activate naming enter t ((y, r) ∷ active) args s)
     of_objects (a_procedure sig) (a_procedure code) h e = of_text code.constructors_before code.text h.0 h.1 (sym (ap (λ o. unwrap_or (signature_of (Some o)) []) e) ∙ h.2) h.3
     of_objects (a_procedure q) _ h e = absurd h
     of_objects _ r h e = absurd (cc)
@@ -328,6 +328,6 @@ fitting-run {N} naming (is_module x b closing) input c t h =
     (not-stuck ([] ++ fit.0) (execute_body naming g.env (call naming c t g.env) t (block_statements b) record start { store = g.store })
     (body-run naming ([] ++ fit.0) after g.env (call naming c t g.env) t (block_statements b) record start { store = g.store } fit.2 (calls-run naming c t ([] ++ fit.0) after g.env fit.2) fit.1 fits))
 
-pub never_stuck-holds : NeverStuck
+pub runs_never_get_stuck-holds : RunsNeverGetStuck
 unfolding WellTyped run
-never_stuck-holds m well input c t = fitting-run naming_by_spelling m input c t well.1
+runs_never_get_stuck-holds m well input c t = fitting-run naming_by_spelling m input c t well.1

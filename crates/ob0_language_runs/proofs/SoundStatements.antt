@@ -11,7 +11,7 @@ use Rattle.ob0_language_types.proofs.Conditions.{same_known_shape-true, both_tru
 use Rattle.ob0_language_types.proofs.TypedElsewhere.{then_some}
 use Rattle.ob0_language_runs.specs.Runs.{Argument, CallFunction, Progress, State, choose_by_truth, evaluate_argument, evaluate_arguments, execute, execute_sequence, execute_else, execute_elsifs, execute_further_statements, continue_with, line_out, argument_modes_of, number_out, perform_call, place_argument, append_output, read_number, running, stopped, store_at, execute_while, execute_repeat, continue_with_result, value_argument}
 use Rattle.ob0_language_runs.proofs.Sound.{TypeAgreement, evaluate-sound, fits-then, follow-sound, is_number, or_stuck-fits, value_at_step-fits, place-fits, variable-fits}
-use Rattle.ob0_language_runs.specs.TypeAgreement.{ArgumentsMatchSignature, EachElementHasShape, HasShape, MembersHaveShapes, RunMeaningsAgree, RunObjectAgrees, PlaceHasType, StoreHasTypes, StoreTyping, signature_modes, shape_at_step, shape_at_path}
+use Rattle.ob0_language_runs.specs.TypeAgreement.{ArgumentsMatchSignature, EachElementHasShape, HasShape, MembersHaveShapes, RunMeaningsAgreeWithCheckedMeanings, RunObjectAgreesWithCheckedObject, PlaceHasType, StoreHasTypes, StoreTyping, signature_modes, shape_at_step, shape_at_path}
 use Rattle.ob0_language_runs.proofs.Soundness.{CallsFit, OutcomeFits, ProgressFits}
 
 -- Facts about a typing also hold after it has grown.
@@ -26,14 +26,14 @@ PlaceHasType-grows typing others p s h =
     let (t, et, e) = then_some (slice_get typing p.variable) (shape_at_path p.path) s h in
     ap (option_and_then (shape_at_path p.path)) (slice_get-grows typing others p.variable t et) ∙ e
 
-pub RunObjectAgrees-grows : (typing others : StoreTyping) (checked : Option (Object Shape Signature)) (active : Option (Object Place (List Mode))) → RunObjectAgrees typing checked active → RunObjectAgrees (typing ++ others) checked active
-RunObjectAgrees-grows typing others (Some (a_variable s)) (Some (a_variable p)) h = PlaceHasType-grows typing others p s h
-RunObjectAgrees-grows typing others (Some (a_type s)) (Some (a_type t)) h = h
-RunObjectAgrees-grows typing others (Some (a_constant s)) (Some (a_constant t)) h = h
-RunObjectAgrees-grows typing others (Some (a_procedure s)) (Some (a_procedure t)) h = h
-RunObjectAgrees-grows typing others (Some (a_standard s)) (Some (a_standard t)) h = h
-RunObjectAgrees-grows typing others None None h = h
-RunObjectAgrees-grows typing others _ _ h = absurd h
+pub RunObjectAgreesWithCheckedObject-grows : (typing others : StoreTyping) (checked : Option (Object Shape Signature)) (active : Option (Object Place (List Mode))) → RunObjectAgreesWithCheckedObject typing checked active → RunObjectAgreesWithCheckedObject (typing ++ others) checked active
+RunObjectAgreesWithCheckedObject-grows typing others (Some (a_variable s)) (Some (a_variable p)) h = PlaceHasType-grows typing others p s h
+RunObjectAgreesWithCheckedObject-grows typing others (Some (a_type s)) (Some (a_type t)) h = h
+RunObjectAgreesWithCheckedObject-grows typing others (Some (a_constant s)) (Some (a_constant t)) h = h
+RunObjectAgreesWithCheckedObject-grows typing others (Some (a_procedure s)) (Some (a_procedure t)) h = h
+RunObjectAgreesWithCheckedObject-grows typing others (Some (a_standard s)) (Some (a_standard t)) h = h
+RunObjectAgreesWithCheckedObject-grows typing others None None h = h
+RunObjectAgreesWithCheckedObject-grows typing others _ _ h = absurd h
 
 pub CallsFit-grows : {N : Type 0} (typing others : StoreTyping) (checked : TypeMeanings N) (enter : CallFunction N) → CallsFit typing checked enter → CallsFit (typing ++ others) checked enter
 CallsFit-grows typing others checked enter h x signature e later args s fit store =
@@ -110,10 +110,10 @@ shape_at_path-append (step ∷ a) b s = go (shape_at_step s step) (λ t. shape_a
     go (Some t) h = h t
 
 pub object_place-fits : (typing : StoreTyping) (checked : Option (Object Shape Signature)) (active : Option (Object Place (List Mode))) (s : Shape)
-    → RunObjectAgrees typing checked active → checked ≡ Some (a_variable s) → OutcomeFits (λ p. PlaceHasType typing p s) (object_place active)
-object_place-fits typing checked active s h e = go active (subst (λ o. RunObjectAgrees typing o active) e h)
+    → RunObjectAgreesWithCheckedObject typing checked active → checked ≡ Some (a_variable s) → OutcomeFits (λ p. PlaceHasType typing p s) (object_place active)
+object_place-fits typing checked active s h e = go active (subst (λ o. RunObjectAgreesWithCheckedObject typing o active) e h)
   where
-    go : (active : Option (Object Place (List Mode))) → RunObjectAgrees typing (Some (a_variable s)) active → OutcomeFits (λ p. PlaceHasType typing p s) (object_place active)
+    go : (active : Option (Object Place (List Mode))) → RunObjectAgreesWithCheckedObject typing (Some (a_variable s)) active → OutcomeFits (λ p. PlaceHasType typing p s) (object_place active)
     go (Some (a_variable p)) h = h
     go _ h = absurd h
 
@@ -181,7 +181,7 @@ pub read-fits : (typing : StoreTyping) (s : State) (p : Place) (input : List ℤ
 read-fits typing s p [] h hp = λ e. cc
 read-fits typing s p (n ∷ rest) h hp = store_at-fits typing record s { input = rest } p integer_shape (number n) h hp tt
 
-pub modes-same_known_shape : (typing : StoreTyping) (checked : Option (Object Shape Signature)) (active : Option (Object Place (List Mode))) (signature : Signature) → RunObjectAgrees typing checked active → signature_of checked ≡ Some signature → argument_modes_of active ≡ succeeds_with (signature_modes signature)
+pub modes-same_known_shape : (typing : StoreTyping) (checked : Option (Object Shape Signature)) (active : Option (Object Place (List Mode))) (signature : Signature) → RunObjectAgreesWithCheckedObject typing checked active → signature_of checked ≡ Some signature → argument_modes_of active ≡ succeeds_with (signature_modes signature)
 modes-same_known_shape typing (Some (a_procedure t)) (Some (a_procedure modes)) signature h e = ap succeeds_with (h ∙ ap signature_modes (search))
 modes-same_known_shape typing (Some (a_standard read_procedure)) (Some (a_standard q)) signature h e = subst (λ q. argument_modes_of (Some (a_standard q)) ≡ succeeds_with (signature_modes signature)) h (ap (λ t. succeeds_with (signature_modes (unwrap_or t []))) e)
 modes-same_known_shape typing (Some (a_standard write_procedure)) (Some (a_standard q)) signature h e = subst (λ q. argument_modes_of (Some (a_standard q)) ≡ succeeds_with (signature_modes signature)) h (ap (λ t. succeeds_with (signature_modes (unwrap_or t []))) e)
@@ -214,7 +214,7 @@ line_arguments typing enter [] s h fit = same_store-fits typing (append_output s
 line_arguments typing enter (a ∷ args) s h fit = absurd fit
 
 pub perform_call-fits : (typing : StoreTyping) (checked : Option (Object Shape Signature)) (active : Option (Object Place (List Mode))) (signature : Signature) (enter : List Argument → State → Progress) (args : List Argument) (s : State)
-    → RunObjectAgrees typing checked active → signature_of checked ≡ Some signature → StoreHasTypes typing s.store → ArgumentsMatchSignature typing signature args
+    → RunObjectAgreesWithCheckedObject typing checked active → signature_of checked ≡ Some signature → StoreHasTypes typing s.store → ArgumentsMatchSignature typing signature args
     → (checked ≡ Some (a_procedure signature) → ProgressFits typing (enter args s)) → ProgressFits typing (perform_call active enter args s)
 perform_call-fits typing (Some (a_procedure t)) (Some (a_procedure modes)) signature enter args s o e h fit called = called (let e' : t ≡ signature = search in ap (λ t. Some (a_procedure t)) e')
 perform_call-fits typing (Some (a_standard read_procedure)) (Some (a_standard q)) signature enter args s o e h fit called =
@@ -233,12 +233,12 @@ perform_call-fits typing _ _ signature enter args s o e h fit called = absurd o
 
 -- the context that a statement needs: meanings of names and calls that fit
 pub record Sound {N : Type 0} (typing : StoreTyping) (checked : TypeMeanings N) (active : Meanings N Place (List Mode)) (enter : CallFunction N) : Type 0 where
-  pub names_fit : RunMeaningsAgree typing checked active
+  pub names_fit : RunMeaningsAgreeWithCheckedMeanings typing checked active
   pub calls_fit : CallsFit typing checked enter
 
 pub Sound-grows : {N : Type 0} (typing others : StoreTyping) (checked : TypeMeanings N) (active : Meanings N Place (List Mode)) (enter : CallFunction N) → Sound typing checked active enter → Sound (typing ++ others) checked active enter
 Sound-grows typing others checked active enter h =
-    record { names_fit = (λ x. RunObjectAgrees-grows typing others (checked.object_for x) (active.object_for x) (h.names_fit.0 x), h.names_fit.1); calls_fit = CallsFit-grows typing others checked enter h.calls_fit }
+    record { names_fit = (λ x. RunObjectAgreesWithCheckedObject-grows typing others (checked.object_for x) (active.object_for x) (h.names_fit.0 x), h.names_fit.1); calls_fit = CallsFit-grows typing others checked enter h.calls_fit }
 
 -- holds if a body preserves the typing, however much the store has grown
 abbrev pub Keeps : StoreTyping → (State → Progress) → Type 0
@@ -292,7 +292,7 @@ execute_repeat-keep (suc t) typing condition turn is keeps others s h =
     (λ v hv. choose_by_truth-fits ((typing ++ others) ++ later) s' v running (execute_repeat t condition turn) hv (same_store-fits ((typing ++ others) ++ later) s' h')
     (Keeps-grows typing others (execute_repeat t condition turn) (execute_repeat-keep t typing condition turn is keeps) later s' h')))
 
-pub condition-sound : {N : Type 0} (typing : StoreTyping) (checked : TypeMeanings N) (active : Meanings N Place (List Mode)) → RunMeaningsAgree typing checked active → (e : Tree N expression) → condition_is_boolean checked e ≡ true → (s : State) → StoreHasTypes typing s.store → OutcomeFits (λ v. HasShape v boolean_shape) (evaluate active s.store e)
+pub condition-sound : {N : Type 0} (typing : StoreTyping) (checked : TypeMeanings N) (active : Meanings N Place (List Mode)) → RunMeaningsAgreeWithCheckedMeanings typing checked active → (e : Tree N expression) → condition_is_boolean checked e ≡ true → (s : State) → StoreHasTypes typing s.store → OutcomeFits (λ v. HasShape v boolean_shape) (evaluate active s.store e)
 unfolding condition_is_boolean
 condition-sound typing checked active known e h s store_fits =
     let (t, et, ht) = same_known_shape-true (Some boolean_shape) (type_of checked e) h in

@@ -37,8 +37,8 @@ InliningKeepsTypingAndRuns =
 
 -- States that a well-typed module remains well-typed and has the same runs if the declaration of an unused constant is
 -- removed. A constant is unused if no occurrence of a name is bound to it.
-abbrev pub RemovingUnusedKeepsTypingAndRuns : Type 0
-RemovingUnusedKeepsTypingAndRuns =
+abbrev pub RemovingUnusedConstantKeepsTypingAndRuns : Type 0
+RemovingUnusedConstantKeepsTypingAndRuns =
     (m : Tree Name module_text) (d : ℕ) (w : Value) (v : Tree Name factor)
     → IsConstantWithLiteral m d w v
     → ((k : ℕ) → ordinal_bound_at m k ≢ Some d)

@@ -41,16 +41,16 @@ FreeRenamingKeepsRuns =
 
 -- States that dropping each call's variables from the store when the call returns doesn't change the result of a run.
 -- The names of the tree may be spellings or labels.
-abbrev pub FreeingVariablesKeepsRuns : Type 0
-FreeingVariablesKeepsRuns =
+abbrev pub DroppingVariablesKeepsRuns : Type 0
+DroppingVariablesKeepsRuns =
     ((naming : Naming Name) (m : Tree Name module_text) (input : List ℤ) (c t : ℕ)
     → run_freeing_variables naming m input c t ≡ run_with_naming naming m input c t)
     × ((naming : Naming Label) (m : Tree Label module_text) (input : List ℤ) (c t : ℕ)
     → run_freeing_variables naming m input c t ≡ run_with_naming naming m input c t)
 
 -- States that no run of a well-typed module gets stuck: each step of the run has a meaning.
-abbrev pub NeverStuck : Type 0
-NeverStuck =
+abbrev pub RunsNeverGetStuck : Type 0
+RunsNeverGetStuck =
     (m : Tree Name module_text)
     → WellTyped m
     → (input : List ℤ) (c t : ℕ)

@@ -12,7 +12,7 @@ use Rattle.ob0_language_types.specs.Environments.{Environment, environment_from_
 use Rattle.ob0_language_types.specs.Expressions.{Meanings, Object, a_constant, a_procedure, a_standard, a_type, a_variable, designated_place, evaluate, read_procedure, write_procedure, write_line_procedure}
 use Rattle.ob0_language_types.specs.Typing.{constructor_count, denoted_type, lone_designator}
 use Rattle.ob0_language_values.specs.Values.{CallBound, Done, End, InputEnd, Outcome, Place, Store, Stuck, TurnBound, Value, ends_run_with, succeeds_with, initial_value, number, or_stuck, truth, write_place, ◌>>=◌}
-use Rattle.ob0_language_types.specs.WellTyped.{Mode, by_place, by_value, section_mode}
+use Rattle.ob0_language_types.specs.WellTyped.{Mode, by_place, by_value, parameter_section_mode}
 
 -- an item of output: a number or an end of line
 pub data PrintedItem : Type 0 where
@@ -246,10 +246,10 @@ pub record Frame (N : Type 0) : Type 0 where
 
 -- Returns the frame with one more variable for each name. The variables are added at the end of the store, all with the
 -- value `v`, and each name is bound to its variable.
-abbrev pub allocate : {N : Type 0} → List N → Value → Frame N → Frame N
-allocate [] v f = f
-allocate (x ∷ xs) v f =
-    allocate xs v record {
+abbrev pub add_variables_to_frame : {N : Type 0} → List N → Value → Frame N → Frame N
+add_variables_to_frame [] v f = f
+add_variables_to_frame (x ∷ xs) v f =
+    add_variables_to_frame xs v record {
       env
           = (x, a_variable record { variable = length f.store; path = [] }) ∷ f.env;
       store = f.store ++ v ∷ [];
@@ -267,7 +267,7 @@ unfolding denoted_type
 declare_variables naming k end f = Some f
 declare_variables naming k (more (declares_variable ns u) gs) f =
     option_and_then (λ s. declare_variables naming (k + constructor_count u) gs
-    (allocate (names_in_list ns) (initial_value s) f))
+    (add_variables_to_frame (names_in_list ns) (initial_value s) f))
     (denoted_type (meanings naming f.env) k u)
 
 -- returns the environment `env` with these procedures added, each with the number of words ARRAY and RECORD before it;
@@ -308,7 +308,7 @@ declare_block naming k b f =
 abbrev pub bind_parameter : {N : Type 0} → Mode → N → Argument → Frame N → Option (Frame N)
 bind_parameter by_place x (place_argument p) f =
     Some record { env = (x, a_variable p) ∷ f.env; store = f.store }
-bind_parameter by_value x (value_argument v) f = Some (allocate (x ∷ []) v f)
+bind_parameter by_value x (value_argument v) f = Some (add_variables_to_frame (x ∷ []) v f)
 bind_parameter _ x _ f = None
 
 -- a formal parameter of a procedure: its mode and its name
@@ -320,7 +320,7 @@ pub record Parameter (N : Type 0) : Type 0 where
 abbrev pub parameters : {N : Type 0} → Tree N (items further_section) → List (Parameter N)
 parameters end = []
 parameters (more (then_section f) fs) =
-    map (λ x. record { mode = section_mode f; name = x }) (parameter_section_names f) ++ parameters fs
+    map (λ x. record { mode = parameter_section_mode f; name = x }) (parameter_section_names f) ++ parameters fs
 
 -- returns the frame with all parameters of a procedure bound to the arguments of a call; None if there are more or
 -- fewer arguments than parameters, or if `bind_parameter` returns None for one of them
@@ -338,7 +338,7 @@ bind_parameters _ _ f = None
 abbrev pub formal_modes : {N : Type 0} → Tree N (items further_section) → List Mode
 formal_modes end = []
 formal_modes (more (then_section f) fs) =
-    map (λ x. section_mode f) (parameter_section_names f) ++ formal_modes fs
+    map (λ x. parameter_section_mode f) (parameter_section_names f) ++ formal_modes fs
 
 -- returns a name's object with only the data that statements need: a procedure keeps only the modes of its parameters,
 -- and any other object is unchanged

@@ -66,28 +66,28 @@ signature_modes = map (λ f. f.mode)
 -- States that a name's object in a run agrees with the name's object in the checked module, or that the name has no
 -- object in either of them. Types, constants and standard procedures must be equal. The place of a variable must have
 -- the variable's type. The modes of a procedure's parameters must be the modes in its signature.
-abbrev pub RunObjectAgrees : StoreTyping
+abbrev pub RunObjectAgreesWithCheckedObject : StoreTyping
     → Option (Object Shape Signature)
     → Option (Object Place (List Mode))
     → Type 0
-RunObjectAgrees typing None None = Unit {0}
-RunObjectAgrees typing (Some (a_type s)) (Some (a_type t)) = s ≡ t
-RunObjectAgrees typing (Some (a_constant v)) (Some (a_constant w)) = v ≡ w
-RunObjectAgrees typing (Some (a_variable s)) (Some (a_variable p)) = PlaceHasType typing p s
-RunObjectAgrees typing (Some (a_procedure signature)) (Some (a_procedure modes)) =
+RunObjectAgreesWithCheckedObject typing None None = Unit {0}
+RunObjectAgreesWithCheckedObject typing (Some (a_type s)) (Some (a_type t)) = s ≡ t
+RunObjectAgreesWithCheckedObject typing (Some (a_constant v)) (Some (a_constant w)) = v ≡ w
+RunObjectAgreesWithCheckedObject typing (Some (a_variable s)) (Some (a_variable p)) = PlaceHasType typing p s
+RunObjectAgreesWithCheckedObject typing (Some (a_procedure signature)) (Some (a_procedure modes)) =
     modes ≡ signature_modes signature
-RunObjectAgrees typing (Some (a_standard p)) (Some (a_standard q)) = p ≡ q
-RunObjectAgrees typing _ _ = ⊥
+RunObjectAgreesWithCheckedObject typing (Some (a_standard p)) (Some (a_standard q)) = p ≡ q
+RunObjectAgreesWithCheckedObject typing _ _ = ⊥
 
 -- States that each name's object in a run agrees with the name's object in the checked module. Also states that each
 -- name has the same spelling in both.
-abbrev pub RunMeaningsAgree : {N : Type 0}
+abbrev pub RunMeaningsAgreeWithCheckedMeanings : {N : Type 0}
     → StoreTyping
     → TypeMeanings N
     → Meanings N Place (List Mode)
     → Type 0
-RunMeaningsAgree {N} typing checked active =
-    ((x : N) → RunObjectAgrees typing (checked.object_for x) (active.object_for x))
+RunMeaningsAgreeWithCheckedMeanings {N} typing checked active =
+    ((x : N) → RunObjectAgreesWithCheckedObject typing (checked.object_for x) (active.object_for x))
     × ((x : N) → checked.written x ≡ active.written x)
 
 -- states that there are as many arguments as parameters of the called procedure, and each argument has the mode and
@@ -103,7 +103,7 @@ ArgumentsMatchSignature typing _ _ = ⊥
 -- States that the object of the name `x` in an activation agrees with the object of `x` in the checked environment.
 -- `checked` has the bindings of that environment that are older than the binding of `x`. A procedure must also be
 -- well-typed, given these older bindings.
-abbrev pub RunBindingAgrees : {N : Type 0}
+abbrev pub RunBindingAgreesWithCheckedBinding : {N : Type 0}
     → Naming N
     → StoreTyping
     → TypeEnvironment N
@@ -111,26 +111,26 @@ abbrev pub RunBindingAgrees : {N : Type 0}
     → Object Shape Signature
     → Object Place (ProcedureText N)
     → Type 0
-RunBindingAgrees {N} naming typing checked x (a_procedure signature) (a_procedure code) =
+RunBindingAgreesWithCheckedBinding {N} naming typing checked x (a_procedure signature) (a_procedure code) =
     (ps : List (TypedParameter N))
     × (typed_parameters naming checked code.constructors_before (procedure_formals code.text)
     ≡ Some ps)
     × (signature ≡ map (λ p. p.formal) ps)
     × (procedure_is_well_typed naming (bind_typed_parameters ps (bind_procedure x ps checked)) code.constructors_before code.text
     ≡ true)
-RunBindingAgrees naming typing checked x o r = RunObjectAgrees typing (Some o) (object_for_statements (Some r))
+RunBindingAgreesWithCheckedBinding naming typing checked x o r = RunObjectAgreesWithCheckedObject typing (Some o) (object_for_statements (Some r))
 
 -- states that the environment of a run agrees with the checked environment: both bind the same names in the same order,
 -- to objects that agree
-abbrev pub RunEnvironmentAgrees : {N : Type 0}
+abbrev pub RunEnvironmentAgreesWithCheckedEnvironment : {N : Type 0}
     → Naming N
     → StoreTyping
     → TypeEnvironment N
     → Activation N
     → Type 0
-RunEnvironmentAgrees naming typing [] [] = Unit {0}
-RunEnvironmentAgrees naming typing (b ∷ checked) (d ∷ active) =
+RunEnvironmentAgreesWithCheckedEnvironment naming typing [] [] = Unit {0}
+RunEnvironmentAgreesWithCheckedEnvironment naming typing (b ∷ checked) (d ∷ active) =
     (b.0 ≡ d.0)
-    × RunBindingAgrees naming typing checked b.0 b.1 d.1
-    × RunEnvironmentAgrees naming typing checked active
-RunEnvironmentAgrees naming typing _ _ = ⊥
+    × RunBindingAgreesWithCheckedBinding naming typing checked b.0 b.1 d.1
+    × RunEnvironmentAgreesWithCheckedEnvironment naming typing checked active
+RunEnvironmentAgreesWithCheckedEnvironment naming typing _ _ = ⊥

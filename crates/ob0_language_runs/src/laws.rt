@@ -4,12 +4,13 @@
 //!
 //! In the definition `run`, the store keeps every variable until the run ends. In
 //! `run_freeing_variables` (`specs/Freed`), a call's variables are dropped when the call returns.
-//! `freeing_variables_keeps_runs` states that both runs have the same result. `specs/TypeAgreement`
-//! defines when a value, a store, a place or an environment agrees with the types of a checked
-//! module. Throughout a run of a well-typed module all of them agree, so the run doesn't get stuck.
+//! `dropping_variables_keeps_runs` states that both runs have the same result.
+//! `specs/TypeAgreement` defines when a value, a store, a place or an environment agrees with the
+//! types of a checked module. Throughout a run of a well-typed module all of them agree, so the run
+//! doesn't get stuck.
 
-ghost use Rattle.ob0_language_runs.specs.Laws.{NumberingKeepsRuns, NumberedTreeDecidesRuns, FreeRenamingKeepsRuns, FreeingVariablesKeepsRuns, NeverStuck, InliningKeepsExecution};
-ghost use Rattle.ob0_language_runs.specs.EditLaws.{FreeRenamingKeepsTypingAndRuns, InliningKeepsTypingAndRuns, RemovingUnusedKeepsTypingAndRuns, InliningEverywhereKeepsTypingAndRuns};
+ghost use Rattle.ob0_language_runs.specs.Laws.{NumberingKeepsRuns, NumberedTreeDecidesRuns, FreeRenamingKeepsRuns, DroppingVariablesKeepsRuns, RunsNeverGetStuck, InliningKeepsExecution};
+ghost use Rattle.ob0_language_runs.specs.EditLaws.{FreeRenamingKeepsTypingAndRuns, InliningKeepsTypingAndRuns, RemovingUnusedConstantKeepsTypingAndRuns, InliningEverywhereKeepsTypingAndRuns};
 
 /// Proves that a module and its numbered tree have the same run for every input and all bounds on
 /// calls and loop iterations. In the numbered tree, each bound name is replaced by the ordinal of
@@ -33,13 +34,13 @@ pub fn free_renaming_keeps_runs()
 
 /// Proves that dropping each call's variables from the store when the call returns doesn't change
 /// the result of a run.
-pub fn freeing_variables_keeps_runs()
-    ensures { FreeingVariablesKeepsRuns }
+pub fn dropping_variables_keeps_runs()
+    ensures { DroppingVariablesKeepsRuns }
 {}
 
 /// Proves that no run of a well-typed module gets stuck: each step of the run has a meaning.
-pub fn never_stuck()
-    ensures { NeverStuck }
+pub fn runs_never_get_stuck()
+    ensures { RunsNeverGetStuck }
 {}
 
 /// Proves that replacing uses of a constant by a factor with the constant's value leaves the
@@ -63,8 +64,8 @@ pub fn inlining_keeps_typing_and_runs()
 
 /// Proves that a well-typed module remains well-typed and has the same runs if the declaration of
 /// an unused constant is removed. A constant is unused if no occurrence of a name is bound to it.
-pub fn removing_unused_keeps_typing_and_runs()
-    ensures { RemovingUnusedKeepsTypingAndRuns }
+pub fn removing_unused_constant_keeps_typing_and_runs()
+    ensures { RemovingUnusedConstantKeepsTypingAndRuns }
 {}
 
 /// Proves that a well-typed module remains well-typed and has the same runs if a constant is

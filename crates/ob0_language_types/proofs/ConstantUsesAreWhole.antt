@@ -14,7 +14,7 @@ use Rattle.ob0_language_types.proofs.EditedModules.{label_ordinal-of, seven-or-l
 use Rattle.ob0_language_types.proofs.InlinedEverywhere.{alone-module}
 use Rattle.std.proofs.lemmas.List.Elements.{All-cons, All-nil}
 use Rattle.ob0_language_names.specs.Names.{Label, Name, naming_by_spelling, declared}
-use Rattle.ob0_language_names.specs.Scopes.{Scope, ordinal_after_names, ordinal_after_procedure, label_from_ordinal, body_scope, declare_names, first_procedure_ordinal, first_type_ordinal, first_variable_ordinal, label_of, numbered, predeclared_scope, scope_before_procedures, relabel_block, relabel_constant_section, relabel_constants, relabel_formals, relabel_procedure, relabel_procedures, relabel_section, relabel_sections, relabel_type_section, relabel_types, relabel_uses, relabel_variable_section, relabel_variables, scope_before_types, scope_before_variables}
+use Rattle.ob0_language_names.specs.Scopes.{Scope, ordinal_after_names, ordinal_after_procedure, label_from_ordinal, body_scope, declare_names, first_procedure_ordinal, first_type_ordinal, first_variable_ordinal, label_of, numbered, predeclared_scope, scope_before_procedures, relabel_block, relabel_constant_section, relabel_constants, relabel_formals, relabel_procedure, relabel_procedures, relabel_parameter_section, relabel_parameter_sections, relabel_type_section, relabel_types, relabel_uses, relabel_variable_section, relabel_variables, scope_before_types, scope_before_variables}
 
 abbrev pub IsLabelOf : ℕ → Label → Type 0
 IsLabelOf d l = l ≡ declared d
@@ -42,11 +42,11 @@ label-variables d j scope k end h = tt
 label-variables d j scope k (more (declares_variable ns t) gs) h =
     none-of-join (IsLabelOf d) _ _ (alone-leaf d j scope t h.0) (label-variables d (j + length (occurrences t)) (declare_names k (names_in_list ns) scope) (ordinal_after_names k (names_in_list ns)) gs h.1)
 
-label-section : (d j : ℕ) (scope : Scope Name) (k : ℕ) (s : Tree Name section) → UsesAreFactors d written_type j scope (parameter_section_type s) → NoneOf (IsLabelOf d) (non_factor_occurrences (relabel_section naming_by_spelling (label_from_ordinal naming_by_spelling) scope k s))
+label-section : (d j : ℕ) (scope : Scope Name) (k : ℕ) (s : Tree Name section) → UsesAreFactors d written_type j scope (parameter_section_type s) → NoneOf (IsLabelOf d) (non_factor_occurrences (relabel_parameter_section naming_by_spelling (label_from_ordinal naming_by_spelling) scope k s))
 label-section d j scope k (value_section ns t) h = alone-leaf d j scope t h
 label-section d j scope k (variable_section ns t) h = alone-leaf d j scope t h
 
-label-sections : (d j : ℕ) (scope : Scope Name) (k : ℕ) (fs : Tree Name (items further_section)) → EachSection (UsesAreFactors d) j scope k fs → NoneOf (IsLabelOf d) (non_factor_occurrences (relabel_sections naming_by_spelling (label_from_ordinal naming_by_spelling) scope k fs))
+label-sections : (d j : ℕ) (scope : Scope Name) (k : ℕ) (fs : Tree Name (items further_section)) → EachSection (UsesAreFactors d) j scope k fs → NoneOf (IsLabelOf d) (non_factor_occurrences (relabel_parameter_sections naming_by_spelling (label_from_ordinal naming_by_spelling) scope k fs))
 label-sections d j scope k end h = tt
 label-sections d j scope k (more (then_section s) fs) h =
     none-of-join (IsLabelOf d) _ _ (label-section d j scope k s h.0) (label-sections d (j + length (occurrences s)) (declare_names k (parameter_section_names s) scope) (ordinal_after_names k (parameter_section_names s)) fs h.1)

@@ -4,18 +4,18 @@ use Rattle.ob0_tree.specs.Tree.{Tree, begins, block, body, constant, declares, d
 use Rattle.ob0_language_names.specs.NonFactorNames.{non_factor_occurrences}
 use Rattle.ob0_language_names.specs.Names.{Name, naming_by_spelling}
 use Rattle.ob0_language_names.specs.Parts.{block_constants, block_types, block_variables, constant_names, formal_names, formal_sections, declared_type_names, names_in_list, section_constants, parameter_section_names, parameter_section_type, section_types, section_variables, variable_names}
-use Rattle.ob0_language_names.specs.Scopes.{Scope, ordinal_after_block, ordinal_after_names, ordinal_after_procedure, ordinal_after_procedures, declare_names, declare_procedure_names, first_procedure_ordinal, first_type_ordinal, first_variable_ordinal, ordinal_of, scope_before_procedures, scope_before_types, scope_before_variables}
+use Rattle.ob0_language_names.specs.Scopes.{Scope, ordinal_after_block, ordinal_after_names, ordinal_after_procedure, ordinal_after_procedures, declare_names, declare_procedure_names, first_procedure_ordinal, first_type_ordinal, first_variable_ordinal, ordinal_in_scope, scope_before_procedures, scope_before_types, scope_before_variables}
 use Rattle.ob0_language_names.proofs.EditedTrees.{Edit, edited_block, edited_constants, leaf}
 use Rattle.ob0_language_names.proofs.InliningLeavesNoUse.{NoneOf}
 use Rattle.ob0_language_names.proofs.Ordinals.{ordinal_after_names-append, le-ordinal_after_names, le-ordinal_after_procedure}
 use Rattle.ob0_language_names.proofs.Places.{EachBlock, EachConstant, EachProcedure, EachSection, EachType, EachVariable, Placed}
 use Rattle.ob0_language_values.specs.Values.{Shape, Value, fits_in_32_bits}
-use Rattle.ob0_language_types.specs.ConstantValues.{non_constant, value_in_constants, value_in_block, value_in_procedure, value_in_procedures}
+use Rattle.ob0_language_types.specs.ConstantValues.{non_constant_placeholder, value_in_constants, value_in_block, value_in_procedure, value_in_procedures}
 use Rattle.ob0_language_types.specs.Declarations.{constructors_before_variables, constructors_before_procedures, declare_constants, declare_constants_and_types, declare_types, formals_constructor_count, procedure_constructor_count}
 use Rattle.ob0_language_types.specs.Environments.{Environment, meanings}
 use Rattle.ob0_language_types.specs.Expressions.{a_constant, a_procedure, a_type, a_variable}
 use Rattle.ob0_language_types.specs.Typing.{constant_value, constructor_count, denoted_type}
-use Rattle.ob0_language_types.specs.WellTyped.{Signature, TypeEnvironment, TypedParameter, bind_names, bind_typed_parameters, block_is_well_typed, body_is_well_typed, declare_typed_variables, bind_procedure, procedure_is_well_typed, procedures_are_well_typed, section_mode, typed_parameters}
+use Rattle.ob0_language_types.specs.WellTyped.{Signature, TypeEnvironment, TypedParameter, bind_names, bind_typed_parameters, block_is_well_typed, body_is_well_typed, declare_typed_variables, bind_procedure, procedure_is_well_typed, procedures_are_well_typed, parameter_section_mode, typed_parameters}
 use Rattle.ob0_language_types.proofs.Agreeing.{Agree, HoldsOf}
 use Rattle.ob0_language_types.proofs.EditedDeclarations.{Outside, HasValueBetween, constants-edited, outside-right}
 use Rattle.ob0_language_types.proofs.EditedParts.{all-left, body-has_value, constants-has_value, first-edited, bind_procedure-outside, mark_all, names_of, own-has_value, procedures-has_value, read-all, rest-has_value, types-outside, with_value}
@@ -30,7 +30,7 @@ use Rattle.std.proofs.lemmas.Bool.{and_parts}
 
 -- holds if a name is bound to the constant with ordinal `d`
 abbrev pub IsOf : ℕ → Scope Name → Name → Type 0
-IsOf d scope x = ordinal_of naming_by_spelling scope x ≡ Some d
+IsOf d scope x = ordinal_in_scope naming_by_spelling scope x ≡ Some d
 
 abbrev pub UsesAreFactors : ℕ → Placed
 UsesAreFactors d s j scope t = NoneOf (IsOf d scope) (non_factor_occurrences t)
@@ -113,9 +113,9 @@ alone-sections edit w i j k marks s seven (more (then_section f) fs) outside ps 
     let t : Tree Name written_type = parameter_section_type f in
     let n : ℕ = ordinal_after_names k xs in
     let (shape, es, h₁) = then_some (denoted_type (read_meanings as_signed marks) i t)
-    (λ s. option_and_then (λ rest. Some (map (λ x. record { name = x; formal = record { mode = section_mode f; shape = s } }) xs ++ rest)) (typed_parameters naming_by_spelling (bind_names xs (a_variable s) (read as_signed marks)) (i + constructor_count t) fs)) ps h in
+    (λ s. option_and_then (λ rest. Some (map (λ x. record { name = x; formal = record { mode = parameter_section_mode f; shape = s } }) xs ++ rest)) (typed_parameters naming_by_spelling (bind_names xs (a_variable s) (read as_signed marks)) (i + constructor_count t) fs)) ps h in
     let (rest, er, h₂) = then_some (typed_parameters naming_by_spelling (bind_names xs (a_variable shape) (read as_signed marks)) (i + constructor_count t) fs)
-    (λ rest. Some (map (λ x. record { name = x; formal = record { mode = section_mode f; shape = shape } }) xs ++ rest)) ps h₁ in
+    (λ rest. Some (map (λ x. record { name = x; formal = record { mode = parameter_section_mode f; shape = shape } }) xs ++ rest)) ps h₁ in
     let above : k ≤ n = le-ordinal_after_names k xs in
     let whole : ordinal_after_names k (xs ++ ys) ≡ ordinal_after_names n ys = ordinal_after_names-append k xs ys in
     let last : n ≤ ordinal_after_names n ys = le-ordinal_after_names n ys in
@@ -159,11 +159,11 @@ mutual
       let (inner₀, left₀, r₀) = agree-some (read as_signed) (read_edited edit as_signed) (LeftTyped edit w (first_type_ordinal k b) (scope_before_types k b (scope_marked marks)) (declare_constants naming_by_spelling (knowns marks) (section_constants cs)))
       (declare_constants naming_by_spelling (read as_signed marks) (section_constants cs)) (declare_constants naming_by_spelling (read_edited edit as_signed marks) (edited_constants edit j k (section_constants cs)))
       (constants-edited edit w lit anything as_signed as_signed j k marks s seven (section_constants cs) here.0 (constants-has_value edit w (knowns marks) k b has_value)) env₀ e₀ in
-      let (inner₁, left₁, r₁) = agree-some (read as_signed) (read_edited edit as_signed) (LeftTyped edit w (first_variable_ordinal k b) (scope_before_variables k b (scope_marked marks)) (option_map (bind_names (declared_type_names (section_types ts)) non_constant) (declare_constants naming_by_spelling (knowns marks) (section_constants cs))))
+      let (inner₁, left₁, r₁) = agree-some (read as_signed) (read_edited edit as_signed) (LeftTyped edit w (first_variable_ordinal k b) (scope_before_variables k b (scope_marked marks)) (option_map (bind_names (declared_type_names (section_types ts)) non_constant_placeholder) (declare_constants naming_by_spelling (knowns marks) (section_constants cs))))
       (declare_constants_and_types naming_by_spelling (read as_signed marks) i b) (declare_constants_and_types naming_by_spelling (read_edited edit as_signed marks) i (edited_block edit j k b))
       (first-edited edit w lit anything as_signed as_signed i j k marks s seven b here has_value) env₁ e₁ in
       let (inner₂, left₂, r₂) = agree-some (read as_signed) (read_edited edit as_signed)
-      (LeftTyped edit w (first_procedure_ordinal k b) (scope_before_procedures k b (scope_marked marks)) (option_map (bind_names (variable_names (section_variables vs)) non_constant) (option_map (bind_names (declared_type_names (section_types ts)) non_constant) (declare_constants naming_by_spelling (knowns marks) (section_constants cs)))))
+      (LeftTyped edit w (first_procedure_ordinal k b) (scope_before_procedures k b (scope_marked marks)) (option_map (bind_names (variable_names (section_variables vs)) non_constant_placeholder) (option_map (bind_names (declared_type_names (section_types ts)) non_constant_placeholder) (declare_constants naming_by_spelling (knowns marks) (section_constants cs)))))
       (option_and_then (declare_typed_variables naming_by_spelling (constructors_before_variables i b) (section_variables vs)) (declare_constants_and_types naming_by_spelling (read as_signed marks) i b))
       (option_and_then (declare_typed_variables naming_by_spelling (constructors_before_variables i (edited_block edit j k b)) (block_variables (edited_block edit j k b))) (declare_constants_and_types naming_by_spelling (read_edited edit as_signed marks) i (edited_block edit j k b)))
       (declarations-edited edit w lit i j k marks s seven b here has_value) env₂ e₂ in
@@ -193,8 +193,8 @@ mutual
       let xs : List Name = formal_names (formal_sections fs) in
       let n : ℕ = ordinal_after_names (suc k) xs in
       let jr : ℕ = j + length (occurrences p) in
-      let mine : HasValueBetween edit w k (ordinal_after_procedure (suc k) p) (value_in_procedure ((x, non_constant) ∷ knowns marks) edit.constant (suc k) p) = own-has_value edit w (knowns marks) k p rest has_value in
-      let outside : Outside edit k n = bind_procedure-outside edit w ((x, non_constant) ∷ knowns marks) k x closing fs b mine in
+      let mine : HasValueBetween edit w k (ordinal_after_procedure (suc k) p) (value_in_procedure ((x, non_constant_placeholder) ∷ knowns marks) edit.constant (suc k) p) = own-has_value edit w (knowns marks) k p rest has_value in
+      let outside : Outside edit k n = bind_procedure-outside edit w ((x, non_constant_placeholder) ∷ knowns marks) k x closing fs b mine in
       let above : suc k ≤ n = le-ordinal_after_names (suc k) xs in
       let following : suc k ≤ ordinal_after_procedure (suc k) p = le-ordinal_after_procedure (suc k) p in
       let own : Outside edit k (suc k) = λ l m. outside l (omega (arith, m, above)) in
@@ -208,8 +208,8 @@ mutual
       let sound : Checked edit w (suc k) inner = (le_refl (suc k), outside-right edit w x k (a_procedure (map (λ p. p.formal) ps)) seven own, tt, s) in
       let pairs : List (Name × Shape) = parameter_pairs ps in
       let listed_names : names_of pairs ≡ xs = parameter_pairs-names ps ∙ (sym (ap typed_names r) ∙ spelled) in
-      let left : LeftTyped edit w n (declare_names (suc k) xs (scope_marked inner)) (Some (bind_names xs non_constant (knowns inner))) (mark_all (suc k) pairs inner) =
-      subst (λ ys. LeftTyped edit w (ordinal_after_names (suc k) ys) (declare_names (suc k) ys (scope_marked inner)) (Some (bind_names ys non_constant (knowns inner))) (mark_all (suc k) pairs inner)) listed_names
+      let left : LeftTyped edit w n (declare_names (suc k) xs (scope_marked inner)) (Some (bind_names xs non_constant_placeholder (knowns inner))) (mark_all (suc k) pairs inner) =
+      subst (λ ys. LeftTyped edit w (ordinal_after_names (suc k) ys) (declare_names (suc k) ys (scope_marked inner)) (Some (bind_names ys non_constant_placeholder (knowns inner))) (mark_all (suc k) pairs inner)) listed_names
       (all-left edit w anything (suc k) pairs inner sound (omega (arith, seven)) (λ l m. outside' l (subst (λ ys. edit.constant < ordinal_after_names (suc k) ys) listed_names m))) in
       let last = alone-procedures edit w lit (i + procedure_constructor_count p) jr js (ordinal_after_procedure (suc k) p) inner (Sound-weaken edit w anything (suc k) (ordinal_after_procedure (suc k) p) inner following sound) (omega (arith, seven, following)) statements rest
       here.1 (rest-has_value edit w (knowns marks) k p rest has_value) both.1 in (
@@ -219,7 +219,7 @@ mutual
             subst (λ scope. EachBlock (UsesAreFactors d) jb scope n b) left.scoped
                 (alone-block edit w lit (i + formals_constructor_count (formal_sections fs)) jb n (mark_all (suc k) pairs inner) left.sound (omega (arith, seven, above)) b
                 (subst (λ scope. EachBlock (Here edit w) jb scope n b) (sym left.scoped) here.0.1)
-                (subst (λ known. HasValueBetween edit w n (ordinal_after_block n b) (value_in_block known edit.constant n b)) (some_inverse left.value) (body-has_value edit w ((x, non_constant) ∷ knowns marks) k x closing fs b mine))
+                (subst (λ known. HasValueBetween edit w n (ordinal_after_block n b) (value_in_block known edit.constant n b)) (some_inverse left.value) (body-has_value edit w ((x, non_constant_placeholder) ∷ knowns marks) k x closing fs b mine))
                 (sym (ap (λ env. block_is_well_typed naming_by_spelling env (i + formals_constructor_count (formal_sections fs)) b) (bind_typed_parameters-all ps (bind_procedure x ps (read as_signed marks)) ∙ read-all as_signed (suc k) pairs inner)) ∙ both.0)),
           ),
           last.0,

@@ -2,7 +2,7 @@
 use Rattle.std.proofs.Common.{◌≡◌, Bool, true, false, List, [], ◌∷◌, Some, None, Option, option_map, option_and_then, refl, ap, ◌∙◌, subst}
 use Rattle.ob0_tree.specs.Tree.{Tree, addend, adds, compares, designator, end, expression, factor, field, index, integer, items, more, multiplier, multiplies, negation, none, one, parenthesised, product, relates, selector, simple, sum, term}
 use Rattle.ob0_language_types.specs.Expressions.{Meanings, Object, a_constant, a_procedure, a_standard, a_type, a_variable, element_step, evaluate, evaluate_addends, evaluate_factor, evaluate_multipliers, evaluate_simple, evaluate_term, evaluate_selectors, object_value}
-use Rattle.ob0_language_types.specs.Laws.{ConstantValuesAgree}
+use Rattle.ob0_language_types.specs.Laws.{ConstantsHaveSameValueInRunAndChecker}
 use Rattle.ob0_language_types.specs.Typing.{constant_of, constant_value, constant_meanings, outcome_value, type_of}
 use Rattle.ob0_language_values.specs.Values.{Outcome, Place, Step, Store, Value, add, add_short_circuits, at_field, value_at_path, ends_run_with, succeeds_with, multiply, multiply_short_circuits, negate, or_stuck, value_at_step, apply_relation, apply_sign, ◌>>=◌}
 
@@ -122,7 +122,7 @@ pub some-then : {A B : Type 0} (o : Option A) (next : A → Option B) (b : B) �
 some-then None next b h = absurd (cc)
 some-then (Some a) next b h = (a, h)
 
-pub constants_hold-holds : ConstantValuesAgree
+pub constants_hold-holds : ConstantsHaveSameValueInRunAndChecker
 unfolding constant_value
 constants_hold-holds checked active store e v written has h =
     evaluate-held checked active store (written, has) e v

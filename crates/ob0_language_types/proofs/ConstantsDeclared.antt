@@ -8,12 +8,12 @@ use Rattle.std.proofs.lemmas.List.{append-nil}
 use Rattle.ob0_tree.specs.Tree.{Tree, block, body, constant, declares, declares_constant, declares_procedure, declares_type, declares_variable, end, expression, formals, forms_block, is_module, item, items, maybe, module_text, more, procedure, type_definition, variable}
 use Rattle.ob0_language_names.specs.Names.{Label, Name, naming_by_label, naming_by_spelling, declared, same_label, same_name}
 use Rattle.ob0_language_names.specs.Parts.{block_constants, block_procedures, block_statements, block_types, block_variables, constant_names, formal_names, formal_sections, module_block, declared_type_names, names_in_list, section_constants, section_types, section_variables, variable_names}
-use Rattle.ob0_language_names.specs.Scopes.{Scope, ordinal_after_block, ordinal_after_names, ordinal_after_procedure, ordinal_after_procedures, label_from_ordinal, declare_names, first_procedure_ordinal, first_type_ordinal, first_variable_ordinal, numbered, scope_before_procedures, relabel_block, relabel_constants, relabel_formals, relabel_names, relabel_procedures, relabel_sections, relabel_types, relabel_uses, relabel_variables, scope_before_types, scope_before_variables}
+use Rattle.ob0_language_names.specs.Scopes.{Scope, ordinal_after_block, ordinal_after_names, ordinal_after_procedure, ordinal_after_procedures, label_from_ordinal, declare_names, first_procedure_ordinal, first_type_ordinal, first_variable_ordinal, numbered, scope_before_procedures, relabel_block, relabel_constants, relabel_formals, relabel_names, relabel_procedures, relabel_parameter_sections, relabel_types, relabel_uses, relabel_variables, scope_before_types, scope_before_variables}
 use Rattle.ob0_language_names.proofs.Ordinals.{ordinal_after_names-append, declare_names-append, le-ordinal_after_names, le-ordinal_after_block, le-ordinal_after_procedure, le-ordinal_after_procedures}
 use Rattle.ob0_language_names.proofs.Relabelled.{constants-section, formals-section, names-relabel, types-section, variables-section}
 use Rattle.ob0_language_types.specs.Bindings.{block_bindings, declared_object, list_if_some, object_of_ordinal, procedure_bindings, procedures_bindings, bindings_since}
 use Rattle.ob0_language_types.specs.Declaring.{declare_block, declare_procedure}
-use Rattle.ob0_language_types.specs.ConstantValues.{ConstantEnvironment, keep_constant, non_constant, predeclared_constants, value_in_constants, value_in_block, value_in_procedure, value_in_procedures, value_of_constant}
+use Rattle.ob0_language_types.specs.ConstantValues.{ConstantEnvironment, constant_or_placeholder, non_constant_placeholder, predeclared_constants, value_in_constants, value_in_block, value_in_procedure, value_in_procedures, value_of_constant}
 use Rattle.ob0_language_types.specs.Declarations.{constructors_before_variables, constructors_before_procedures, declare_constants, declare_constants_and_types, declare_types, formals_constructor_count, procedure_constructor_count}
 use Rattle.ob0_language_types.specs.Environments.{environment_from_binding, meanings, newest_object, outermost_environment}
 use Rattle.ob0_language_types.specs.Expressions.{Object, a_constant, a_procedure, a_standard, a_type, a_variable}
@@ -161,7 +161,7 @@ pub record Plain (noted : TypeNoted Name) (k : ℕ) (names : List Name) (after :
   pub binds : Binds k (ordinal_after_names k names) bound
   pub plain : AllPlain bound
   pub within : TypedWithin (ordinal_after_names k names) (declare_names k names (typed_scope noted)) after
-  pub knows : (known : ConstantEnvironment) → Knows known noted → Knows (bind_names names non_constant known) after
+  pub knows : (known : ConstantEnvironment) → Knows known noted → Knows (bind_names names non_constant_placeholder known) after
 
 plain-nothing : (noted : TypeNoted Name) (k : ℕ) → TypedBelow k noted → Plain noted k [] noted
 plain-nothing noted k below = record { bound = []; front = refl; binds = tt; plain = tt; within = (refl, below); knows = λ known h. h }
@@ -174,7 +174,7 @@ plain-one noted k x o e below =
       binds = ((k, refl, le_refl k, le_refl (suc k)), tt);
       plain = (e, tt);
       within = (refl, (le_refl (suc k), below));
-      knows = λ known h. knows-more known noted x k non_constant o (sym e) h;
+      knows = λ known h. knows-more known noted x k non_constant_placeholder o (sym e) h;
     }
 
 plain-then : (noted mid after : TypeNoted Name) (k : ℕ) (xs ys : List Name) → Plain noted k xs mid → Plain mid (ordinal_after_names k xs) ys after → Plain noted k (xs ++ ys) after
@@ -192,7 +192,7 @@ plain-then noted mid after k xs ys a b =
         b.within.0 ∙ ap (declare_names m ys) a.within.0 ∙ sym (declare_names-append k xs ys (typed_scope noted)),
         subst (λ z. TypedBelow z after) (sym whole) b.within.1,
       );
-      knows = λ known h. subst (λ z. Knows z after) (sym (bind_names-append xs ys non_constant known)) (b.knows (bind_names xs non_constant known) (a.knows known h));
+      knows = λ known h. subst (λ z. Knows z after) (sym (bind_names-append xs ys non_constant_placeholder known)) (b.knows (bind_names xs non_constant_placeholder known) (a.knows known h));
     }
 
 plain-names : (noted : TypeNoted Name) (k : ℕ) (xs : List Name) (s : Shape) → TypedBelow k noted → Plain noted k xs (noted_names k xs (a_variable s) noted)
@@ -387,7 +387,7 @@ opened-binds known noted k b inner o =
 
 -- The bindings of a block, after its procedures' bindings, have the values of the block's constants.
 block-values : (known : ConstantEnvironment) (noted : TypeNoted Name) (k : ℕ) (b : Tree Name block) (inner P : TypeEnvironment Label) (o : Opened known noted k b inner)
-    → AreValuesBetween (first_procedure_ordinal k b) (ordinal_after_block k b) (λ d. value_in_procedures (bind_names (declared_type_names (block_types b) ++ variable_names (block_variables b)) non_constant o.constants.known_after) d (first_procedure_ordinal k b) (block_procedures b)) P
+    → AreValuesBetween (first_procedure_ordinal k b) (ordinal_after_block k b) (λ d. value_in_procedures (bind_names (declared_type_names (block_types b) ++ variable_names (block_variables b)) non_constant_placeholder o.constants.known_after) d (first_procedure_ordinal k b) (block_procedures b)) P
     → AreValuesBetween k (ordinal_after_block k b) (λ d. value_in_block known d k b) (P ++ (o.others.bound ++ o.constants.bound))
 unfolding value_in_block
 block-values known noted k (forms_block (declares cs ts vs ps) statements) inner P o p =
@@ -408,12 +408,12 @@ block-values known noted k (forms_block (declares cs ts vs ps) statements) inner
       binds = binds-append k n P own (binds-wider kp n k n P (omega (arith, first, second)) (le_refl n) p.binds) (binds-wider k kp k n own (le_refl k) third own_binds);
       has_value_is = λ d l.
           below-or d kt (value_in_constants known d k (section_constants cs))
-          (if nat_lt d kp then None else option_and_then (λ inner. value_in_procedures (bind_names names non_constant inner) d kp ps) (declare_constants naming_by_spelling known (section_constants cs)))
+          (if nat_lt d kp then None else option_and_then (λ inner. value_in_procedures (bind_names names non_constant_placeholder inner) d kp ps) (declare_constants naming_by_spelling known (section_constants cs)))
           (has_value (P ++ own) d)
           (λ m. o.constants.has_value_is d l m ∙ sym (ap constant_of (bound-elsewhere kp n d P own p.binds (λ a z. omega (arith, a, m, second)) ∙ bound-elsewhere kt kp d w c plain_binds (λ a z. omega (arith, a, m)))))
-          (λ m. below-or d kp None (option_and_then (λ inner. value_in_procedures (bind_names names non_constant inner) d kp ps) (declare_constants naming_by_spelling known (section_constants cs))) (has_value (P ++ own) d)
+          (λ m. below-or d kp None (option_and_then (λ inner. value_in_procedures (bind_names names non_constant_placeholder inner) d kp ps) (declare_constants naming_by_spelling known (section_constants cs))) (has_value (P ++ own) d)
           (λ z. sym (ap constant_of (bound-elsewhere kp n d P own p.binds (λ a y. omega (arith, a, z)) ∙ bound-first k kt d w c o.constants.binds (λ a y. omega (arith, m, y))) ∙ plain-has_value w d o.others.plain))
-          (λ z. ap (option_and_then (λ inner. value_in_procedures (bind_names names non_constant inner) d kp ps)) o.constants.known_is ∙ p.has_value_is d z ∙ sym (ap constant_of (bound-first k kp d P own own_binds (λ a y. omega (arith, z, y))))));
+          (λ z. ap (option_and_then (λ inner. value_in_procedures (bind_names names non_constant_placeholder inner) d kp ps)) o.constants.known_is ∙ p.has_value_is d z ∙ sym (ap constant_of (bound-first k kp d P own own_binds (λ a y. omega (arith, z, y))))));
     }
 
 -- the environments with a procedure's name, and with its parameters, with facts about them
@@ -421,12 +421,12 @@ pub record Entered (known : ConstantEnvironment) (noted : TypeNoted Name) (k : �
   pub own : TypeNoted Name
   pub headed : typed_by_ordinal own ≡ bind_procedure (declared k) qs (typed_by_ordinal noted)
   pub own_scope : typed_scope own ≡ (x, k) ∷ typed_scope noted
-  pub own_knows : Knows ((x, non_constant) ∷ known) own
+  pub own_knows : Knows ((x, non_constant_placeholder) ∷ known) own
   pub own_below : TypedBelow (suc k) own
   pub inner : TypeNoted Name
   pub opened : typed_by_ordinal inner ≡ bind_typed_parameters qs (bind_procedure (declared k) qs (typed_by_ordinal noted))
   pub scoped : typed_scope inner ≡ declare_names (suc k) xs ((x, k) ∷ typed_scope noted)
-  pub knows : Knows (bind_names xs non_constant ((x, non_constant) ∷ known)) inner
+  pub knows : Knows (bind_names xs non_constant_placeholder ((x, non_constant_placeholder) ∷ known)) inner
   pub below : TypedBelow (ordinal_after_names (suc k) xs) inner
   pub binds : Binds k (ordinal_after_names (suc k) xs) (bind_typed_parameters qs (bind_procedure (declared k) qs []))
   pub plain : AllPlain (bind_typed_parameters qs (bind_procedure (declared k) qs []))
@@ -438,7 +438,7 @@ entered known noted k knows below x ps =
     let own : TypeNoted Name = record { name = x; ordinal = k; object = a_procedure (map (λ p. p.formal) ps) } ∷ noted in
     let headed : typed_by_ordinal own ≡ bind_procedure (declared k) qs (typed_by_ordinal noted) = ap (λ signature. (declared k, a_procedure signature) ∷ typed_by_ordinal noted) (sym (label_typed-formals (suc k) ps)) in
     let a : Plain own (suc k) (typed_names ps) (noted_parameters (suc k) ps own) = plain-parameters own (suc k) ps (le_refl (suc k), below) in
-    let known_own : Knows ((x, non_constant) ∷ known) own = knows-more known noted x k non_constant (a_procedure (map (λ p. p.formal) ps)) refl knows in
+    let known_own : Knows ((x, non_constant_placeholder) ∷ known) own = knows-more known noted x k non_constant_placeholder (a_procedure (map (λ p. p.formal) ps)) refl knows in
     record {
       own = own;
       headed = headed;
@@ -448,7 +448,7 @@ entered known noted k knows below x ps =
       inner = noted_parameters (suc k) ps own;
       opened = sym (bind_typed_parameters-by_ordinal (suc k) ps own) ∙ ap (bind_typed_parameters qs) headed;
       scoped = a.within.0;
-      knows = a.knows ((x, non_constant) ∷ known) known_own;
+      knows = a.knows ((x, non_constant_placeholder) ∷ known) known_own;
       below = a.within.1;
       binds = listed-binds k (suc k) ps (bind_procedure (declared k) qs []) (le_of_lt (le_refl (suc k))) ((k, refl, le_refl k, le_refl (suc k)), tt);
       plain = listed-plain (suc k) ps (bind_procedure (declared k) qs []) (refl, tt);
@@ -460,23 +460,23 @@ pub procedure-entered : (known : ConstantEnvironment) (noted : TypeNoted Name) (
 procedure-entered known noted j k knows below x fs qs h =
     let env : TypeEnvironment Label = typed_by_ordinal noted in
     let xs : List Name = formal_names (formal_sections fs) in
-    let listed = agree-second (λ ps. ps) (label_typed (suc k)) (λ ps. typed_names ps ≡ xs) (typed_parameters naming_by_spelling (typed_by_name noted) j (formal_sections fs)) (typed_parameters naming_by_label env j (relabel_sections naming_by_spelling (label_from_ordinal naming_by_spelling) (typed_scope noted) (suc k) (formal_sections fs)))
+    let listed = agree-second (λ ps. ps) (label_typed (suc k)) (λ ps. typed_names ps ≡ xs) (typed_parameters naming_by_spelling (typed_by_name noted) j (formal_sections fs)) (typed_parameters naming_by_label env j (relabel_parameter_sections naming_by_spelling (label_from_ordinal naming_by_spelling) (typed_scope noted) (suc k) (formal_sections fs)))
     (parameters_typed naming_by_spelling j (suc k) noted (TypedBelow-weaken k (suc k) noted (le_of_lt (le_refl (suc k))) below) (formal_sections fs)) qs (ap (typed_parameters naming_by_label env j) (sym (formals-section naming_by_spelling (label_from_ordinal naming_by_spelling) (typed_scope noted) (suc k) fs)) ∙ h) in
     subst₂ (λ ys zs. Entered known noted k x ys zs) listed.1 listed.2 (entered known noted k knows below x listed.0)
 
 -- The bindings of a procedure, after the later procedures' bindings, have the values of the constants.
 procedure-values : (known : ConstantEnvironment) (k : ℕ) (x closing : Name) (fs : Tree Name (maybe formals)) (b : Tree Name block) (rest : Tree Name (items procedure)) (B H R : TypeEnvironment Label)
     → AreValuesBetween (ordinal_after_names (suc k) (formal_names (formal_sections fs))) (ordinal_after_procedure (suc k) (declares_procedure x fs b closing))
-    (λ d. value_in_block (bind_names (formal_names (formal_sections fs)) non_constant ((x, non_constant) ∷ known)) d (ordinal_after_names (suc k) (formal_names (formal_sections fs))) b) B
+    (λ d. value_in_block (bind_names (formal_names (formal_sections fs)) non_constant_placeholder ((x, non_constant_placeholder) ∷ known)) d (ordinal_after_names (suc k) (formal_names (formal_sections fs))) b) B
     → Binds k (ordinal_after_names (suc k) (formal_names (formal_sections fs))) H → AllPlain H
     → AreValuesBetween (ordinal_after_procedure (suc k) (declares_procedure x fs b closing)) (ordinal_after_procedures (ordinal_after_procedure (suc k) (declares_procedure x fs b closing)) rest)
-    (λ d. value_in_procedures ((x, non_constant) ∷ known) d (ordinal_after_procedure (suc k) (declares_procedure x fs b closing)) rest) R
+    (λ d. value_in_procedures ((x, non_constant_placeholder) ∷ known) d (ordinal_after_procedure (suc k) (declares_procedure x fs b closing)) rest) R
     → AreValuesBetween k (ordinal_after_procedures k (more (declares_procedure x fs b closing) rest)) (λ d. value_in_procedures known d k (more (declares_procedure x fs b closing) rest)) (R ++ (B ++ H))
 unfolding value_in_block
 procedure-values known k x closing fs b rest B H R inside_block binds plain later =
     let p : Tree Name (item procedure) = declares_procedure x fs b closing in
     let xs : List Name = formal_names (formal_sections fs) in
-    let known' : ConstantEnvironment = (x, non_constant) ∷ known in
+    let known' : ConstantEnvironment = (x, non_constant_placeholder) ∷ known in
     let m : ℕ = ordinal_after_names (suc k) xs in
     let q : ℕ = ordinal_after_procedure (suc k) p in
     let n : ℕ = ordinal_after_procedures q rest in
@@ -490,7 +490,7 @@ procedure-values known k x closing fs b rest B H R inside_block binds plain late
       binds = binds-append k n R Q (binds-wider q n k n R following (le_refl n) later.binds) (binds-wider k q k n Q (le_refl k) last one_binds);
       has_value_is = λ d l.
           below-or d q (value_in_procedure known' d (suc k) p) (value_in_procedures known' d q rest) (has_value (R ++ Q) d)
-          (λ u. below-or d m None (value_in_block (bind_names xs non_constant known') d m b) (has_value (R ++ Q) d)
+          (λ u. below-or d m None (value_in_block (bind_names xs non_constant_placeholder known') d m b) (has_value (R ++ Q) d)
           (λ z. sym (ap constant_of (bound-elsewhere q n d R Q later.binds (λ a y. omega (arith, a, u)) ∙ bound-elsewhere m q d B H inside_block.binds (λ a y. omega (arith, a, z))) ∙ plain-has_value H d plain))
           (λ z. inside_block.has_value_is d z ∙ sym (ap constant_of (bound-elsewhere q n d R Q later.binds (λ a y. omega (arith, a, u)) ∙ bound-first k m d B H binds (λ a y. omega (arith, z, y))))))
           (λ u. later.has_value_is d u ∙ sym (ap constant_of (bound-first k q d R Q one_binds (λ a y. omega (arith, u, y)))));
@@ -510,7 +510,7 @@ mutual
       let parts = block-parts (typed_by_ordinal noted) j b' h in
       let o : Opened known noted k b parts.0 = block-opened known noted j k knows below b parts.0 parts.1 in
       let names : List Name = declared_type_names (section_types ts) ++ variable_names (section_variables vs) in
-      let p = procedures-evaluate (bind_names names non_constant o.constants.known_after) o.last (constructors_before_procedures j b') (first_procedure_ordinal k b) (o.others.knows o.constants.known_after o.constants.knows) o.below (block_statements b') ps
+      let p = procedures-evaluate (bind_names names non_constant_placeholder o.constants.known_after) o.last (constructors_before_procedures j b') (first_procedure_ordinal k b) (o.others.knows o.constants.known_after o.constants.knows) o.below (block_statements b') ps
       ((λ i. procedures_are_well_typed naming_by_label (sym o.reads i) (constructors_before_procedures j b') (block_statements b') (relabel_procedures naming_by_spelling (label_from_ordinal naming_by_spelling) (o.scoped i) (first_procedure_ordinal k b) ps)) ∙ parts.2) in
       let P : TypeEnvironment Label = procedures_bindings naming_by_label (typed_by_ordinal o.last) (constructors_before_procedures j b') (relabel_procedures naming_by_spelling (label_from_ordinal naming_by_spelling) (typed_scope o.last) (first_procedure_ordinal k b) ps) in
       subst (AreValuesBetween k (ordinal_after_block k b) (λ d. value_in_block known d k b))
@@ -535,8 +535,8 @@ mutual
       let jr : ℕ = j + procedure_constructor_count (declares_procedure (declared k) fs' b' (declared k)) in
       let f : FitParts env j statements (declared k) fs' b' (declared k) rest' = procedure-parts env j statements (declared k) fs' b' (declared k) rest' h in
       let e : Entered known noted k x xs f.listed = procedure-entered known noted j k knows below x fs f.listed f.typed in
-      let inside_block = block-evaluates (bind_names xs non_constant ((x, non_constant) ∷ known)) e.inner jb m e.knows e.below b ((λ i. block_is_well_typed naming_by_label (e.opened i) jb (relabel_block naming_by_spelling (label_from_ordinal naming_by_spelling) (e.scoped i) m b)) ∙ f.block_right) in
-      let later = procedures-evaluate ((x, non_constant) ∷ known) e.own jr q e.own_knows (TypedBelow-weaken (suc k) q e.own (le-ordinal_after_procedure (suc k) (declares_procedure x fs b closing)) e.own_below) statements rest
+      let inside_block = block-evaluates (bind_names xs non_constant_placeholder ((x, non_constant_placeholder) ∷ known)) e.inner jb m e.knows e.below b ((λ i. block_is_well_typed naming_by_label (e.opened i) jb (relabel_block naming_by_spelling (label_from_ordinal naming_by_spelling) (e.scoped i) m b)) ∙ f.block_right) in
+      let later = procedures-evaluate ((x, non_constant_placeholder) ∷ known) e.own jr q e.own_knows (TypedBelow-weaken (suc k) q e.own (le-ordinal_after_procedure (suc k) (declares_procedure x fs b closing)) e.own_below) statements rest
       ((λ i. procedures_are_well_typed naming_by_label (e.headed i) jr statements (relabel_procedures naming_by_spelling (label_from_ordinal naming_by_spelling) (e.own_scope i) q rest)) ∙ f.rest_right) in
       subst (AreValuesBetween k (ordinal_after_procedures q rest) (λ d. value_in_procedures known d k (more (declares_procedure x fs b closing) rest)))
       ((λ i. procedures_bindings naming_by_label (e.headed i) jr (relabel_procedures naming_by_spelling (label_from_ordinal naming_by_spelling) (e.own_scope i) q rest) ++ (block_bindings naming_by_label (e.opened i) jb (relabel_block naming_by_spelling (label_from_ordinal naming_by_spelling) (e.scoped i) m b) ++ bind_typed_parameters f.listed (bind_procedure (declared k) f.listed [])))
@@ -545,7 +545,7 @@ mutual
       (procedures_bindings naming_by_label (typed_by_ordinal e.own) jr (relabel_procedures naming_by_spelling (label_from_ordinal naming_by_spelling) (typed_scope e.own) q rest)) inside_block e.binds e.plain later)
 
 -- The predeclared environments of both definitions give each name the same constant, or none.
-same_known : (o : Object Shape Signature) → constant_of (Some (keep_constant o)) ≡ constant_of (Some o)
+same_known : (o : Object Shape Signature) → constant_of (Some (constant_or_placeholder o)) ≡ constant_of (Some o)
 same_known (a_type s) = refl
 same_known (a_constant v) = refl
 same_known (a_variable s) = refl
@@ -554,12 +554,12 @@ same_known (a_standard p) = refl
 
 unfoldable pub all_known : TypeNoted Name → ConstantEnvironment
 all_known [] = []
-all_known (b ∷ noted) = (b.name, keep_constant b.object) ∷ all_known noted
+all_known (b ∷ noted) = (b.name, constant_or_placeholder b.object) ∷ all_known noted
 
 pub knows-all : (noted : TypeNoted Name) → Knows (all_known noted) noted
 unfolding all_known
 knows-all [] = λ x. refl
-knows-all (b ∷ noted) = knows-more (all_known noted) noted b.name b.ordinal (keep_constant b.object) b.object (same_known b.object) (knows-all noted)
+knows-all (b ∷ noted) = knows-more (all_known noted) noted b.name b.ordinal (constant_or_placeholder b.object) b.object (same_known b.object) (knows-all noted)
 
 pub predeclared-below : TypedBelow 7 (typed_outermost naming_by_spelling)
 predeclared-below = (lit< tt, (lit< tt, (lit< tt, (lit< tt, (lit< tt, (lit< tt, (lit< tt, tt)))))))

@@ -3,7 +3,7 @@ use Rattle.std.proofs.Common.{◌≡◌, ℕ, suc, ◌+◌, ◌∷◌, None, ref
 use Rattle.ob0_tree.specs.Tree.{Tree, block, declares, declares_procedure, declares_type, declares_variable, end, further_section, forms_block, item, items, more, procedure, then_section, type_definition, variable}
 use Rattle.ob0_language_names.specs.Names.{Naming}
 use Rattle.ob0_language_names.specs.Parts.{formal_names, formal_sections, names_in_list, procedure_name, parameter_section_names, parameter_section_type, section_types, section_variables}
-use Rattle.ob0_language_names.specs.Scopes.{Labelling, Scope, ordinal_after_names, ordinal_after_procedure, declare_names, first_procedure_ordinal, first_type_ordinal, first_variable_ordinal, label_of, scope_before_procedures, relabel_block, relabel_procedure, relabel_procedures, relabel_sections, relabel_types, relabel_variables, scope_before_types, scope_before_variables}
+use Rattle.ob0_language_names.specs.Scopes.{Labelling, Scope, ordinal_after_names, ordinal_after_procedure, declare_names, first_procedure_ordinal, first_type_ordinal, first_variable_ordinal, label_of, scope_before_procedures, relabel_block, relabel_procedure, relabel_procedures, relabel_parameter_sections, relabel_types, relabel_variables, scope_before_types, scope_before_variables}
 use Rattle.ob0_language_names.proofs.Relabelled.{formals-section, parameter_section_type-relabel, types-section, variables-section}
 use Rattle.ob0_language_types.specs.Declarations.{block_constructor_count, formals_constructor_count, procedure_constructor_count, procedures_constructor_count, types_constructor_count, variables_constructor_count}
 use Rattle.ob0_language_types.specs.Typing.{constructor_count}
@@ -19,7 +19,7 @@ variables_constructor_count-relabel naming label scope k end = refl
 variables_constructor_count-relabel naming label scope k (more (declares_variable ns u) gs) = λ i.
     constructor_count-map (label_of naming label scope) (label None) u i + variables_constructor_count-relabel naming label (declare_names k (names_in_list ns) scope) (ordinal_after_names k (names_in_list ns)) gs i
 
-pub formals_constructor_count-relabel : {N M : Type 0} (naming : Naming N) (label : Labelling N M) (scope : Scope N) (k : ℕ) (fs : Tree N (items further_section)) → formals_constructor_count (relabel_sections naming label scope k fs) ≡ formals_constructor_count fs
+pub formals_constructor_count-relabel : {N M : Type 0} (naming : Naming N) (label : Labelling N M) (scope : Scope N) (k : ℕ) (fs : Tree N (items further_section)) → formals_constructor_count (relabel_parameter_sections naming label scope k fs) ≡ formals_constructor_count fs
 formals_constructor_count-relabel naming label scope k end = refl
 formals_constructor_count-relabel naming label scope k (more (then_section f) fs) = λ i.
     (ap constructor_count (parameter_section_type-relabel naming label scope k f) ∙ constructor_count-map (label_of naming label scope) (label None) (parameter_section_type f)) i + formals_constructor_count-relabel naming label (declare_names k (parameter_section_names f) scope) (ordinal_after_names k (parameter_section_names f)) fs i

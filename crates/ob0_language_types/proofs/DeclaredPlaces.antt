@@ -14,7 +14,7 @@ use Rattle.ob0_language_names.proofs.Ordinals.{le-ordinal_after_names, le-ordina
 use Rattle.ob0_language_types.specs.Bindings.{block_bindings, list_if_some, module_bindings, object_of_ordinal, procedures_bindings}
 use Rattle.ob0_language_types.specs.Bodies.{HoldsInBlock, BodyWithEnvironment, BindingsMatchDeclarations, HoldsInProcedure, HoldsInProcedures, block_bodies, procedure_bodies, procedures_bodies}
 use Rattle.ob0_language_types.specs.Declaring.{declare_block}
-use Rattle.ob0_language_types.specs.ConstantValues.{ConstantEnvironment, non_constant}
+use Rattle.ob0_language_types.specs.ConstantValues.{ConstantEnvironment, non_constant_placeholder}
 use Rattle.ob0_language_types.specs.Declarations.{constructors_before_procedures, formals_constructor_count, procedure_constructor_count}
 use Rattle.ob0_language_types.specs.Environments.{outermost_environment}
 use Rattle.ob0_language_types.specs.Expressions.{Object}
@@ -70,7 +70,7 @@ module _ (all : TypeEnvironment Label) (Q : TypeEnvironment Label → Type 0) (s
         let parts = block-parts env j b' h in
         let o : Opened known noted k b parts.0 = block-opened known noted j k knows below b parts.0 parts.1 in
         let names : List Name = declared_type_names (section_types ts) ++ variable_names (section_variables vs) in
-        let known' : ConstantEnvironment = bind_names names non_constant o.constants.known_after in
+        let known' : ConstantEnvironment = bind_names names non_constant_placeholder o.constants.known_after in
         let fits = (λ i. procedures_are_well_typed naming_by_label (sym o.reads i) jv (block_statements b') (relabel_procedures naming_by_spelling (label_from_ordinal naming_by_spelling) (o.scoped i) kp ps)) ∙ parts.2 in
         let p = procedures-evaluate known' o.last jv kp (o.others.knows o.constants.known_after o.constants.knows) o.below (block_statements b') ps fits in
         let P : TypeEnvironment Label = procedures_bindings naming_by_label (typed_by_ordinal o.last) jv (relabel_procedures naming_by_spelling (label_from_ordinal naming_by_spelling) (typed_scope o.last) kp ps) in
@@ -113,10 +113,10 @@ module _ (all : TypeEnvironment Label) (Q : TypeEnvironment Label → Type 0) (s
         let qs : List (TypedParameter Label) = f.listed in
         let e : Entered known noted k x xs qs = procedure-entered known noted j k knows below x fs qs f.typed in
         let inside_fits = (λ i. block_is_well_typed naming_by_label (e.opened i) jb (relabel_block naming_by_spelling (label_from_ordinal naming_by_spelling) (e.scoped i) m b)) ∙ f.block_right in
-        let inside_block = block-evaluates (bind_names xs non_constant ((x, non_constant) ∷ known)) e.inner jb m e.knows e.below b inside_fits in
+        let inside_block = block-evaluates (bind_names xs non_constant_placeholder ((x, non_constant_placeholder) ∷ known)) e.inner jb m e.knows e.below b inside_fits in
         let later_below : TypedBelow q e.own = TypedBelow-weaken (suc k) q e.own (le-ordinal_after_procedure (suc k) (declares_procedure x fs b closing)) e.own_below in
         let later_fits = (λ i. procedures_are_well_typed naming_by_label (e.headed i) jr statements (relabel_procedures naming_by_spelling (label_from_ordinal naming_by_spelling) (e.own_scope i) q rest)) ∙ f.rest_right in
-        let later = procedures-evaluate ((x, non_constant) ∷ known) e.own jr q e.own_knows later_below statements rest later_fits in
+        let later = procedures-evaluate ((x, non_constant_placeholder) ∷ known) e.own jr q e.own_knows later_below statements rest later_fits in
         let B : TypeEnvironment Label = block_bindings naming_by_label (typed_by_ordinal e.inner) jb (relabel_block naming_by_spelling (label_from_ordinal naming_by_spelling) (typed_scope e.inner) m b) in
         let top : TypeEnvironment Label = bind_procedure (declared k) qs [] in
         let H : TypeEnvironment Label = bind_typed_parameters qs top in
@@ -141,10 +141,10 @@ module _ (all : TypeEnvironment Label) (Q : TypeEnvironment Label → Type 0) (s
         subst (λ ps. Q (bind_typed_parameters ps (bind_procedure (declared k) ps env)) × HoldsInBlock Q (bind_typed_parameters ps (bind_procedure (declared k) ps env)) jb b' × HoldsInProcedures Q (bind_procedure (declared k) ps env) jr rest') same (
           subst Q e.opened (so m e.inner e.below inner),
           subst (λ z. z) (λ i. HoldsInBlock Q (e.opened i) jb (relabel_block naming_by_spelling (label_from_ordinal naming_by_spelling) (e.scoped i) m b))
-              (block-has (bind_names xs non_constant ((x, non_constant) ∷ known)) e.inner jb m e.knows e.below inner b inside_fits
+              (block-has (bind_names xs non_constant_placeholder ((x, non_constant_placeholder) ∷ known)) e.inner jb m e.knows e.below inner b inside_fits
               (λ d l u. each d (omega (arith, l, above)) (omega (arith, u, last)) ∙ bound-elsewhere q n d R (B ++ H) later.binds (λ a z. omega (arith, a, u)) ∙ bound-first k m d B H e.binds (λ a z. omega (arith, l, z)))),
           subst (λ z. z) (λ i. HoldsInProcedures Q (e.headed i) jr (relabel_procedures naming_by_spelling (label_from_ordinal naming_by_spelling) (e.own_scope i) q rest))
-              (procedures-have ((x, non_constant) ∷ known) e.own jr q e.own_knows later_below following statements rest later_fits
+              (procedures-have ((x, non_constant_placeholder) ∷ known) e.own jr q e.own_knows later_below following statements rest later_fits
               (λ d l u. each d (omega (arith, l, inside, above)) u ∙ bound-first k q d R (B ++ H) one_binds (λ a z. omega (arith, l, z)))),
         )
 

@@ -8,7 +8,7 @@ use Rattle.ob0_language_names.proofs.EditedTrees.{Edit, edited_constants, leaf}
 use Rattle.ob0_language_names.proofs.Ordinals.{le-ordinal_after_names}
 use Rattle.ob0_language_names.proofs.Places.{EachConstant, EachType}
 use Rattle.ob0_language_values.specs.Values.{Value}
-use Rattle.ob0_language_types.specs.ConstantValues.{ConstantEnvironment, non_constant, value_in_constants}
+use Rattle.ob0_language_types.specs.ConstantValues.{ConstantEnvironment, non_constant_placeholder, value_in_constants}
 use Rattle.ob0_language_types.specs.Declarations.{declare_constants, declare_types}
 use Rattle.ob0_language_types.specs.Environments.{meanings}
 use Rattle.ob0_language_types.specs.Expressions.{Object, a_constant, a_type}
@@ -120,7 +120,7 @@ not-constant edit k outside =
 
 pub types-edited : {V P Q : Type 0} (edit : Edit) (w : Value) → Literal edit w → (X : Marks V P → Name → ℕ → P → Type 0) (p q : ℕ → P → Q) (i j k : ℕ) (marks : Marks V P) → Sound edit w X k marks → 7 ≤ k → (ds : Tree Name (items type_definition))
     → EachType (Here edit w) j (scope_marked marks) k ds → Outside edit k (ordinal_after_names k (declared_type_names ds))
-    → Agree (read p) (read_edited edit q) (Left edit w X (ordinal_after_names k (declared_type_names ds)) (declare_names k (declared_type_names ds) (scope_marked marks)) (Some (bind_names (declared_type_names ds) non_constant (knowns marks))))
+    → Agree (read p) (read_edited edit q) (Left edit w X (ordinal_after_names k (declared_type_names ds)) (declare_names k (declared_type_names ds) (scope_marked marks)) (Some (bind_names (declared_type_names ds) non_constant_placeholder (knowns marks))))
     (declare_types naming_by_spelling (read p marks) i ds) (declare_types naming_by_spelling (read_edited edit q marks) i (leaf edit j ds))
 unfolding declare_types
 types-edited edit w lit X p q i j k marks s seven end here outside = (Some marks, refl, refl, record { scoped = refl; sound = s; value = refl })
@@ -129,7 +129,7 @@ types-edited {V} {P} {Q} edit w lit X p q i j k marks s seven (more (declares_ty
     let below : suc k ≤ n = le-ordinal_after_names (suc k) (declared_type_names ds) in
     let own : Outside edit k (suc k) = λ a b. outside a (omega (arith, a, b, below)) in
     let ds' : Tree Name (items type_definition) = leaf edit (j + length (occurrences t)) ds in
-    let Result : Marks V P → Type 0 = Left edit w X n (declare_names (suc k) (declared_type_names ds) ((x, k) ∷ scope_marked marks)) (Some (bind_names (declared_type_names ds) non_constant ((x, non_constant) ∷ knowns marks))) in
+    let Result : Marks V P → Type 0 = Left edit w X n (declare_names (suc k) (declared_type_names ds) ((x, k) ∷ scope_marked marks)) (Some (bind_names (declared_type_names ds) non_constant_placeholder ((x, non_constant_placeholder) ∷ knowns marks))) in
     subst (λ m. Agree (read p) (read_edited edit q) Result (option_and_then (λ s. declare_types naming_by_spelling ((x, a_type s) ∷ read p marks) (i + constructor_count t) ds) (denoted_type (read_meanings p marks) i t))
     (option_and_then (λ s. declare_types naming_by_spelling ((x, a_type s) ∷ read_edited edit q marks) (i + m) ds') (denoted_type (edited_meanings edit q marks) i (leaf edit j t))))
     (sym (constructor_count-inlined edit.uses edit.literal j t))

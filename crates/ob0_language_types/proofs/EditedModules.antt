@@ -9,7 +9,7 @@ use Rattle.ob0_language_names.proofs.EditedTrees.{Edit, edited, edited_block, le
 use Rattle.ob0_language_names.proofs.Peeling.{both}
 use Rattle.ob0_language_names.proofs.Places.{AllAt, Both, Each, EachBlock, each-block}
 use Rattle.ob0_language_values.specs.Values.{Value, boolean_shape, elements, integer_shape, members, number, truth}
-use Rattle.ob0_language_types.specs.EditLaws.{AreInlinableUses, InliningKeepsWellTyped, IsConstantWithLiteral, MeansPredeclaredTruth, RemovingUnusedKeepsWellTyped}
+use Rattle.ob0_language_types.specs.EditLaws.{AreInlinableUses, InliningKeepsWellTyped, IsConstantWithLiteral, MeansPredeclaredTruth, RemovingUnusedConstantKeepsWellTyped}
 use Rattle.ob0_language_types.specs.Expressions.{Object, a_constant, a_standard, a_type, read_procedure, write_procedure, write_line_procedure}
 use Rattle.ob0_language_types.specs.WellTyped.{WellTyped, block_is_well_typed, passes_type_check}
 use Rattle.ob0_language_types.proofs.EditedTypes.{Checked, anything, as_signed, block_is_well_typed-edited}
@@ -17,7 +17,7 @@ use Rattle.ob0_language_types.proofs.Leaves.{AllStay, Here, Literal, Writes, sho
 use Rattle.ob0_language_types.proofs.Literals.{some_inverse}
 use Rattle.ob0_language_types.proofs.Marks.{IsRight, Marks, Sound, not-left, object_as, read, read_edited}
 use Rattle.ob0_language_names.specs.Names.{Label, Name, Naming, naming_by_spelling, predeclared_name, same_name}
-use Rattle.ob0_language_names.specs.Scopes.{Scope, label_from_ordinal, label_of, ordinal_of, predeclared_scope, relabel_module, same_ordinal}
+use Rattle.ob0_language_names.specs.Scopes.{Scope, label_from_ordinal, label_of, ordinal_in_scope, predeclared_scope, relabel_module, same_ordinal}
 use Rattle.ob0_language_names.proofs.EditedOnce.{has_consistent_names-edited}
 use Rattle.ob0_language_types.specs.ConstantValues.{predeclared_constants, value_in_block, value_of_constant}
 
@@ -95,8 +95,8 @@ pub all-at : (R : ℕ → Label → Type 0) (j : ℕ) (ls : List Label) → ((i 
 all-at R j [] h = tt
 all-at R j (l ∷ ls) h = (subst (λ n. R n l) (add-zero j) (h 0 l refl), all-at R (suc j) ls (λ i m e. subst (λ n. R n m) (omega arith) (h (suc i) m e)))
 
-pub label_ordinal-of : (naming : Naming Name) (scope : Scope Name) (x : Name) → label_ordinal (label_of naming (label_from_ordinal naming) scope x) ≡ ordinal_of naming scope x
-label_ordinal-of naming scope x = go (ordinal_of naming scope x)
+pub label_ordinal-of : (naming : Naming Name) (scope : Scope Name) (x : Name) → label_ordinal (label_of naming (label_from_ordinal naming) scope x) ≡ ordinal_in_scope naming scope x
+label_ordinal-of naming scope x = go (ordinal_in_scope naming scope x)
   where
     go : (o : Option ℕ) → label_ordinal (label_from_ordinal naming o x) ≡ o
     go None = refl
@@ -129,15 +129,15 @@ pub shown-from : (uses : OccurrenceSet) (w : Value) (j : ℕ) (scope : Scope Nam
 shown-from uses (truth true) j scope x h u =
     ap (λ o. same_ordinal o 2) (sym (looked (codes "TRUE") scope x) ∙ (sym (label_ordinal-of (naming_for_lookup_of (codes "TRUE")) scope x) ∙ h u))
   where
-    looked : (y : Name) (scope : Scope Name) (x : Name) → ordinal_of (naming_for_lookup_of y) scope x ≡ ordinal_of naming_by_spelling scope y
+    looked : (y : Name) (scope : Scope Name) (x : Name) → ordinal_in_scope (naming_for_lookup_of y) scope x ≡ ordinal_in_scope naming_by_spelling scope y
     looked y [] x = refl
-    looked y (b ∷ scope) x = elim (same_name y b.0) as (λ v. (elim v [ true ↦ Some b.1 | false ↦ ordinal_of (naming_for_lookup_of y) scope x ]) ≡ (elim v [ true ↦ Some b.1 | false ↦ ordinal_of naming_by_spelling scope y ])) [ true ↦ refl | false ↦ looked y scope x ]
+    looked y (b ∷ scope) x = elim (same_name y b.0) as (λ v. (elim v [ true ↦ Some b.1 | false ↦ ordinal_in_scope (naming_for_lookup_of y) scope x ]) ≡ (elim v [ true ↦ Some b.1 | false ↦ ordinal_in_scope naming_by_spelling scope y ])) [ true ↦ refl | false ↦ looked y scope x ]
 shown-from uses (truth false) j scope x h u =
     ap (λ o. same_ordinal o 3) (sym (looked (codes "FALSE") scope x) ∙ (sym (label_ordinal-of (naming_for_lookup_of (codes "FALSE")) scope x) ∙ h u))
   where
-    looked : (y : Name) (scope : Scope Name) (x : Name) → ordinal_of (naming_for_lookup_of y) scope x ≡ ordinal_of naming_by_spelling scope y
+    looked : (y : Name) (scope : Scope Name) (x : Name) → ordinal_in_scope (naming_for_lookup_of y) scope x ≡ ordinal_in_scope naming_by_spelling scope y
     looked y [] x = refl
-    looked y (b ∷ scope) x = elim (same_name y b.0) as (λ v. (elim v [ true ↦ Some b.1 | false ↦ ordinal_of (naming_for_lookup_of y) scope x ]) ≡ (elim v [ true ↦ Some b.1 | false ↦ ordinal_of naming_by_spelling scope y ])) [ true ↦ refl | false ↦ looked y scope x ]
+    looked y (b ∷ scope) x = elim (same_name y b.0) as (λ v. (elim v [ true ↦ Some b.1 | false ↦ ordinal_in_scope (naming_for_lookup_of y) scope x ]) ≡ (elim v [ true ↦ Some b.1 | false ↦ ordinal_in_scope naming_by_spelling scope y ])) [ true ↦ refl | false ↦ looked y scope x ]
 shown-from uses (number n) j scope x h u = refl
 shown-from uses (elements vs) j scope x h u = refl
 shown-from uses (members k ms) j scope x h u = refl
@@ -202,5 +202,5 @@ left-fitted (is_module x b closing) d w v c u =
     all_others j scope [] both = tt
     all_others j scope (x ∷ xs) both = (λ e o. both.0.0 (label_ordinal-of naming_by_spelling scope x ∙ o), all_others (suc j) scope xs both.1)
 
-pub removing_unused_keeps_well_typed-holds : RemovingUnusedKeepsWellTyped
-removing_unused_keeps_well_typed-holds m d w v c u well = subst WellTyped (left-module v d m) (well_typed-edited (leaving_out v d) w m (left-fitted m d w v c u) well)
+pub removing_unused_constant_keeps_well_typed-holds : RemovingUnusedConstantKeepsWellTyped
+removing_unused_constant_keeps_well_typed-holds m d w v c u well = subst WellTyped (left-module v d m) (well_typed-edited (leaving_out v d) w m (left-fitted m d w v c u) well)

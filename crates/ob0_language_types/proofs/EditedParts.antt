@@ -9,12 +9,12 @@ use Rattle.ob0_language_names.proofs.EditedTrees.{Edit, edited_block, edited_con
 use Rattle.ob0_language_names.proofs.Ordinals.{ordinal_after_names-append, declare_names-append, le-ordinal_after_block, le-ordinal_after_names, le-ordinal_after_procedure, le-ordinal_after_procedures}
 use Rattle.ob0_language_names.proofs.Places.{EachBlock, EachType}
 use Rattle.ob0_language_values.specs.Values.{Value}
-use Rattle.ob0_language_types.specs.ConstantValues.{ConstantEnvironment, non_constant, value_in_constants, value_in_block, value_in_procedure, value_in_procedures}
+use Rattle.ob0_language_types.specs.ConstantValues.{ConstantEnvironment, non_constant_placeholder, value_in_constants, value_in_block, value_in_procedure, value_in_procedures}
 use Rattle.ob0_language_types.specs.Declarations.{block_constructor_count, declare_constants, declare_constants_and_types, declare_types, formals_constructor_count, procedure_constructor_count, procedures_constructor_count, types_constructor_count, variables_constructor_count}
 use Rattle.ob0_language_types.specs.Environments.{Environment}
 use Rattle.ob0_language_types.specs.Expressions.{Object, a_variable}
 use Rattle.ob0_language_types.specs.Typing.{constructor_count}
-use Rattle.ob0_language_types.specs.WellTyped.{bind_names, section_mode}
+use Rattle.ob0_language_types.specs.WellTyped.{bind_names, parameter_section_mode}
 use Rattle.ob0_language_types.proofs.Agreeing.{Agree, HoldsOf, agree-then}
 use Rattle.ob0_language_types.proofs.DenotedInlined.{constructor_count-inlined}
 use Rattle.ob0_language_types.proofs.EditedDeclarations.{Left, Outside, HasValueBetween, constants-edited, not-constant, outside-right, types-edited}
@@ -59,7 +59,7 @@ edited-all edit q k (x ∷ xs) marks outside =
     ∙ edited-all edit q (suc k) xs (record { name = x.0; ordinal = k; object = a_variable x.1 } ∷ marks) (λ a b. outside (omega (arith, a)) b)
 
 pub all-left : {V P : Type 0} (edit : Edit) (w : Value) (X : Marks V P → Name → ℕ → P → Type 0) (k : ℕ) (xs : List (Name × V)) (marks : Marks V P) → Sound edit w X k marks → 7 ≤ k → Outside edit k (ordinal_after_names k (names_of xs))
-    → Left edit w X (ordinal_after_names k (names_of xs)) (declare_names k (names_of xs) (scope_marked marks)) (Some (bind_names (names_of xs) non_constant (knowns marks))) (mark_all k xs marks)
+    → Left edit w X (ordinal_after_names k (names_of xs)) (declare_names k (names_of xs) (scope_marked marks)) (Some (bind_names (names_of xs) non_constant_placeholder (knowns marks))) (mark_all k xs marks)
 all-left edit w X k [] marks s seven outside = record { scoped = refl; sound = s; value = refl }
 all-left edit w X k (x ∷ xs) marks s seven outside =
     let below : suc k ≤ ordinal_after_names (suc k) (names_of xs) = le-ordinal_after_names (suc k) (names_of xs) in
@@ -72,13 +72,13 @@ bind_names-append (x ∷ xs) ys o env = bind_names-append xs ys o ((x, o) ∷ en
 
 -- Two lists of names can be bound one after the other.
 pub left-join : {V P : Type 0} (edit : Edit) (w : Value) (X : Marks V P → Name → ℕ → P → Type 0) (k : ℕ) (xs ys : List Name) (scope inner : Scope Name) (known between : ConstantEnvironment) (marks : Marks V P)
-    → inner ≡ declare_names k xs scope → Some (bind_names xs non_constant known) ≡ Some between
-    → Left edit w X (ordinal_after_names (ordinal_after_names k xs) ys) (declare_names (ordinal_after_names k xs) ys inner) (Some (bind_names ys non_constant between)) marks
-    → Left edit w X (ordinal_after_names k (xs ++ ys)) (declare_names k (xs ++ ys) scope) (Some (bind_names (xs ++ ys) non_constant known)) marks
+    → inner ≡ declare_names k xs scope → Some (bind_names xs non_constant_placeholder known) ≡ Some between
+    → Left edit w X (ordinal_after_names (ordinal_after_names k xs) ys) (declare_names (ordinal_after_names k xs) ys inner) (Some (bind_names ys non_constant_placeholder between)) marks
+    → Left edit w X (ordinal_after_names k (xs ++ ys)) (declare_names k (xs ++ ys) scope) (Some (bind_names (xs ++ ys) non_constant_placeholder known)) marks
 left-join edit w X k xs ys scope inner known between marks e f left = record {
   scoped = left.scoped ∙ (ap (declare_names (ordinal_after_names k xs) ys) e ∙ sym (declare_names-append k xs ys scope));
   sound = subst (λ n. Sound edit w X n marks) (sym (ordinal_after_names-append k xs ys)) left.sound;
-  value = ap Some (bind_names-append xs ys non_constant known ∙ ap (bind_names ys non_constant) (some_inverse f)) ∙ left.value;
+  value = ap Some (bind_names-append xs ys non_constant_placeholder known ∙ ap (bind_names ys non_constant_placeholder) (some_inverse f)) ∙ left.value;
 }
 
 pub left-then : {V P : Type 0} (edit : Edit) (w : Value) (X : Marks V P → Name → ℕ → P → Type 0) (n : ℕ) (scope inner scope' : Scope Name) (f : ConstantEnvironment → ConstantEnvironment) (o : Option ConstantEnvironment) (between : ConstantEnvironment) (marks : Marks V P)
@@ -119,9 +119,9 @@ pub parameter_section_names-leaf : (edit : Edit) (j : ℕ) (s : Tree Name sectio
 parameter_section_names-leaf edit j (value_section ns t) = refl
 parameter_section_names-leaf edit j (variable_section ns t) = refl
 
-pub section_mode-leaf : (edit : Edit) (j : ℕ) (s : Tree Name section) → section_mode (leaf edit j s) ≡ section_mode s
-section_mode-leaf edit j (value_section ns t) = refl
-section_mode-leaf edit j (variable_section ns t) = refl
+pub parameter_section_mode-leaf : (edit : Edit) (j : ℕ) (s : Tree Name section) → parameter_section_mode (leaf edit j s) ≡ parameter_section_mode s
+parameter_section_mode-leaf edit j (value_section ns t) = refl
+parameter_section_mode-leaf edit j (variable_section ns t) = refl
 
 -- An edit leaves the number of words ARRAY and RECORD unchanged.
 
@@ -174,7 +174,7 @@ unfolding value_in_block
 constants-has_value edit w known k (forms_block (declares cs ts vs ps) statements) has_value l m =
     let b : Tree Name block = forms_block (declares cs ts vs ps) statements in
     let below : first_type_ordinal k b ≤ ordinal_after_block k b = first_type_ordinal-below k b in
-    sym (ap (λ t. if t then value_in_constants known edit.constant k (section_constants cs) else if nat_lt edit.constant (first_procedure_ordinal k b) then None else option_and_then (λ inner. value_in_procedures (bind_names (declared_type_names (section_types ts) ++ variable_names (section_variables vs)) non_constant inner) edit.constant (first_procedure_ordinal k b) ps) (declare_constants naming_by_spelling known (section_constants cs)))
+    sym (ap (λ t. if t then value_in_constants known edit.constant k (section_constants cs) else if nat_lt edit.constant (first_procedure_ordinal k b) then None else option_and_then (λ inner. value_in_procedures (bind_names (declared_type_names (section_types ts) ++ variable_names (section_variables vs)) non_constant_placeholder inner) edit.constant (first_procedure_ordinal k b) ps) (declare_constants naming_by_spelling known (section_constants cs)))
     (lt-ltb edit.constant (first_type_ordinal k b) m)) ∙ has_value l (omega (arith, m, below))
 
 pub types-outside : (edit : Edit) (w : Value) (known : ConstantEnvironment) (k : ℕ) (b : Tree Name block) → HasValueBetween edit w k (ordinal_after_block k b) (value_in_block known edit.constant k b) → Outside edit (first_type_ordinal k b) (first_procedure_ordinal k b)
@@ -183,47 +183,47 @@ types-outside edit w known k (forms_block (declares cs ts vs ps) statements) has
     let b : Tree Name block = forms_block (declares cs ts vs ps) statements in
     let below : first_procedure_ordinal k b ≤ ordinal_after_block k b = first_procedure_ordinal-below k b in
     let above : k ≤ first_type_ordinal k b = le-ordinal_after_names k (constant_names (section_constants cs)) in
-    let last : Option Value = option_and_then (λ inner. value_in_procedures (bind_names (declared_type_names (section_types ts) ++ variable_names (section_variables vs)) non_constant inner) edit.constant (first_procedure_ordinal k b) ps) (declare_constants naming_by_spelling known (section_constants cs)) in
+    let last : Option Value = option_and_then (λ inner. value_in_procedures (bind_names (declared_type_names (section_types ts) ++ variable_names (section_variables vs)) non_constant_placeholder inner) edit.constant (first_procedure_ordinal k b) ps) (declare_constants naming_by_spelling known (section_constants cs)) in
     let e : None ≡ Some w =
     sym (ap (λ t. if t then value_in_constants known edit.constant k (section_constants cs) else if nat_lt edit.constant (first_procedure_ordinal k b) then None else last) (le-ltb edit.constant (first_type_ordinal k b) l)
     ∙ ap (λ t. if t then None else last) (lt-ltb edit.constant (first_procedure_ordinal k b) m)) ∙ has_value (omega (arith, l, above)) (omega (arith, m, below)) in
     absurd (cc)
 
 pub procedures-has_value : (edit : Edit) (w : Value) (known inner : ConstantEnvironment) (k : ℕ) (b : Tree Name block) → HasValueBetween edit w k (ordinal_after_block k b) (value_in_block known edit.constant k b)
-    → option_map (bind_names (variable_names (block_variables b)) non_constant) (option_map (bind_names (declared_type_names (block_types b)) non_constant) (declare_constants naming_by_spelling known (block_constants b))) ≡ Some inner
+    → option_map (bind_names (variable_names (block_variables b)) non_constant_placeholder) (option_map (bind_names (declared_type_names (block_types b)) non_constant_placeholder) (declare_constants naming_by_spelling known (block_constants b))) ≡ Some inner
     → HasValueBetween edit w (first_procedure_ordinal k b) (ordinal_after_block k b) (value_in_procedures inner edit.constant (first_procedure_ordinal k b) (block_procedures b))
 unfolding value_in_block
 procedures-has_value edit w known inner k (forms_block (declares cs ts vs ps) statements) has_value e l m =
     let b : Tree Name block = forms_block (declares cs ts vs ps) statements in
     let above : k ≤ first_type_ordinal k b = le-ordinal_after_names k (constant_names (section_constants cs)) in
     let types : first_type_ordinal k b ≤ first_procedure_ordinal k b = types-below k b in
-    let last : Option ConstantEnvironment → Option Value = option_and_then (λ inner. value_in_procedures (bind_names (declared_type_names (section_types ts) ++ variable_names (section_variables vs)) non_constant inner) edit.constant (first_procedure_ordinal k b) ps) in
+    let last : Option ConstantEnvironment → Option Value = option_and_then (λ inner. value_in_procedures (bind_names (declared_type_names (section_types ts) ++ variable_names (section_variables vs)) non_constant_placeholder inner) edit.constant (first_procedure_ordinal k b) ps) in
     go (declare_constants naming_by_spelling known (section_constants cs)) e
     (sym (ap (λ t. if t then value_in_constants known edit.constant k (section_constants cs) else if nat_lt edit.constant (first_procedure_ordinal k b) then None else last (declare_constants naming_by_spelling known (section_constants cs))) (le-ltb edit.constant (first_type_ordinal k b) (omega (arith, l, types)))
     ∙ ap (λ t. if t then None else last (declare_constants naming_by_spelling known (section_constants cs))) (le-ltb edit.constant (first_procedure_ordinal k b) l)) ∙ has_value (omega (arith, l, above, types)) m)
   where
-    go : (o : Option ConstantEnvironment) → option_map (bind_names (variable_names (section_variables vs)) non_constant) (option_map (bind_names (declared_type_names (section_types ts)) non_constant) o) ≡ Some inner
-        → option_and_then (λ inner. value_in_procedures (bind_names (declared_type_names (section_types ts) ++ variable_names (section_variables vs)) non_constant inner) edit.constant (first_procedure_ordinal k (forms_block (declares cs ts vs ps) statements)) ps) o ≡ Some w
+    go : (o : Option ConstantEnvironment) → option_map (bind_names (variable_names (section_variables vs)) non_constant_placeholder) (option_map (bind_names (declared_type_names (section_types ts)) non_constant_placeholder) o) ≡ Some inner
+        → option_and_then (λ inner. value_in_procedures (bind_names (declared_type_names (section_types ts) ++ variable_names (section_variables vs)) non_constant_placeholder inner) edit.constant (first_procedure_ordinal k (forms_block (declares cs ts vs ps) statements)) ps) o ≡ Some w
         → value_in_procedures inner edit.constant (first_procedure_ordinal k (forms_block (declares cs ts vs ps) statements)) ps ≡ Some w
     go None e h = absurd (cc)
     go (Some known) e h =
         ap (λ env. value_in_procedures env edit.constant (first_procedure_ordinal k (forms_block (declares cs ts vs ps) statements)) ps)
-        (sym (bind_names-append (declared_type_names (section_types ts)) (variable_names (section_variables vs)) non_constant known ∙ some_inverse e)) ∙ h
+        (sym (bind_names-append (declared_type_names (section_types ts)) (variable_names (section_variables vs)) non_constant_placeholder known ∙ some_inverse e)) ∙ h
 
 pub own-has_value : (edit : Edit) (w : Value) (known : ConstantEnvironment) (k : ℕ) (p : Tree Name (item procedure)) (rest : Tree Name (items procedure)) → HasValueBetween edit w k (ordinal_after_procedures k (more p rest)) (value_in_procedures known edit.constant k (more p rest))
-    → HasValueBetween edit w k (ordinal_after_procedure (suc k) p) (value_in_procedure ((procedure_name p, non_constant) ∷ known) edit.constant (suc k) p)
+    → HasValueBetween edit w k (ordinal_after_procedure (suc k) p) (value_in_procedure ((procedure_name p, non_constant_placeholder) ∷ known) edit.constant (suc k) p)
 unfolding value_in_block
 own-has_value edit w known k p rest has_value l m =
     let below : ordinal_after_procedure (suc k) p ≤ ordinal_after_procedures (ordinal_after_procedure (suc k) p) rest = le-ordinal_after_procedures (ordinal_after_procedure (suc k) p) rest in
-    sym (ap (λ t. if t then value_in_procedure ((procedure_name p, non_constant) ∷ known) edit.constant (suc k) p else value_in_procedures ((procedure_name p, non_constant) ∷ known) edit.constant (ordinal_after_procedure (suc k) p) rest)
+    sym (ap (λ t. if t then value_in_procedure ((procedure_name p, non_constant_placeholder) ∷ known) edit.constant (suc k) p else value_in_procedures ((procedure_name p, non_constant_placeholder) ∷ known) edit.constant (ordinal_after_procedure (suc k) p) rest)
     (lt-ltb edit.constant (ordinal_after_procedure (suc k) p) m)) ∙ has_value l (omega (arith, m, below))
 
 pub rest-has_value : (edit : Edit) (w : Value) (known : ConstantEnvironment) (k : ℕ) (p : Tree Name (item procedure)) (rest : Tree Name (items procedure)) → HasValueBetween edit w k (ordinal_after_procedures k (more p rest)) (value_in_procedures known edit.constant k (more p rest))
-    → HasValueBetween edit w (ordinal_after_procedure (suc k) p) (ordinal_after_procedures (ordinal_after_procedure (suc k) p) rest) (value_in_procedures ((procedure_name p, non_constant) ∷ known) edit.constant (ordinal_after_procedure (suc k) p) rest)
+    → HasValueBetween edit w (ordinal_after_procedure (suc k) p) (ordinal_after_procedures (ordinal_after_procedure (suc k) p) rest) (value_in_procedures ((procedure_name p, non_constant_placeholder) ∷ known) edit.constant (ordinal_after_procedure (suc k) p) rest)
 unfolding value_in_block
 rest-has_value edit w known k p rest has_value l m =
     let below : suc k ≤ ordinal_after_procedure (suc k) p = le-ordinal_after_procedure (suc k) p in
-    sym (ap (λ t. if t then value_in_procedure ((procedure_name p, non_constant) ∷ known) edit.constant (suc k) p else value_in_procedures ((procedure_name p, non_constant) ∷ known) edit.constant (ordinal_after_procedure (suc k) p) rest)
+    sym (ap (λ t. if t then value_in_procedure ((procedure_name p, non_constant_placeholder) ∷ known) edit.constant (suc k) p else value_in_procedures ((procedure_name p, non_constant_placeholder) ∷ known) edit.constant (ordinal_after_procedure (suc k) p) rest)
     (le-ltb edit.constant (ordinal_after_procedure (suc k) p) l)) ∙ has_value (omega (arith, l, below)) m
 
 -- Neither the procedure's ordinal nor its parameters' ordinals are the constant's.
@@ -234,24 +234,24 @@ bind_procedure-outside edit w known k x closing fs b has_value l m =
     let n : ℕ = ordinal_after_names (suc k) (formal_names (formal_sections fs)) in
     let below : n ≤ ordinal_after_block n b = le-ordinal_after_block n b in
     let e : None ≡ Some w =
-    sym (ap (λ t. if t then None else value_in_block (bind_names (formal_names (formal_sections fs)) non_constant known) edit.constant n b) (lt-ltb edit.constant n m)) ∙ has_value l (omega (arith, m, below)) in
+    sym (ap (λ t. if t then None else value_in_block (bind_names (formal_names (formal_sections fs)) non_constant_placeholder known) edit.constant n b) (lt-ltb edit.constant n m)) ∙ has_value l (omega (arith, m, below)) in
     absurd (cc)
 
 pub body-has_value : (edit : Edit) (w : Value) (known : ConstantEnvironment) (k : ℕ) (x closing : Name) (fs : Tree Name (maybe formals)) (b : Tree Name block)
     → HasValueBetween edit w k (ordinal_after_procedure (suc k) (declares_procedure x fs b closing)) (value_in_procedure known edit.constant (suc k) (declares_procedure x fs b closing))
     → HasValueBetween edit w (ordinal_after_names (suc k) (formal_names (formal_sections fs))) (ordinal_after_block (ordinal_after_names (suc k) (formal_names (formal_sections fs))) b)
-    (value_in_block (bind_names (formal_names (formal_sections fs)) non_constant known) edit.constant (ordinal_after_names (suc k) (formal_names (formal_sections fs))) b)
+    (value_in_block (bind_names (formal_names (formal_sections fs)) non_constant_placeholder known) edit.constant (ordinal_after_names (suc k) (formal_names (formal_sections fs))) b)
 unfolding value_in_block
 body-has_value edit w known k x closing fs b has_value l m =
     let n : ℕ = ordinal_after_names (suc k) (formal_names (formal_sections fs)) in
     let above : suc k ≤ n = le-ordinal_after_names (suc k) (formal_names (formal_sections fs)) in
-    sym (ap (λ t. if t then None else value_in_block (bind_names (formal_names (formal_sections fs)) non_constant known) edit.constant n b) (le-ltb edit.constant n l)) ∙ has_value (omega (arith, l, above)) m
+    sym (ap (λ t. if t then None else value_in_block (bind_names (formal_names (formal_sections fs)) non_constant_placeholder known) edit.constant n b) (le-ltb edit.constant n l)) ∙ has_value (omega (arith, l, above)) m
 
 -- Declaring the constants and then the types of an edited block gives the same bindings as before, except a removed
 -- one.
 pub first-edited : {V P Q : Type 0} (edit : Edit) (w : Value) → Literal edit w → (X : Marks V P → Name → ℕ → P → Type 0) (p q : ℕ → P → Q) (i j k : ℕ) (marks : Marks V P) → Sound edit w X k marks → 7 ≤ k → (b : Tree Name block)
     → EachBlock (Here edit w) j (scope_marked marks) k b → HasValueBetween edit w k (ordinal_after_block k b) (value_in_block (knowns marks) edit.constant k b)
-    → Agree (read p) (read_edited edit q) (Left edit w X (first_variable_ordinal k b) (scope_before_variables k b (scope_marked marks)) (option_map (bind_names (declared_type_names (block_types b)) non_constant) (declare_constants naming_by_spelling (knowns marks) (block_constants b))))
+    → Agree (read p) (read_edited edit q) (Left edit w X (first_variable_ordinal k b) (scope_before_variables k b (scope_marked marks)) (option_map (bind_names (declared_type_names (block_types b)) non_constant_placeholder) (declare_constants naming_by_spelling (knowns marks) (block_constants b))))
     (declare_constants_and_types naming_by_spelling (read p marks) i b) (declare_constants_and_types naming_by_spelling (read_edited edit q marks) i (edited_block edit j k b))
 unfolding declare_constants_and_types
 first-edited {V} {P} {Q} edit w lit X p q i j k marks s seven (forms_block (declares cs ts vs ps) statements) here has_value =
@@ -260,7 +260,7 @@ first-edited {V} {P} {Q} edit w lit X p q i j k marks s seven (forms_block (decl
     let above : k ≤ first_type_ordinal k b = le-ordinal_after_names k (constant_names (section_constants cs)) in
     let variables : first_variable_ordinal k b ≤ first_procedure_ordinal k b = le-ordinal_after_names (first_variable_ordinal k b) (variable_names (section_variables vs)) in
     let Middle : Marks V P → Type 0 = Left edit w X (first_type_ordinal k b) (scope_before_types k b (scope_marked marks)) known in
-    let Result : Marks V P → Type 0 = Left edit w X (first_variable_ordinal k b) (scope_before_variables k b (scope_marked marks)) (option_map (bind_names (declared_type_names (section_types ts)) non_constant) known) in
+    let Result : Marks V P → Type 0 = Left edit w X (first_variable_ordinal k b) (scope_before_variables k b (scope_marked marks)) (option_map (bind_names (declared_type_names (section_types ts)) non_constant_placeholder) known) in
     subst₂ (λ cs' ts'. Agree (read p) (read_edited edit q) Result (option_and_then (λ env. declare_types naming_by_spelling env i (section_types ts)) (declare_constants naming_by_spelling (read p marks) (section_constants cs)))
     (option_and_then (λ env. declare_types naming_by_spelling env i ts') (declare_constants naming_by_spelling (read_edited edit q marks) cs')))
     (sym (constants-of edit j k cs)) (sym (types-of edit (j + length (occurrences cs)) ts))
@@ -269,9 +269,9 @@ first-edited {V} {P} {Q} edit w lit X p q i j k marks s seven (forms_block (decl
     (declare_constants naming_by_spelling (read p marks) (section_constants cs)) (declare_constants naming_by_spelling (read_edited edit q marks) (edited_constants edit j k (section_constants cs)))
     (constants-edited edit w lit X p q j k marks s seven (section_constants cs) here.0 (constants-has_value edit w (knowns marks) k b has_value))
     (λ inner left. agree-weaken (read p) (read_edited edit q)
-    (Left edit w X (first_variable_ordinal k b) (declare_names (first_type_ordinal k b) (declared_type_names (section_types ts)) (scope_marked inner)) (Some (bind_names (declared_type_names (section_types ts)) non_constant (knowns inner)))) Result
+    (Left edit w X (first_variable_ordinal k b) (declare_names (first_type_ordinal k b) (declared_type_names (section_types ts)) (scope_marked inner)) (Some (bind_names (declared_type_names (section_types ts)) non_constant_placeholder (knowns inner)))) Result
     (declare_types naming_by_spelling (read p inner) i (section_types ts)) (declare_types naming_by_spelling (read_edited edit q inner) i (leaf edit (j + length (occurrences cs)) (section_types ts)))
-    (λ m last. left-then edit w X (first_variable_ordinal k b) (declare_names (first_type_ordinal k b) (declared_type_names (section_types ts)) (scope_marked inner)) (scope_marked inner) (scope_before_variables k b (scope_marked marks)) (bind_names (declared_type_names (section_types ts)) non_constant) known (knowns inner) m
+    (λ m last. left-then edit w X (first_variable_ordinal k b) (declare_names (first_type_ordinal k b) (declared_type_names (section_types ts)) (scope_marked inner)) (scope_marked inner) (scope_before_variables k b (scope_marked marks)) (bind_names (declared_type_names (section_types ts)) non_constant_placeholder) known (knowns inner) m
     (ap (declare_names (first_type_ordinal k b) (declared_type_names (section_types ts))) left.scoped) left.value last)
     (types-edited edit w lit X p q i (j + length (occurrences cs)) (first_type_ordinal k b) inner left.sound (omega (arith, seven, above)) (section_types ts)
     (subst (λ scope. EachType (Here edit w) (j + length (occurrences cs)) scope (first_type_ordinal k b) (section_types ts)) (sym left.scoped) here.1)

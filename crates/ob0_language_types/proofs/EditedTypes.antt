@@ -8,18 +8,18 @@ use Rattle.ob0_language_names.proofs.EditedTrees.{Edit, SameAt, edited_block, ed
 use Rattle.ob0_language_names.proofs.Ordinals.{ordinal_after_names-append, le-ordinal_after_names, le-ordinal_after_procedure}
 use Rattle.ob0_language_names.proofs.Places.{EachBlock, EachProcedure, EachSection, EachVariable}
 use Rattle.ob0_language_values.specs.Values.{Shape, Value, elements, members, number, truth}
-use Rattle.ob0_language_types.specs.ConstantValues.{ConstantEnvironment, non_constant, value_in_block, value_in_procedure, value_in_procedures}
+use Rattle.ob0_language_types.specs.ConstantValues.{ConstantEnvironment, non_constant_placeholder, value_in_block, value_in_procedure, value_in_procedures}
 use Rattle.ob0_language_types.specs.Declarations.{constructors_before_variables, constructors_before_procedures, declare_constants, declare_constants_and_types, formals_constructor_count, procedure_constructor_count, types_constructor_count, variables_constructor_count}
-use Rattle.ob0_language_types.specs.EditLaws.{IsScalar}
+use Rattle.ob0_language_types.specs.EditLaws.{Is32BitScalar}
 use Rattle.ob0_language_types.specs.Environments.{meanings}
 use Rattle.ob0_language_types.specs.Expressions.{Meanings, a_procedure, a_variable}
 use Rattle.ob0_language_types.specs.Typing.{constructor_count, denoted_type, lone_designator, type_after_selectors}
-use Rattle.ob0_language_types.specs.WellTyped.{Mode, Signature, TypeEnvironment, TypeMeanings, TypedParameter, bind_names, bind_typed_parameters, block_is_well_typed, body_is_well_typed, declare_typed_variables, bind_procedure, option_satisfies, procedure_is_well_typed, procedures_are_well_typed, section_mode, sequence_is_well_typed, typed_parameters, variable_type}
+use Rattle.ob0_language_types.specs.WellTyped.{Mode, Signature, TypeEnvironment, TypeMeanings, TypedParameter, bind_names, bind_typed_parameters, block_is_well_typed, body_is_well_typed, declare_typed_variables, bind_procedure, option_satisfies, procedure_is_well_typed, procedures_are_well_typed, parameter_section_mode, sequence_is_well_typed, typed_parameters, variable_type}
 use Rattle.ob0_language_types.specs.Written.{value_literal}
 use Rattle.ob0_language_types.proofs.Agreeing.{Agree, agree-then}
 use Rattle.ob0_language_types.proofs.DenotedInlined.{constructor_count-inlined}
 use Rattle.ob0_language_types.proofs.EditedDeclarations.{Left, Outside, HasValueBetween, agree-known, not-constant, outside-right}
-use Rattle.ob0_language_types.proofs.EditedParts.{agree-weaken, all-left, bind_all, bind_all-names, body-has_value, edited-all, first-edited, formals-of, formals_constructor_count-leaf, bind_procedure-outside, left-join, left-then, mark_all, names_of, names_of-with_value, own-has_value, procedure_constructor_count-edited, procedures-has_value, read-all, rest-has_value, section_mode-leaf, parameter_section_names-leaf, parameter_section_type-leaf, types-below, types-of, types-outside, types_constructor_count-leaf, variables-of, variables_constructor_count-leaf, with_value}
+use Rattle.ob0_language_types.proofs.EditedParts.{agree-weaken, all-left, bind_all, bind_all-names, body-has_value, edited-all, first-edited, formals-of, formals_constructor_count-leaf, bind_procedure-outside, left-join, left-then, mark_all, names_of, names_of-with_value, own-has_value, procedure_constructor_count-edited, procedures-has_value, read-all, rest-has_value, parameter_section_mode-leaf, parameter_section_names-leaf, parameter_section_type-leaf, types-below, types-of, types-outside, types_constructor_count-leaf, variables-of, variables_constructor_count-leaf, with_value}
 use Rattle.ob0_language_types.proofs.FitInlined.{alone, sequence_is_well_typed-written}
 use Rattle.ob0_language_types.proofs.FitNaturality.{sequence_is_well_typed-map}
 use Rattle.ob0_language_types.proofs.Leaves.{AllStay, Here, Literal, Tag, as_field, denoted_type-leaf, edited-object_for, edited_meanings, none-used, read-object_for, read_meanings, seen-read, shown, tagged, uses-read}
@@ -43,7 +43,7 @@ Checked edit w n marks = Sound edit w anything n marks
 abbrev pub LeftTyped : Edit → Value → ℕ → Scope Name → Option ConstantEnvironment → Marks Shape Signature → Type 0
 LeftTyped edit w = Left edit w anything
 
-pub literal-no_variable : (meaning : TypeMeanings Name) (v : Tree Name factor) (w : Value) → value_literal w ≡ Some v → IsScalar w → IsSeen meaning w → variable_type meaning (lone_designator (alone v)) ≡ None
+pub literal-no_variable : (meaning : TypeMeanings Name) (v : Tree Name factor) (w : Value) → value_literal w ≡ Some v → Is32BitScalar w → IsSeen meaning w → variable_type meaning (lone_designator (alone v)) ≡ None
 unfolding variable_type
 literal-no_variable meaning v (number (pos n)) e h seen = subst (λ v. variable_type meaning (lone_designator (alone v)) ≡ None) (some_inverse e) refl
 literal-no_variable meaning v (number (negsuc n)) e h seen =
@@ -92,13 +92,13 @@ body_is_well_typed-edited edit w lit n marks s j (one (begins statements)) here 
 
 -- Binding variables of one type to names gives marks, before and after the edit.
 pub typed-names : (edit : Edit) (w : Value) (k : ℕ) (xs : List Name) (shape : Shape) (marks : Marks Shape Signature) → Checked edit w k marks → 7 ≤ k → Outside edit k (ordinal_after_names k xs)
-    → LeftTyped edit w (ordinal_after_names k xs) (declare_names k xs (scope_marked marks)) (Some (bind_names xs non_constant (knowns marks))) (mark_all k (with_value shape xs) marks)
+    → LeftTyped edit w (ordinal_after_names k xs) (declare_names k xs (scope_marked marks)) (Some (bind_names xs non_constant_placeholder (knowns marks))) (mark_all k (with_value shape xs) marks)
     × (bind_names xs (a_variable shape) (read as_signed marks) ≡ read as_signed (mark_all k (with_value shape xs) marks))
     × (bind_names xs (a_variable shape) (read_edited edit as_signed marks) ≡ read_edited edit as_signed (mark_all k (with_value shape xs) marks))
 typed-names edit w k xs shape marks s seven outside =
     let e : names_of (with_value shape xs) ≡ xs = names_of-with_value shape xs in
     let outside' : Outside edit k (ordinal_after_names k (names_of (with_value shape xs))) = subst (λ ys. Outside edit k (ordinal_after_names k ys)) (sym e) outside in (
-      subst (λ ys. LeftTyped edit w (ordinal_after_names k ys) (declare_names k ys (scope_marked marks)) (Some (bind_names ys non_constant (knowns marks))) (mark_all k (with_value shape xs) marks)) e
+      subst (λ ys. LeftTyped edit w (ordinal_after_names k ys) (declare_names k ys (scope_marked marks)) (Some (bind_names ys non_constant_placeholder (knowns marks))) (mark_all k (with_value shape xs) marks)) e
           (all-left edit w anything k (with_value shape xs) marks s seven outside'),
       sym (bind_all-names shape xs (read as_signed marks)) ∙ read-all as_signed k (with_value shape xs) marks,
       sym (bind_all-names shape xs (read_edited edit as_signed marks)) ∙ edited-all edit as_signed k (with_value shape xs) marks outside',
@@ -106,7 +106,7 @@ typed-names edit w k xs shape marks s seven outside =
 
 pub variables-edited : (edit : Edit) (w : Value) → Literal edit w → (i j k : ℕ) (marks : Marks Shape Signature) → Checked edit w k marks → 7 ≤ k → (gs : Tree Name (items variable))
     → EachVariable (Here edit w) j (scope_marked marks) k gs → Outside edit k (ordinal_after_names k (variable_names gs))
-    → Agree (read as_signed) (read_edited edit as_signed) (LeftTyped edit w (ordinal_after_names k (variable_names gs)) (declare_names k (variable_names gs) (scope_marked marks)) (Some (bind_names (variable_names gs) non_constant (knowns marks))))
+    → Agree (read as_signed) (read_edited edit as_signed) (LeftTyped edit w (ordinal_after_names k (variable_names gs)) (declare_names k (variable_names gs) (scope_marked marks)) (Some (bind_names (variable_names gs) non_constant_placeholder (knowns marks))))
     (declare_typed_variables naming_by_spelling i gs (read as_signed marks)) (declare_typed_variables naming_by_spelling i (leaf edit j gs) (read_edited edit as_signed marks))
 unfolding declare_typed_variables
 variables-edited edit w lit i j k marks s seven end here outside = (Some marks, refl, refl, record { scoped = refl; sound = s; value = refl })
@@ -118,7 +118,7 @@ variables-edited edit w lit i j k marks s seven (more (declares_variable ns t) g
     let above : k ≤ n = le-ordinal_after_names k xs in
     let joined : ordinal_after_names k (xs ++ ys) ≡ ordinal_after_names n ys = ordinal_after_names-append k xs ys in
     let last : n ≤ ordinal_after_names n ys = le-ordinal_after_names n ys in
-    let Result : Marks Shape Signature → Type 0 = LeftTyped edit w (ordinal_after_names k (xs ++ ys)) (declare_names k (xs ++ ys) (scope_marked marks)) (Some (bind_names (xs ++ ys) non_constant (knowns marks))) in
+    let Result : Marks Shape Signature → Type 0 = LeftTyped edit w (ordinal_after_names k (xs ++ ys)) (declare_names k (xs ++ ys) (scope_marked marks)) (Some (bind_names (xs ++ ys) non_constant_placeholder (knowns marks))) in
     subst (λ m. Agree (read as_signed) (read_edited edit as_signed) Result (option_and_then (λ shape. declare_typed_variables naming_by_spelling (i + constructor_count t) gs (bind_names xs (a_variable shape) (read as_signed marks))) (denoted_type (read_meanings as_signed marks) i t))
     (option_and_then (λ shape. declare_typed_variables naming_by_spelling (i + m) gs' (bind_names xs (a_variable shape) (read_edited edit as_signed marks))) (denoted_type (edited_meanings edit as_signed marks) i (leaf edit j t))))
     (sym (constructor_count-inlined edit.uses edit.literal j t))
@@ -128,7 +128,7 @@ variables-edited edit w lit i j k marks s seven (more (declares_variable ns t) g
     let inner : Marks Shape Signature = mark_all k (with_value shape xs) marks in
     let bound = typed-names edit w k xs shape marks s seven (λ l m. outside l (omega (arith, m, joined, last))) in
     subst₂ (λ a b. Agree (read as_signed) (read_edited edit as_signed) Result (declare_typed_variables naming_by_spelling (i + constructor_count t) gs a) (declare_typed_variables naming_by_spelling (i + constructor_count t) gs' b)) (sym bound.1) (sym bound.2)
-    (agree-weaken (read as_signed) (read_edited edit as_signed) (LeftTyped edit w (ordinal_after_names n ys) (declare_names n ys (scope_marked inner)) (Some (bind_names ys non_constant (knowns inner)))) Result
+    (agree-weaken (read as_signed) (read_edited edit as_signed) (LeftTyped edit w (ordinal_after_names n ys) (declare_names n ys (scope_marked inner)) (Some (bind_names ys non_constant_placeholder (knowns inner)))) Result
     (declare_typed_variables naming_by_spelling (i + constructor_count t) gs (read as_signed inner)) (declare_typed_variables naming_by_spelling (i + constructor_count t) gs' (read_edited edit as_signed inner))
     (λ m left. left-join edit w anything k xs ys (scope_marked marks) (scope_marked inner) (knowns marks) (knowns inner) m bound.0.scoped bound.0.value left)
     (variables-edited edit w lit (i + constructor_count t) (j + length (occurrences t)) n inner bound.0.sound (omega (arith, seven, above)) gs
@@ -150,10 +150,10 @@ parameters-edited edit w lit i j k marks s seven (more (then_section f) fs) here
     let joined : ordinal_after_names k (xs ++ ys) ≡ ordinal_after_names n ys = ordinal_after_names-append k xs ys in
     let last : n ≤ ordinal_after_names n ys = le-ordinal_after_names n ys in
     let whole : Mode → List Name → Shape → Option (List (TypedParameter Name)) → Option (List (TypedParameter Name)) = λ m xs shape. option_and_then (λ rest. Some (map (typed_parameter record { mode = m; shape = shape }) xs ++ rest)) in
-    let before : Shape → Option (List (TypedParameter Name)) = λ shape. whole (section_mode f) xs shape (typed_parameters naming_by_spelling (bind_names xs (a_variable shape) (read as_signed marks)) (i + constructor_count t) fs) in
-    let after : Shape → Option (List (TypedParameter Name)) = λ shape. whole (section_mode f) xs shape (typed_parameters naming_by_spelling (bind_names xs (a_variable shape) (read_edited edit as_signed marks)) (i + constructor_count t) fs') in
+    let before : Shape → Option (List (TypedParameter Name)) = λ shape. whole (parameter_section_mode f) xs shape (typed_parameters naming_by_spelling (bind_names xs (a_variable shape) (read as_signed marks)) (i + constructor_count t) fs) in
+    let after : Shape → Option (List (TypedParameter Name)) = λ shape. whole (parameter_section_mode f) xs shape (typed_parameters naming_by_spelling (bind_names xs (a_variable shape) (read_edited edit as_signed marks)) (i + constructor_count t) fs') in
     subst (λ z. Agree (λ ps. ps) (λ ps. ps) (λ ps. typed_names ps ≡ xs ++ ys) (option_and_then before (denoted_type (read_meanings as_signed marks) i t)) z)
-    (sym (λ m. option_and_then (λ shape. whole (section_mode-leaf edit j f m) (parameter_section_names-leaf edit j f m) shape (typed_parameters naming_by_spelling (bind_names (parameter_section_names-leaf edit j f m) (a_variable shape) (read_edited edit as_signed marks)) (i + (ap constructor_count (parameter_section_type-leaf edit j f) ∙ constructor_count-inlined edit.uses edit.literal j t) m) fs'))
+    (sym (λ m. option_and_then (λ shape. whole (parameter_section_mode-leaf edit j f m) (parameter_section_names-leaf edit j f m) shape (typed_parameters naming_by_spelling (bind_names (parameter_section_names-leaf edit j f m) (a_variable shape) (read_edited edit as_signed marks)) (i + (ap constructor_count (parameter_section_type-leaf edit j f) ∙ constructor_count-inlined edit.uses edit.literal j t) m) fs'))
     (denoted_type (edited_meanings edit as_signed marks) i (parameter_section_type-leaf edit j f m))))
     (agree-known (λ ps. ps) (λ ps. ps) (λ ps. typed_names ps ≡ xs ++ ys) before after
     (denoted_type (read_meanings as_signed marks) i t) (denoted_type (edited_meanings edit as_signed marks) i (leaf edit j t)) (denoted_type-leaf edit w lit anything as_signed as_signed k marks s j i t here.0)
@@ -161,29 +161,29 @@ parameters-edited edit w lit i j k marks s seven (more (then_section f) fs) here
     let inner : Marks Shape Signature = mark_all k (with_value shape xs) marks in
     let bound = typed-names edit w k xs shape marks s seven (λ l m. outside l (omega (arith, m, joined, last))) in
     agree-then (λ ps. ps) (λ ps. ps) (λ ps. typed_names ps ≡ ys) (λ ps. ps) (λ ps. ps) (λ ps. typed_names ps ≡ xs ++ ys)
-    (λ rest. Some (map (typed_parameter record { mode = section_mode f; shape = shape }) xs ++ rest)) (λ rest. Some (map (typed_parameter record { mode = section_mode f; shape = shape }) xs ++ rest))
+    (λ rest. Some (map (typed_parameter record { mode = parameter_section_mode f; shape = shape }) xs ++ rest)) (λ rest. Some (map (typed_parameter record { mode = parameter_section_mode f; shape = shape }) xs ++ rest))
     (typed_parameters naming_by_spelling (bind_names xs (a_variable shape) (read as_signed marks)) (i + constructor_count t) fs) (typed_parameters naming_by_spelling (bind_names xs (a_variable shape) (read_edited edit as_signed marks)) (i + constructor_count t) fs')
     (subst₂ (λ a b. Agree (λ ps. ps) (λ ps. ps) (λ ps. typed_names ps ≡ ys) (typed_parameters naming_by_spelling a (i + constructor_count t) fs) (typed_parameters naming_by_spelling b (i + constructor_count t) fs')) (sym bound.1) (sym bound.2)
     (parameters-edited edit w lit (i + constructor_count t) (j + length (occurrences f)) n inner bound.0.sound (omega (arith, seven, above)) fs
     (subst (λ scope. EachSection (Here edit w) (j + length (occurrences f)) scope n fs) (sym bound.0.scoped) here.1) (λ l m. outside (omega (arith, l, above)) (omega (arith, m, joined)))))
-    (λ rest e. (Some (map (typed_parameter record { mode = section_mode f; shape = shape }) xs ++ rest), refl, refl, typed_names-append record { mode = section_mode f; shape = shape } xs rest ∙ ap (λ zs. xs ++ zs) e))))
+    (λ rest e. (Some (map (typed_parameter record { mode = parameter_section_mode f; shape = shape }) xs ++ rest), refl, refl, typed_names-append record { mode = parameter_section_mode f; shape = shape } xs rest ∙ ap (λ zs. xs ++ zs) e))))
 
 -- A block's constants, types and variables have the same bindings before and after the edit, except a removed one.
 pub declarations-edited : (edit : Edit) (w : Value) → Literal edit w → (i j k : ℕ) (marks : Marks Shape Signature) → Checked edit w k marks → 7 ≤ k → (b : Tree Name block)
     → EachBlock (Here edit w) j (scope_marked marks) k b → HasValueBetween edit w k (ordinal_after_block k b) (value_in_block (knowns marks) edit.constant k b)
     → Agree (read as_signed) (read_edited edit as_signed)
-    (LeftTyped edit w (first_procedure_ordinal k b) (scope_before_procedures k b (scope_marked marks)) (option_map (bind_names (variable_names (block_variables b)) non_constant) (option_map (bind_names (declared_type_names (block_types b)) non_constant) (declare_constants naming_by_spelling (knowns marks) (block_constants b)))))
+    (LeftTyped edit w (first_procedure_ordinal k b) (scope_before_procedures k b (scope_marked marks)) (option_map (bind_names (variable_names (block_variables b)) non_constant_placeholder) (option_map (bind_names (declared_type_names (block_types b)) non_constant_placeholder) (declare_constants naming_by_spelling (knowns marks) (block_constants b)))))
     (option_and_then (declare_typed_variables naming_by_spelling (constructors_before_variables i b) (block_variables b)) (declare_constants_and_types naming_by_spelling (read as_signed marks) i b))
     (option_and_then (declare_typed_variables naming_by_spelling (constructors_before_variables i (edited_block edit j k b)) (block_variables (edited_block edit j k b))) (declare_constants_and_types naming_by_spelling (read_edited edit as_signed marks) i (edited_block edit j k b)))
 declarations-edited edit w lit i j k marks s seven (forms_block (declares cs ts vs ps) statements) here has_value =
     let b : Tree Name block = forms_block (declares cs ts vs ps) statements in
     let jt : ℕ = j + length (occurrences cs) in
     let jv : ℕ = j + length (occurrences cs) + length (occurrences ts) in
-    let known : Option ConstantEnvironment = option_map (bind_names (declared_type_names (section_types ts)) non_constant) (declare_constants naming_by_spelling (knowns marks) (section_constants cs)) in
+    let known : Option ConstantEnvironment = option_map (bind_names (declared_type_names (section_types ts)) non_constant_placeholder) (declare_constants naming_by_spelling (knowns marks) (section_constants cs)) in
     let types : first_type_ordinal k b ≤ first_variable_ordinal k b = le-ordinal_after_names (first_type_ordinal k b) (declared_type_names (section_types ts)) in
     let above : k ≤ first_type_ordinal k b = le-ordinal_after_names k (constant_names (section_constants cs)) in
     let Middle : Marks Shape Signature → Type 0 = LeftTyped edit w (first_variable_ordinal k b) (scope_before_variables k b (scope_marked marks)) known in
-    let Result : Marks Shape Signature → Type 0 = LeftTyped edit w (first_procedure_ordinal k b) (scope_before_procedures k b (scope_marked marks)) (option_map (bind_names (variable_names (section_variables vs)) non_constant) known) in
+    let Result : Marks Shape Signature → Type 0 = LeftTyped edit w (first_procedure_ordinal k b) (scope_before_procedures k b (scope_marked marks)) (option_map (bind_names (variable_names (section_variables vs)) non_constant_placeholder) known) in
     subst₂ (λ n gs. Agree (read as_signed) (read_edited edit as_signed) Result (option_and_then (declare_typed_variables naming_by_spelling (constructors_before_variables i b) (section_variables vs)) (declare_constants_and_types naming_by_spelling (read as_signed marks) i b))
     (option_and_then (declare_typed_variables naming_by_spelling (i + n) gs) (declare_constants_and_types naming_by_spelling (read_edited edit as_signed marks) i (edited_block edit j k b))))
     (sym (ap types_constructor_count (types-of edit jt ts) ∙ types_constructor_count-leaf edit jt (section_types ts))) (sym (variables-of edit jv vs))
@@ -192,9 +192,9 @@ declarations-edited edit w lit i j k marks s seven (forms_block (declares cs ts 
     (declare_constants_and_types naming_by_spelling (read as_signed marks) i b) (declare_constants_and_types naming_by_spelling (read_edited edit as_signed marks) i (edited_block edit j k b))
     (first-edited edit w lit anything as_signed as_signed i j k marks s seven b here has_value)
     (λ inner left. agree-weaken (read as_signed) (read_edited edit as_signed)
-    (LeftTyped edit w (first_procedure_ordinal k b) (declare_names (first_variable_ordinal k b) (variable_names (section_variables vs)) (scope_marked inner)) (Some (bind_names (variable_names (section_variables vs)) non_constant (knowns inner)))) Result
+    (LeftTyped edit w (first_procedure_ordinal k b) (declare_names (first_variable_ordinal k b) (variable_names (section_variables vs)) (scope_marked inner)) (Some (bind_names (variable_names (section_variables vs)) non_constant_placeholder (knowns inner)))) Result
     (declare_typed_variables naming_by_spelling (constructors_before_variables i b) (section_variables vs) (read as_signed inner)) (declare_typed_variables naming_by_spelling (constructors_before_variables i b) (leaf edit jv (section_variables vs)) (read_edited edit as_signed inner))
-    (λ m last. left-then edit w anything (first_procedure_ordinal k b) (declare_names (first_variable_ordinal k b) (variable_names (section_variables vs)) (scope_marked inner)) (scope_marked inner) (scope_before_procedures k b (scope_marked marks)) (bind_names (variable_names (section_variables vs)) non_constant) known (knowns inner) m
+    (λ m last. left-then edit w anything (first_procedure_ordinal k b) (declare_names (first_variable_ordinal k b) (variable_names (section_variables vs)) (scope_marked inner)) (scope_marked inner) (scope_before_procedures k b (scope_marked marks)) (bind_names (variable_names (section_variables vs)) non_constant_placeholder) known (knowns inner) m
     (ap (declare_names (first_variable_ordinal k b) (variable_names (section_variables vs))) left.scoped) left.value last)
     (variables-edited edit w lit (constructors_before_variables i b) jv (first_variable_ordinal k b) inner left.sound (omega (arith, seven, above, types)) (section_variables vs)
     (subst (λ scope. EachVariable (Here edit w) jv scope (first_variable_ordinal k b) (section_variables vs)) (sym left.scoped) here.2)
@@ -229,7 +229,7 @@ mutual
       let js : ℕ = j + length (occurrences (declares cs ts vs ps)) in
       let above : k ≤ first_procedure_ordinal k b = procedures-below k b in
       hold-agrees (read as_signed) (read_edited edit as_signed)
-      (LeftTyped edit w (first_procedure_ordinal k b) (scope_before_procedures k b (scope_marked marks)) (option_map (bind_names (variable_names (section_variables vs)) non_constant) (option_map (bind_names (declared_type_names (section_types ts)) non_constant) (declare_constants naming_by_spelling (knowns marks) (section_constants cs)))))
+      (LeftTyped edit w (first_procedure_ordinal k b) (scope_before_procedures k b (scope_marked marks)) (option_map (bind_names (variable_names (section_variables vs)) non_constant_placeholder) (option_map (bind_names (declared_type_names (section_types ts)) non_constant_placeholder) (declare_constants naming_by_spelling (knowns marks) (section_constants cs)))))
       (option_and_then (declare_typed_variables naming_by_spelling (constructors_before_variables i b) (section_variables vs)) (declare_constants_and_types naming_by_spelling (read as_signed marks) i b))
       (option_and_then (declare_typed_variables naming_by_spelling (constructors_before_variables i b') (block_variables b')) (declare_constants_and_types naming_by_spelling (read_edited edit as_signed marks) i b'))
       (λ inner. procedures_are_well_typed naming_by_spelling inner (constructors_before_procedures i b) statements ps)
@@ -257,8 +257,8 @@ mutual
       let jr : ℕ = j + length (occurrences p) in
       let rest' : Tree Name (items procedure) = edited_procedures edit jr (ordinal_after_procedure (suc k) p) rest in
       let statements' : Tree Name (maybe body) = leaf edit js statements in
-      let mine : HasValueBetween edit w k (ordinal_after_procedure (suc k) p) (value_in_procedure ((x, non_constant) ∷ knowns marks) edit.constant (suc k) p) = own-has_value edit w (knowns marks) k p rest has_value in
-      let outside : Outside edit k n = bind_procedure-outside edit w ((x, non_constant) ∷ knowns marks) k x closing fs b mine in
+      let mine : HasValueBetween edit w k (ordinal_after_procedure (suc k) p) (value_in_procedure ((x, non_constant_placeholder) ∷ knowns marks) edit.constant (suc k) p) = own-has_value edit w (knowns marks) k p rest has_value in
+      let outside : Outside edit k n = bind_procedure-outside edit w ((x, non_constant_placeholder) ∷ knowns marks) k x closing fs b mine in
       let above : suc k ≤ n = le-ordinal_after_names (suc k) (formal_names (formal_sections fs)) in
       let following : suc k ≤ ordinal_after_procedure (suc k) p = le-ordinal_after_procedure (suc k) p in
       let own : Outside edit k (suc k) = λ l m. outside l (omega (arith, m, above)) in
@@ -277,15 +277,15 @@ mutual
       let pairs : List (Name × Shape) = parameter_pairs ps in
       let named : names_of pairs ≡ formal_names (formal_sections fs) = parameter_pairs-names ps ∙ e in
       let outside' : Outside edit (suc k) (ordinal_after_names (suc k) (names_of pairs)) = λ l m. outside (omega (arith, l)) (subst (λ ys. edit.constant < ordinal_after_names (suc k) ys) named m) in
-      let left : LeftTyped edit w n (declare_names (suc k) (formal_names (formal_sections fs)) (scope_marked inner)) (Some (bind_names (formal_names (formal_sections fs)) non_constant (knowns inner))) (mark_all (suc k) pairs inner) =
-      subst (λ ys. LeftTyped edit w (ordinal_after_names (suc k) ys) (declare_names (suc k) ys (scope_marked inner)) (Some (bind_names ys non_constant (knowns inner))) (mark_all (suc k) pairs inner)) named
+      let left : LeftTyped edit w n (declare_names (suc k) (formal_names (formal_sections fs)) (scope_marked inner)) (Some (bind_names (formal_names (formal_sections fs)) non_constant_placeholder (knowns inner))) (mark_all (suc k) pairs inner) =
+      subst (λ ys. LeftTyped edit w (ordinal_after_names (suc k) ys) (declare_names (suc k) ys (scope_marked inner)) (Some (bind_names ys non_constant_placeholder (knowns inner))) (mark_all (suc k) pairs inner)) named
       (all-left edit w anything (suc k) pairs inner sound (omega (arith, seven)) outside') in
       let first : procedure_is_well_typed naming_by_spelling (bind_typed_parameters ps (bind_procedure x ps (read_edited edit as_signed marks))) i p' ≡ procedure_is_well_typed naming_by_spelling (bind_typed_parameters ps (bind_procedure x ps (read as_signed marks))) i p =
       (λ m. block_is_well_typed naming_by_spelling ((bind_typed_parameters-all ps (bind_procedure x ps (read_edited edit as_signed marks)) ∙ (ap (bind_all pairs) bound ∙ edited-all edit as_signed (suc k) pairs inner outside')) m)
       (i + (ap formals_constructor_count (formals-of edit j fs) ∙ formals_constructor_count-leaf edit j (formal_sections fs)) m) (edited_block edit jb n b))
       ∙ (block_is_well_typed-edited edit w lit (i + formals_constructor_count (formal_sections fs)) jb n (mark_all (suc k) pairs inner) left.sound (omega (arith, seven, above)) b
       (subst (λ scope. EachBlock (Here edit w) jb scope n b) (sym left.scoped) here.0.1)
-      (subst (λ known. HasValueBetween edit w n (ordinal_after_block n b) (value_in_block known edit.constant n b)) (some_inverse left.value) (body-has_value edit w ((x, non_constant) ∷ knowns marks) k x closing fs b mine))
+      (subst (λ known. HasValueBetween edit w n (ordinal_after_block n b) (value_in_block known edit.constant n b)) (some_inverse left.value) (body-has_value edit w ((x, non_constant_placeholder) ∷ knowns marks) k x closing fs b mine))
       ∙ sym (ap (λ env. block_is_well_typed naming_by_spelling env (i + formals_constructor_count (formal_sections fs)) b) (bind_typed_parameters-all ps (bind_procedure x ps (read as_signed marks)) ∙ read-all as_signed (suc k) pairs inner))) in
       let second : procedures_are_well_typed naming_by_spelling (bind_procedure x ps (read_edited edit as_signed marks)) (i + procedure_constructor_count p') statements' rest' ≡ procedures_are_well_typed naming_by_spelling (bind_procedure x ps (read as_signed marks)) (i + procedure_constructor_count p) statements rest =
       (λ m. procedures_are_well_typed naming_by_spelling (bound m) (i + procedure_constructor_count-edited edit j (suc k) p m) statements' rest')

@@ -20,7 +20,7 @@ use Rattle.ob0_language_types.proofs.EditedModules.{IsFitted, IsShownAs, all-at,
 use Rattle.ob0_language_types.proofs.EditedTypes.{anything}
 use Rattle.ob0_language_types.proofs.Leaves.{AllStay, Here, Literal, Writes, none-used, same_ordinal-true, shown}
 use Rattle.ob0_language_types.proofs.Literals.{some_inverse}
-use Rattle.ob0_language_names.specs.Scopes.{Scope, label_from_ordinal, ordinal_of, predeclared_scope, relabel_module, same_ordinal}
+use Rattle.ob0_language_names.specs.Scopes.{Scope, label_from_ordinal, ordinal_in_scope, predeclared_scope, relabel_module, same_ordinal}
 use Rattle.ob0_tree.specs.declared.tree.Sign.TheVariants as sign
 use Rattle.ob0_tree.specs.declared.tree.AddOperator.TheVariants as add_operator
 use Rattle.std.proofs.lemmas.Bool.{cases_Bool}
@@ -42,10 +42,10 @@ literal-names d (number (negsuc n)) v e low scope h =
     [ true ↦ tt | false ↦ tt ])
 literal-names d (truth true) v e low scope h =
     subst (λ v. NoneOf (IsOf d scope) (occurrences v)) (some_inverse e)
-    (λ k. let f : 2 ≡ d = some_inverse (sym (same_ordinal-true (ordinal_of naming_by_spelling scope (codes "TRUE")) 2 h) ∙ k) in omega (arith, f, low), tt)
+    (λ k. let f : 2 ≡ d = some_inverse (sym (same_ordinal-true (ordinal_in_scope naming_by_spelling scope (codes "TRUE")) 2 h) ∙ k) in omega (arith, f, low), tt)
 literal-names d (truth false) v e low scope h =
     subst (λ v. NoneOf (IsOf d scope) (occurrences v)) (some_inverse e)
-    (λ k. let f : 3 ≡ d = some_inverse (sym (same_ordinal-true (ordinal_of naming_by_spelling scope (codes "FALSE")) 3 h) ∙ k) in omega (arith, f, low), tt)
+    (λ k. let f : 3 ≡ d = some_inverse (sym (same_ordinal-true (ordinal_in_scope naming_by_spelling scope (codes "FALSE")) 3 h) ∙ k) in omega (arith, f, low), tt)
 literal-names d (elements vs) v e low scope h = absurd (cc)
 literal-names d (members k ms) v e low scope h = absurd (cc)
 

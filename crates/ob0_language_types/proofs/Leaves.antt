@@ -5,13 +5,13 @@ use Rattle.std.proofs.Common.{Bool, List, None, Option, Some, [], ap, codes, eqb
 use Rattle.ob0_tree.specs.Tree.{Tree, expression, occurrences, written_type}
 use Rattle.ob0_language_names.specs.Mapping.{map_names}
 use Rattle.ob0_language_names.specs.Names.{Name, naming_by_spelling}
-use Rattle.ob0_language_names.specs.Scopes.{Scope, ordinal_of, same_ordinal}
+use Rattle.ob0_language_names.specs.Scopes.{Scope, ordinal_in_scope, same_ordinal}
 use Rattle.ob0_language_names.proofs.EditedTrees.{Edit, SameAt, UsesNone, inline-nothing, leaf, map_names-same}
 use Rattle.ob0_language_names.proofs.Places.{Each, Placed}
 use Rattle.ob0_language_names.proofs.SameNames.{map_names-id}
 use Rattle.ob0_language_values.specs.Values.{Place, Shape, Value, elements, members, number, truth}
-use Rattle.ob0_language_types.specs.ConstantValues.{keep_constant}
-use Rattle.ob0_language_types.specs.EditLaws.{IsScalar}
+use Rattle.ob0_language_types.specs.ConstantValues.{constant_or_placeholder}
+use Rattle.ob0_language_types.specs.EditLaws.{Is32BitScalar}
 use Rattle.ob0_language_types.specs.Environments.{Environment, meanings, newest_object}
 use Rattle.ob0_language_types.specs.Expressions.{Meanings, Object, a_constant, a_procedure, a_standard, a_type, a_variable}
 use Rattle.ob0_language_types.specs.Laws.{EachUseHas}
@@ -25,15 +25,15 @@ use Rattle.std.proofs.lemmas.Bool.{cases_Bool, false_from_ne_true}
 
 -- returns true if the literal's name is bound to the predeclared TRUE or FALSE, or if the literal has no name
 abbrev pub shown : Value → Scope Name → Bool
-shown (truth true) scope = same_ordinal (ordinal_of naming_by_spelling scope (codes "TRUE")) 2
-shown (truth false) scope = same_ordinal (ordinal_of naming_by_spelling scope (codes "FALSE")) 3
+shown (truth true) scope = same_ordinal (ordinal_in_scope naming_by_spelling scope (codes "TRUE")) 2
+shown (truth false) scope = same_ordinal (ordinal_in_scope naming_by_spelling scope (codes "FALSE")) 3
 shown (number n) scope = true
 shown (elements vs) scope = true
 shown (members k ms) scope = true
 
 -- holds if a use is bound to the constant, and the literal's name is visible there
 abbrev pub Writes : Edit → Value → ℕ → Scope Name → Name → Type 0
-Writes edit w j scope x = (edit.uses j ≡ true → ordinal_of naming_by_spelling scope x ≡ Some edit.constant) × (edit.uses j ≡ true → shown w scope ≡ true)
+Writes edit w j scope x = (edit.uses j ≡ true → ordinal_in_scope naming_by_spelling scope x ≡ Some edit.constant) × (edit.uses j ≡ true → shown w scope ≡ true)
 
 abbrev pub AllStay : Edit → Scope Name → List Name → Type 0
 AllStay edit scope [] = Unit {0}
@@ -46,7 +46,7 @@ Here edit w s j scope t = Each (Writes edit w) j scope (occurrences t) × AllSta
 
 pub record Literal (edit : Edit) (w : Value) : Type 0 where
   pub written : value_literal w ≡ Some edit.literal
-  pub scalar : IsScalar w
+  pub scalar : Is32BitScalar w
   pub ordinal : 7 ≤ edit.constant
 
 pub same_ordinal-true : (o : Option ℕ) (n : ℕ) → same_ordinal o n ≡ true → o ≡ Some n
@@ -83,10 +83,10 @@ pub seen-read : {V P Q : Type 0} (edit : Edit) (w : Value) (X : Marks V P → Na
     → shown w (scope_marked marks) ≡ true → IsSeen (read_meanings p marks) w
 seen-read edit (truth true) X p n marks s h =
     read-object_for p marks (codes "TRUE")
-    ∙ yes-found edit (truth true) p (found marks (codes "TRUE")) (found-right edit (truth true) X n marks (codes "TRUE") s) (sym (ordinal-found marks (codes "TRUE")) ∙ same_ordinal-true (ordinal_of naming_by_spelling (scope_marked marks) (codes "TRUE")) 2 h)
+    ∙ yes-found edit (truth true) p (found marks (codes "TRUE")) (found-right edit (truth true) X n marks (codes "TRUE") s) (sym (ordinal-found marks (codes "TRUE")) ∙ same_ordinal-true (ordinal_in_scope naming_by_spelling (scope_marked marks) (codes "TRUE")) 2 h)
 seen-read edit (truth false) X p n marks s h =
     read-object_for p marks (codes "FALSE")
-    ∙ no-found edit (truth false) p (found marks (codes "FALSE")) (found-right edit (truth false) X n marks (codes "FALSE") s) (sym (ordinal-found marks (codes "FALSE")) ∙ same_ordinal-true (ordinal_of naming_by_spelling (scope_marked marks) (codes "FALSE")) 3 h)
+    ∙ no-found edit (truth false) p (found marks (codes "FALSE")) (found-right edit (truth false) X n marks (codes "FALSE") s) (sym (ordinal-found marks (codes "FALSE")) ∙ same_ordinal-true (ordinal_in_scope naming_by_spelling (scope_marked marks) (codes "FALSE")) 3 h)
 seen-read edit (number m) X p n marks s h = tt
 seen-read edit (elements vs) X p n marks s h = tt
 seen-read edit (members k ms) X p n marks s h = tt
@@ -205,13 +205,13 @@ known-value {V} {P} {Q} p marks e =
     ∙ constant_value-map (λ x. x) (λ x. x) (meanings naming_by_spelling (knowns marks)) (read_meanings p marks) e
     (λ x. ap constant_of (known-found marks x) ∙ (same (found marks x) ∙ sym (ap constant_of (read-object_for p marks x)))) (λ x. refl)
   where
-    of_object : (k : ℕ) (o : Object V P) → constant_of (Some (keep_constant o)) ≡ constant_of (Some (object_as (p k) o))
+    of_object : (k : ℕ) (o : Object V P) → constant_of (Some (constant_or_placeholder o)) ≡ constant_of (Some (object_as (p k) o))
     of_object k (a_type s) = refl
     of_object k (a_constant v) = refl
     of_object k (a_variable s) = refl
     of_object k (a_procedure s) = refl
     of_object k (a_standard s) = refl
 
-    same : (o : Option (Mark V P)) → constant_of (option_map (λ b. keep_constant b.object) o) ≡ constant_of (option_map (object_of p) o)
+    same : (o : Option (Mark V P)) → constant_of (option_map (λ b. constant_or_placeholder b.object) o) ≡ constant_of (option_map (object_of p) o)
     same None = refl
     same (Some b) = of_object b.ordinal b.object

@@ -4,7 +4,7 @@ use Rattle.std.proofs.Common.{Some, [], ap, arith, codes, false, if◌then◌els
 use Rattle.ob0_tree.specs.Tree.{Tree, adds, compares, end, factor, integer, more, none, parenthesised, product, sum}
 use Rattle.ob0_language_names.specs.Names.{Name}
 use Rattle.ob0_language_values.specs.Values.{Overflow, Place, Shape, Store, Value, value_at_path, elements, ends_run_with, fits_in_32_bits, succeeds_with, integer_shape, members, number, or_stuck, truth, ◌>>=◌}
-use Rattle.ob0_language_types.specs.EditLaws.{IsScalar}
+use Rattle.ob0_language_types.specs.EditLaws.{Is32BitScalar}
 use Rattle.ob0_language_types.specs.Expressions.{Meanings, a_constant, evaluate, evaluate_factor, object_value}
 use Rattle.ob0_language_types.specs.Typing.{type_of_variable_or_constant, type_of, type_of_factor, value_type}
 use Rattle.ob0_language_types.specs.Written.{number_literal, value_literal}
@@ -26,7 +26,7 @@ least-has_value meaning store n e h =
     let at : n ≡ 2147483647 = omega (arith, ltb-false n 2147483647 e, ltb-true n 2147483648 h) in
     subst (λ n. evaluate_factor meaning store (number_literal (negsuc n)) ≡ succeeds_with (number (negsuc n))) (sym at) refl
 
-pub literal-has_value : {P : Type 0} (meaning : Meanings Name Place P) (store : Store) (v : Tree Name factor) (w : Value) → value_literal w ≡ Some v → IsScalar w → IsSeen meaning w → evaluate_factor meaning store v ≡ succeeds_with w
+pub literal-has_value : {P : Type 0} (meaning : Meanings Name Place P) (store : Store) (v : Tree Name factor) (w : Value) → value_literal w ≡ Some v → Is32BitScalar w → IsSeen meaning w → evaluate_factor meaning store v ≡ succeeds_with w
 unfolding evaluate
 literal-has_value meaning store v (number (pos n)) e h seen = subst (λ v. evaluate_factor meaning store v ≡ succeeds_with (number (pos n))) (some_inverse e) refl
 literal-has_value meaning store v (number (negsuc n)) e h seen =
@@ -45,7 +45,7 @@ literal-has_value {P} meaning store v (truth false) e h seen =
 literal-has_value meaning store v (elements vs) e h seen = absurd h
 literal-has_value meaning store v (members k ms) e h seen = absurd h
 
-pub literal-typed : {P : Type 0} (meaning : Meanings Name Shape P) (v : Tree Name factor) (w : Value) → value_literal w ≡ Some v → IsScalar w → IsSeen meaning w → type_of_factor meaning v ≡ value_type w
+pub literal-typed : {P : Type 0} (meaning : Meanings Name Shape P) (v : Tree Name factor) (w : Value) → value_literal w ≡ Some v → Is32BitScalar w → IsSeen meaning w → type_of_factor meaning v ≡ value_type w
 unfolding type_of
 literal-typed meaning v (number (pos n)) e h seen = subst (λ v. type_of_factor meaning v ≡ value_type (number (pos n))) (some_inverse e) refl
 literal-typed meaning v (number (negsuc n)) e h seen =

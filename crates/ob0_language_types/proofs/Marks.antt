@@ -3,10 +3,10 @@
 -- `read_edited` the environment after it.
 use Rattle.std.proofs.Common.{Bool, List, None, Option, Some, [], ap, arith, eqb-true, false, if◌then◌else◌, le_of_lt, option_map, refl, sym, true, ℕ, ◌&&◌, ◌<◌, ◌==◌, ◌∙◌, ◌∷◌, ◌≡◌, ◌≤◌}
 use Rattle.ob0_language_names.specs.Names.{Name, naming_by_spelling, same_name}
-use Rattle.ob0_language_names.specs.Scopes.{Scope, ordinal_of}
+use Rattle.ob0_language_names.specs.Scopes.{Scope, ordinal_in_scope}
 use Rattle.ob0_language_names.proofs.EditedTrees.{Edit}
 use Rattle.ob0_language_values.specs.Values.{Value, truth}
-use Rattle.ob0_language_types.specs.ConstantValues.{ConstantEnvironment, keep_constant}
+use Rattle.ob0_language_types.specs.ConstantValues.{ConstantEnvironment, constant_or_placeholder}
 use Rattle.ob0_language_types.specs.Environments.{Environment, environment_from_binding, newest_object}
 use Rattle.ob0_language_types.specs.Expressions.{Object, a_constant, a_procedure, a_standard, a_type, a_variable}
 use Rattle.ob0_language_types.proofs.Agreeing.{HoldsOf}
@@ -46,7 +46,7 @@ scope_marked (b ∷ marks) = (b.name, b.ordinal) ∷ scope_marked marks
 
 abbrev pub knowns : {V P : Type 0} → Marks V P → ConstantEnvironment
 knowns [] = []
-knowns (b ∷ marks) = (b.name, keep_constant b.object) ∷ knowns marks
+knowns (b ∷ marks) = (b.name, constant_or_placeholder b.object) ∷ knowns marks
 
 -- `found` returns the first mark with a name. `marks_from` returns the list of marks that begins with this mark.
 abbrev pub found : {V P : Type 0} → Marks V P → Name → Option (Mark V P)
@@ -59,7 +59,7 @@ marks_from (b ∷ marks) x = elim (same_name x b.name) [ true ↦ b ∷ marks | 
 
 -- holds if the edit doesn't remove the declaration that the name is bound to
 abbrev pub Stays : Edit → Scope Name → Name → Type 0
-Stays edit scope x = edit.gone ≡ true → ordinal_of naming_by_spelling scope x ≡ Some edit.constant → ⊥
+Stays edit scope x = edit.gone ≡ true → ordinal_in_scope naming_by_spelling scope x ≡ Some edit.constant → ⊥
 
 pub read-from : {V P Q : Type 0} (q : ℕ → P → Q) (marks : Marks V P) (x : Name) → environment_from_binding naming_by_spelling (read q marks) x ≡ read q (marks_from marks x)
 read-from q [] x = refl
@@ -76,7 +76,7 @@ read_edited-from edit q [] x h = refl
 read_edited-from {V} {P} {Q} edit q (b ∷ marks) x h = by_name (same_name x b.name) refl (λ stays. read_edited-from edit q marks x stays) h
   where
     by_name : (v : Bool) → same_name x b.name ≡ v → (Stays edit (scope_marked marks) x → environment_from_binding naming_by_spelling (read_edited edit q marks) x ≡ read_edited edit q (marks_from marks x))
-        → (edit.gone ≡ true → (elim v [ true ↦ Some b.ordinal | false ↦ ordinal_of naming_by_spelling (scope_marked marks) x ]) ≡ Some edit.constant → ⊥)
+        → (edit.gone ≡ true → (elim v [ true ↦ Some b.ordinal | false ↦ ordinal_in_scope naming_by_spelling (scope_marked marks) x ]) ≡ Some edit.constant → ⊥)
         → environment_from_binding naming_by_spelling (read_edited edit q (b ∷ marks)) x ≡ read_edited edit q (elim v [ true ↦ b ∷ marks | false ↦ marks_from marks x ])
     by_name true e next stays =
         let c : Name × Object V Q = (b.name, object_as (q b.ordinal) b.object) in
@@ -101,22 +101,22 @@ read-holds q (b ∷ marks) x =
 pub edited-holds : {V P Q : Type 0} (edit : Edit) (q : ℕ → P → Q) (marks : Marks V P) (x : Name) → Stays edit (scope_marked marks) x → newest_object (read_edited edit q (marks_from marks x)) ≡ option_map (object_of q) (found marks x)
 edited-holds edit q [] x h = refl
 edited-holds edit q (b ∷ marks) x h =
-    (elim (same_name x b.name) as (λ v. (edit.gone ≡ true → (elim v [ true ↦ Some b.ordinal | false ↦ ordinal_of naming_by_spelling (scope_marked marks) x ]) ≡ Some edit.constant → ⊥)
+    (elim (same_name x b.name) as (λ v. (edit.gone ≡ true → (elim v [ true ↦ Some b.ordinal | false ↦ ordinal_in_scope naming_by_spelling (scope_marked marks) x ]) ≡ Some edit.constant → ⊥)
     → newest_object (read_edited edit q (elim v [ true ↦ b ∷ marks | false ↦ marks_from marks x ])) ≡ option_map (object_of q) (elim v [ true ↦ Some b | false ↦ found marks x ])) [
       | true ↦ λ stays. ap (λ w. newest_object (if w then read_edited edit q marks else (b.name, object_as (q b.ordinal) b.object) ∷ read_edited edit q marks)) (not-left edit b.ordinal stays)
       | false ↦ λ stays. edited-holds edit q marks x stays
     ]) h
 
-pub ordinal-found : {V P : Type 0} (marks : Marks V P) (x : Name) → ordinal_of naming_by_spelling (scope_marked marks) x ≡ option_map (λ b. b.ordinal) (found marks x)
+pub ordinal-found : {V P : Type 0} (marks : Marks V P) (x : Name) → ordinal_in_scope naming_by_spelling (scope_marked marks) x ≡ option_map (λ b. b.ordinal) (found marks x)
 ordinal-found [] x = refl
 ordinal-found (b ∷ marks) x =
-    elim (same_name x b.name) as (λ v. (elim v [ true ↦ Some b.ordinal | false ↦ ordinal_of naming_by_spelling (scope_marked marks) x ]) ≡ option_map (λ b. b.ordinal) (elim v [ true ↦ Some b | false ↦ found marks x ]))
+    elim (same_name x b.name) as (λ v. (elim v [ true ↦ Some b.ordinal | false ↦ ordinal_in_scope naming_by_spelling (scope_marked marks) x ]) ≡ option_map (λ b. b.ordinal) (elim v [ true ↦ Some b | false ↦ found marks x ]))
     [ true ↦ refl | false ↦ ordinal-found marks x ]
 
-pub known-found : {V P : Type 0} (marks : Marks V P) (x : Name) → newest_object (environment_from_binding naming_by_spelling (knowns marks) x) ≡ option_map (λ b. keep_constant b.object) (found marks x)
+pub known-found : {V P : Type 0} (marks : Marks V P) (x : Name) → newest_object (environment_from_binding naming_by_spelling (knowns marks) x) ≡ option_map (λ b. constant_or_placeholder b.object) (found marks x)
 known-found [] x = refl
 known-found (b ∷ marks) x =
-    elim (same_name x b.name) as (λ v. newest_object (elim v [ true ↦ knowns (b ∷ marks) | false ↦ environment_from_binding naming_by_spelling (knowns marks) x ]) ≡ option_map (λ b. keep_constant b.object) (elim v [ true ↦ Some b | false ↦ found marks x ]))
+    elim (same_name x b.name) as (λ v. newest_object (elim v [ true ↦ knowns (b ∷ marks) | false ↦ environment_from_binding naming_by_spelling (knowns marks) x ]) ≡ option_map (λ b. constant_or_placeholder b.object) (elim v [ true ↦ Some b | false ↦ found marks x ]))
     [ true ↦ refl | false ↦ known-found marks x ]
 
 -- holds if the mark of the constant, of TRUE or of FALSE has its object

@@ -4,7 +4,7 @@ use Rattle.ob0_tree.specs.Tree.{Tree, begins, block, body, constant, declares, d
 use Rattle.ob0_language_names.specs.Mapping.{map_names}
 use Rattle.ob0_language_names.specs.Names.{Label, Naming, naming_by_label, declared, same_label}
 use Rattle.ob0_language_names.specs.Parts.{block_variables, constant_names, formal_names, formal_sections, declared_type_names, names_in_list, section_constants, parameter_section_names, parameter_section_type, section_types, section_variables, variable_names}
-use Rattle.ob0_language_names.specs.Scopes.{Labelling, Scope, ordinal_after_names, ordinal_after_procedure, label_from_ordinal, body_scope, declare_names, declare_procedure_names, first_procedure_ordinal, first_type_ordinal, first_variable_ordinal, labels_of_declared_names, label_of, ordinal_of, scope_before_procedures, relabel_block, relabel_constants, relabel_formals, relabel_procedure, relabel_procedures, relabel_section, relabel_sections, relabel_types, relabel_uses, relabel_variables, relabel_module, scope_before_types, scope_before_variables}
+use Rattle.ob0_language_names.specs.Scopes.{Labelling, Scope, ordinal_after_names, ordinal_after_procedure, label_from_ordinal, body_scope, declare_names, declare_procedure_names, first_procedure_ordinal, first_type_ordinal, first_variable_ordinal, labels_of_declared_names, label_of, ordinal_in_scope, scope_before_procedures, relabel_block, relabel_constants, relabel_formals, relabel_procedure, relabel_procedures, relabel_parameter_section, relabel_parameter_sections, relabel_types, relabel_uses, relabel_variables, relabel_module, scope_before_types, scope_before_variables}
 use Rattle.ob0_language_names.proofs.Ordinals.{ordinal_after_names-append, declare_names-append, le-ordinal_after_procedure}
 use Rattle.ob0_language_names.proofs.Relabelled.{constants-section, formals-section, names-relabel, parameter_section_names-relabel, parameter_section_type-relabel, types-section, variables-section}
 use Rattle.ob0_language_types.specs.Declarations.{constructors_before_variables, constructors_before_procedures, declare_constants, declare_constants_and_types, declare_types, formals_constructor_count, procedure_constructor_count, types_constructor_count, variables_constructor_count}
@@ -12,7 +12,7 @@ use Rattle.ob0_language_types.specs.Environments.{environment_from_binding, mean
 use Rattle.ob0_language_types.specs.Expressions.{Object, a_constant, a_procedure, a_standard, a_type, a_variable, read_procedure, write_procedure, write_line_procedure}
 use Rattle.ob0_language_types.specs.Typing.{constant_of, constant_value, constructor_count, denoted_type, type_of_type_object}
 use Rattle.ob0_language_values.specs.Values.{Shape, boolean_shape, integer_shape, truth}
-use Rattle.ob0_language_types.specs.WellTyped.{FormalParameter, Signature, TypeEnvironment, TypedParameter, bind_names, bind_typed_parameters, block_is_well_typed, body_is_well_typed, declare_typed_variables, passes_type_check, bind_procedure, option_satisfies, procedure_is_well_typed, procedures_are_well_typed, section_mode, sequence_is_well_typed, typed_parameters}
+use Rattle.ob0_language_types.specs.WellTyped.{FormalParameter, Signature, TypeEnvironment, TypedParameter, bind_names, bind_typed_parameters, block_is_well_typed, body_is_well_typed, declare_typed_variables, passes_type_check, bind_procedure, option_satisfies, procedure_is_well_typed, procedures_are_well_typed, parameter_section_mode, sequence_is_well_typed, typed_parameters}
 use Rattle.ob0_language_types.proofs.Agreeing.{Agree, HoldsOf, agree-then, agree-value}
 use Rattle.ob0_language_types.proofs.Constructors.{formals_constructor_count-relabel, procedure_constructor_count-relabel, types_constructor_count-relabel, variables_constructor_count-relabel}
 use Rattle.ob0_language_types.proofs.FitNaturality.{sequence_is_well_typed-map}
@@ -59,16 +59,16 @@ typed_by_name-from naming (b ∷ noted) x =
     elim (naming.same x b.name) as (λ v. (elim v [ true ↦ typed_by_name (b ∷ noted) | false ↦ environment_from_binding naming (typed_by_name noted) x ]) ≡ typed_by_name (elim v [ true ↦ b ∷ noted | false ↦ typed_from naming noted x ]))
     [ true ↦ refl | false ↦ typed_by_name-from naming noted x ]
 
-pub typed_older : {N : Type 0} (naming : Naming N) (n : ℕ) (noted : TypeNoted N) (x : N) → TypedBelow n noted → same_label (label_from_ordinal naming (ordinal_of naming (typed_scope noted) x) x) (declared n) ≡ false
+pub typed_older : {N : Type 0} (naming : Naming N) (n : ℕ) (noted : TypeNoted N) (x : N) → TypedBelow n noted → same_label (label_from_ordinal naming (ordinal_in_scope naming (typed_scope noted) x) x) (declared n) ≡ false
 typed_older naming n [] x below = refl
 typed_older naming n (b ∷ noted) x below =
-    elim (naming.same x b.name) as (λ v. same_label (label_from_ordinal naming (elim v [ true ↦ Some b.ordinal | false ↦ ordinal_of naming (typed_scope noted) x ]) x) (declared n) ≡ false)
+    elim (naming.same x b.name) as (λ v. same_label (label_from_ordinal naming (elim v [ true ↦ Some b.ordinal | false ↦ ordinal_in_scope naming (typed_scope noted) x ]) x) (declared n) ≡ false)
     [ true ↦ ne_eqb b.ordinal n (λ e. omega (arith, e, below.0)) | false ↦ typed_older naming n noted x (TypedBelow-weaken b.ordinal n noted (le_of_lt below.0) below.1) ]
 
-pub typed_by_ordinal-from : {N : Type 0} (naming : Naming N) (n : ℕ) (noted : TypeNoted N) (x : N) → TypedBelow n noted → environment_from_binding naming_by_label (typed_by_ordinal noted) (label_from_ordinal naming (ordinal_of naming (typed_scope noted) x) x) ≡ typed_by_ordinal (typed_from naming noted x)
+pub typed_by_ordinal-from : {N : Type 0} (naming : Naming N) (n : ℕ) (noted : TypeNoted N) (x : N) → TypedBelow n noted → environment_from_binding naming_by_label (typed_by_ordinal noted) (label_from_ordinal naming (ordinal_in_scope naming (typed_scope noted) x) x) ≡ typed_by_ordinal (typed_from naming noted x)
 typed_by_ordinal-from naming n [] x below = refl
 typed_by_ordinal-from naming n (b ∷ noted) x below =
-    elim (naming.same x b.name) as (λ v. environment_from_binding naming_by_label (typed_by_ordinal (b ∷ noted)) (label_from_ordinal naming (elim v [ true ↦ Some b.ordinal | false ↦ ordinal_of naming (typed_scope noted) x ]) x) ≡ typed_by_ordinal (elim v [ true ↦ b ∷ noted | false ↦ typed_from naming noted x ]))
+    elim (naming.same x b.name) as (λ v. environment_from_binding naming_by_label (typed_by_ordinal (b ∷ noted)) (label_from_ordinal naming (elim v [ true ↦ Some b.ordinal | false ↦ ordinal_in_scope naming (typed_scope noted) x ]) x) ≡ typed_by_ordinal (elim v [ true ↦ b ∷ noted | false ↦ typed_from naming noted x ]))
     [ true ↦ rw (eq-eqb b.ordinal b.ordinal refl, environment_from_binding) refl | false ↦ rw (typed_older naming b.ordinal noted x below.1, environment_from_binding) (typed_by_ordinal-from naming b.ordinal noted x below.1) ]
 
 pub newest_object-same : {N : Type 0} (noted : TypeNoted N) → newest_object (typed_by_ordinal noted) ≡ newest_object (typed_by_name noted)
@@ -186,35 +186,35 @@ pub typed_names-append : {N : Type 0} (g : FormalParameter) (xs : List N) (ps : 
 typed_names-append g [] ps = refl
 typed_names-append g (x ∷ xs) ps = λ i. x ∷ typed_names-append g xs ps i
 
-pub section_mode-relabel : {N M : Type 0} (naming : Naming N) (label : Labelling N M) (scope : Scope N) (k : ℕ) (s : Tree N section) → section_mode (relabel_section naming label scope k s) ≡ section_mode s
-section_mode-relabel naming label scope k (value_section ns t) = refl
-section_mode-relabel naming label scope k (variable_section ns t) = refl
+pub parameter_section_mode-relabel : {N M : Type 0} (naming : Naming N) (label : Labelling N M) (scope : Scope N) (k : ℕ) (s : Tree N section) → parameter_section_mode (relabel_parameter_section naming label scope k s) ≡ parameter_section_mode s
+parameter_section_mode-relabel naming label scope k (value_section ns t) = refl
+parameter_section_mode-relabel naming label scope k (variable_section ns t) = refl
 
 pub parameters_typed : {N : Type 0} (naming : Naming N) (j k : ℕ) (noted : TypeNoted N) → TypedBelow k noted → (fs : Tree N (items further_section))
     → Agree (λ ps. ps) (label_typed k) (λ ps. typed_names ps ≡ formal_names fs)
-    (typed_parameters naming (typed_by_name noted) j fs) (typed_parameters naming_by_label (typed_by_ordinal noted) j (relabel_sections naming (label_from_ordinal naming) (typed_scope noted) k fs))
+    (typed_parameters naming (typed_by_name noted) j fs) (typed_parameters naming_by_label (typed_by_ordinal noted) j (relabel_parameter_sections naming (label_from_ordinal naming) (typed_scope noted) k fs))
 unfolding typed_parameters
 parameters_typed naming j k noted below end = (Some [], refl, refl, refl)
 parameters_typed {N} naming j k noted below (more (then_section f) fs) =
-    rw (parameter_section_type-relabel naming (label_from_ordinal naming) (typed_scope noted) k f, parameter_section_names-relabel naming (label_from_ordinal naming) (typed_scope noted) k f, section_mode-relabel naming (label_from_ordinal naming) (typed_scope noted) k f, constructor_count-map (label_of naming (label_from_ordinal naming) (typed_scope noted)) (label_from_ordinal naming None) (parameter_section_type f))
+    rw (parameter_section_type-relabel naming (label_from_ordinal naming) (typed_scope noted) k f, parameter_section_names-relabel naming (label_from_ordinal naming) (typed_scope noted) k f, parameter_section_mode-relabel naming (label_from_ordinal naming) (typed_scope noted) k f, constructor_count-map (label_of naming (label_from_ordinal naming) (typed_scope noted)) (label_from_ordinal naming None) (parameter_section_type f))
     (agree-value (λ ps. ps) (label_typed k) (λ ps. typed_names ps ≡ parameter_section_names f ++ formal_names fs)
-    (λ s. option_and_then (λ rest. Some (map (typed_parameter record { mode = (section_mode f); shape = s }) (parameter_section_names f) ++ rest)) (typed_parameters naming (bind_names (parameter_section_names f) (a_variable s) (typed_by_name noted)) (j + constructor_count (parameter_section_type f)) fs))
-    (λ s. option_and_then (λ rest. Some (map (typed_parameter record { mode = (section_mode f); shape = s }) (labels_of_declared_names (label_from_ordinal naming) k (parameter_section_names f)) ++ rest)) (typed_parameters naming_by_label (bind_names (labels_of_declared_names (label_from_ordinal naming) k (parameter_section_names f)) (a_variable s) (typed_by_ordinal noted)) (j + constructor_count (parameter_section_type f)) (relabel_sections naming (label_from_ordinal naming) (declare_names k (parameter_section_names f) (typed_scope noted)) (ordinal_after_names k (parameter_section_names f)) fs)))
+    (λ s. option_and_then (λ rest. Some (map (typed_parameter record { mode = (parameter_section_mode f); shape = s }) (parameter_section_names f) ++ rest)) (typed_parameters naming (bind_names (parameter_section_names f) (a_variable s) (typed_by_name noted)) (j + constructor_count (parameter_section_type f)) fs))
+    (λ s. option_and_then (λ rest. Some (map (typed_parameter record { mode = (parameter_section_mode f); shape = s }) (labels_of_declared_names (label_from_ordinal naming) k (parameter_section_names f)) ++ rest)) (typed_parameters naming_by_label (bind_names (labels_of_declared_names (label_from_ordinal naming) k (parameter_section_names f)) (a_variable s) (typed_by_ordinal noted)) (j + constructor_count (parameter_section_type f)) (relabel_parameter_sections naming (label_from_ordinal naming) (declare_names k (parameter_section_names f) (typed_scope noted)) (ordinal_after_names k (parameter_section_names f)) fs)))
     (denoted_type (meanings naming (typed_by_name noted)) j (parameter_section_type f)) (denoted_type (meanings naming_by_label (typed_by_ordinal noted)) j (relabel_uses naming (label_from_ordinal naming) (typed_scope noted) (parameter_section_type f)))
     (denoted_type-agrees naming k noted below j (parameter_section_type f))
     (λ s. agree-then (λ ps. ps) (label_typed (ordinal_after_names k (parameter_section_names f))) (λ ps. typed_names ps ≡ formal_names fs) (λ ps. ps) (label_typed k) (λ ps. typed_names ps ≡ parameter_section_names f ++ formal_names fs)
-    (λ rest. Some (map (typed_parameter record { mode = (section_mode f); shape = s }) (parameter_section_names f) ++ rest)) (λ rest. Some (map (typed_parameter record { mode = (section_mode f); shape = s }) (labels_of_declared_names (label_from_ordinal naming) k (parameter_section_names f)) ++ rest))
+    (λ rest. Some (map (typed_parameter record { mode = (parameter_section_mode f); shape = s }) (parameter_section_names f) ++ rest)) (λ rest. Some (map (typed_parameter record { mode = (parameter_section_mode f); shape = s }) (labels_of_declared_names (label_from_ordinal naming) k (parameter_section_names f)) ++ rest))
     (typed_parameters naming (bind_names (parameter_section_names f) (a_variable s) (typed_by_name noted)) (j + constructor_count (parameter_section_type f)) fs)
-    (typed_parameters naming_by_label (bind_names (labels_of_declared_names (label_from_ordinal naming) k (parameter_section_names f)) (a_variable s) (typed_by_ordinal noted)) (j + constructor_count (parameter_section_type f)) (relabel_sections naming (label_from_ordinal naming) (declare_names k (parameter_section_names f) (typed_scope noted)) (ordinal_after_names k (parameter_section_names f)) fs))
+    (typed_parameters naming_by_label (bind_names (labels_of_declared_names (label_from_ordinal naming) k (parameter_section_names f)) (a_variable s) (typed_by_ordinal noted)) (j + constructor_count (parameter_section_type f)) (relabel_parameter_sections naming (label_from_ordinal naming) (declare_names k (parameter_section_names f) (typed_scope noted)) (ordinal_after_names k (parameter_section_names f)) fs))
     (typed_moved naming (λ scope a b. Agree (λ ps. ps) (label_typed (ordinal_after_names k (parameter_section_names f))) (λ ps. typed_names ps ≡ formal_names fs) (typed_parameters naming a (j + constructor_count (parameter_section_type f)) fs)
-    (typed_parameters naming_by_label b (j + constructor_count (parameter_section_type f)) (relabel_sections naming (label_from_ordinal naming) scope (ordinal_after_names k (parameter_section_names f)) fs)))
+    (typed_parameters naming_by_label b (j + constructor_count (parameter_section_type f)) (relabel_parameter_sections naming (label_from_ordinal naming) scope (ordinal_after_names k (parameter_section_names f)) fs)))
     k (parameter_section_names f) (a_variable s) noted below
     (parameters_typed naming (j + constructor_count (parameter_section_type f)) (ordinal_after_names k (parameter_section_names f)) (noted_names k (parameter_section_names f) (a_variable s) noted) (noted_names-within k (parameter_section_names f) (a_variable s) noted below).1 fs))
     (λ rest e. (
-      Some (map (typed_parameter record { mode = (section_mode f); shape = s }) (parameter_section_names f) ++ rest),
+      Some (map (typed_parameter record { mode = (parameter_section_mode f); shape = s }) (parameter_section_names f) ++ rest),
       refl,
-      ap Some (label_typed-append naming record { mode = (section_mode f); shape = s } k (parameter_section_names f) rest),
-      typed_names-append record { mode = (section_mode f); shape = s } (parameter_section_names f) rest ∙ ap (λ ys. parameter_section_names f ++ ys) e,
+      ap Some (label_typed-append naming record { mode = (parameter_section_mode f); shape = s } k (parameter_section_names f) rest),
+      typed_names-append record { mode = (parameter_section_mode f); shape = s } (parameter_section_names f) rest ∙ ap (λ ys. parameter_section_names f ++ ys) e,
     ))))
 
 abbrev pub noted_parameters : {N : Type 0} → ℕ → List (TypedParameter N) → TypeNoted N → TypeNoted N
@@ -322,11 +322,11 @@ mutual
   procedures_are_well_typed-agrees {N} naming j k noted below statements (more (declares_procedure x fs b closing) rest) =
       let p : Tree N (item procedure) = declares_procedure x fs b closing in
       let scope : Scope N = typed_scope noted in
-      let labelled : formal_sections (relabel_formals naming (label_from_ordinal naming) scope (suc k) fs) ≡ relabel_sections naming (label_from_ordinal naming) scope (suc k) (formal_sections fs) = formals-section naming (label_from_ordinal naming) scope (suc k) fs in
+      let labelled : formal_sections (relabel_formals naming (label_from_ordinal naming) scope (suc k) fs) ≡ relabel_parameter_sections naming (label_from_ordinal naming) scope (suc k) (formal_sections fs) = formals-section naming (label_from_ordinal naming) scope (suc k) fs in
       ap (λ gs. option_satisfies (typed_parameters naming_by_label (typed_by_ordinal noted) j gs) (λ ps. procedure_is_well_typed naming_by_label (bind_typed_parameters ps (bind_procedure (declared k) ps (typed_by_ordinal noted))) j (relabel_procedure naming (label_from_ordinal naming) scope k p)
       && procedures_are_well_typed naming_by_label (bind_procedure (declared k) ps (typed_by_ordinal noted)) (j + procedure_constructor_count (relabel_procedure naming (label_from_ordinal naming) scope k p)) (relabel_uses naming (label_from_ordinal naming) (declare_procedure_names (ordinal_after_procedure (suc k) p) rest ((x, k) ∷ scope)) statements) (relabel_procedures naming (label_from_ordinal naming) ((x, k) ∷ scope) (ordinal_after_procedure (suc k) p) rest))) labelled
       ∙ hold-agrees (λ ps. ps) (label_typed (suc k)) (λ ps. typed_names ps ≡ formal_names (formal_sections fs))
-      (typed_parameters naming (typed_by_name noted) j (formal_sections fs)) (typed_parameters naming_by_label (typed_by_ordinal noted) j (relabel_sections naming (label_from_ordinal naming) scope (suc k) (formal_sections fs)))
+      (typed_parameters naming (typed_by_name noted) j (formal_sections fs)) (typed_parameters naming_by_label (typed_by_ordinal noted) j (relabel_parameter_sections naming (label_from_ordinal naming) scope (suc k) (formal_sections fs)))
       (λ ps. procedure_is_well_typed naming (bind_typed_parameters ps (bind_procedure x ps (typed_by_name noted))) j p && procedures_are_well_typed naming (bind_procedure x ps (typed_by_name noted)) (j + procedure_constructor_count p) statements rest)
       (λ ps. procedure_is_well_typed naming_by_label (bind_typed_parameters ps (bind_procedure (declared k) ps (typed_by_ordinal noted))) j (relabel_procedure naming (label_from_ordinal naming) scope k p)
       && procedures_are_well_typed naming_by_label (bind_procedure (declared k) ps (typed_by_ordinal noted)) (j + procedure_constructor_count (relabel_procedure naming (label_from_ordinal naming) scope k p)) (relabel_uses naming (label_from_ordinal naming) (declare_procedure_names (ordinal_after_procedure (suc k) p) rest ((x, k) ∷ scope)) statements) (relabel_procedures naming (label_from_ordinal naming) ((x, k) ∷ scope) (ordinal_after_procedure (suc k) p) rest))

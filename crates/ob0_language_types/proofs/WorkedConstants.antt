@@ -1,7 +1,7 @@
 -- A worked example of a constant: its value, its uses, and the declaration to which TRUE would be bound at a use.
 use Rattle.std.proofs.Common.{None, Some, codes, negsuc, refl, ◌≡◌}
 use Rattle.ob0_language_names.specs.Occurrences.{ordinal_bound_at}
-use Rattle.ob0_language_names.specs.OccurrenceLookup.{resolve_at_occurrence}
+use Rattle.ob0_language_names.specs.OccurrenceLookup.{resolve_name_at_occurrence}
 use Rattle.ob0_language_names.proofs.WorkedTrees.{least_constant}
 use Rattle.ob0_language_values.specs.Values.{number}
 use Rattle.ob0_language_types.specs.ConstantValues.{value_of_constant}
@@ -22,11 +22,11 @@ predeclared-no_value = refl
 pub use-bound : ordinal_bound_at least_constant 2 ≡ Some 7
 use-bound = refl
 
-pub truth-seen : resolve_at_occurrence least_constant 2 (codes "TRUE") ≡ Some 2
+pub truth-seen : resolve_name_at_occurrence least_constant 2 (codes "TRUE") ≡ Some 2
 truth-seen = refl
 
-pub variable-seen : resolve_at_occurrence least_constant 2 (codes "x") ≡ Some 8
+pub variable-seen : resolve_name_at_occurrence least_constant 2 (codes "x") ≡ Some 8
 variable-seen = refl
 
-pub unknown-seen : resolve_at_occurrence least_constant 2 (codes "y") ≡ None
+pub unknown-seen : resolve_name_at_occurrence least_constant 2 (codes "y") ≡ None
 unknown-seen = refl

@@ -14,27 +14,27 @@ use Rattle.ob0_language_types.specs.Typing.{constant_value, ◌>>=◌}
 use Rattle.ob0_language_types.specs.WellTyped.{bind_names}
 
 -- environments that bind the name of each constant to its value, and any other name to the
--- placeholder `non_constant`
+-- placeholder `non_constant_placeholder`
 abbrev pub ConstantEnvironment : Type 0
 ConstantEnvironment = Environment Name (Unit {0}) (Unit {0})
 
 -- a placeholder for any object that isn't a constant, in a `ConstantEnvironment`
-abbrev pub non_constant : Object (Unit {0}) (Unit {0})
-non_constant = a_variable tt
+abbrev pub non_constant_placeholder : Object (Unit {0}) (Unit {0})
+non_constant_placeholder = a_variable tt
 
--- returns the object unchanged if it is a constant, otherwise `non_constant`
-abbrev pub keep_constant : {V P : Type 0} → Object V P → Object (Unit {0}) (Unit {0})
-keep_constant (a_constant v) = a_constant v
-keep_constant (a_type s) = non_constant
-keep_constant (a_variable p) = non_constant
-keep_constant (a_procedure p) = non_constant
-keep_constant (a_standard p) = non_constant
+-- returns the object unchanged if it is a constant, otherwise `non_constant_placeholder`
+abbrev pub constant_or_placeholder : {V P : Type 0} → Object V P → Object (Unit {0}) (Unit {0})
+constant_or_placeholder (a_constant v) = a_constant v
+constant_or_placeholder (a_type s) = non_constant_placeholder
+constant_or_placeholder (a_variable p) = non_constant_placeholder
+constant_or_placeholder (a_procedure p) = non_constant_placeholder
+constant_or_placeholder (a_standard p) = non_constant_placeholder
 
 -- the environment of the predeclared names: TRUE and FALSE are bound to their values, the other
--- names to `non_constant`
+-- names to `non_constant_placeholder`
 abbrev pub predeclared_constants : ConstantEnvironment
 predeclared_constants =
-    map (λ b. (b.0, keep_constant b.1)) (outermost_environment {V = Unit {0}} {P = Unit {0}} naming_by_spelling)
+    map (λ b. (b.0, constant_or_placeholder b.1)) (outermost_environment {V = Unit {0}} {P = Unit {0}} naming_by_spelling)
 
 -- Returns the value of the constant with ordinal `d` in a list of constant declarations. `known` is
 -- the environment before the list. The first declaration in the list has ordinal `k`. Returns None
@@ -61,7 +61,7 @@ unfoldable mutual
       then value_in_constants known d k (section_constants cs)
       else if nat_lt d (first_procedure_ordinal k (forms_block (declares cs ts vs ps) statements)) then None
       else option_and_then (λ inner. value_in_procedures (bind_names
-      (declared_type_names (section_types ts) ++ variable_names (section_variables vs)) non_constant
+      (declared_type_names (section_types ts) ++ variable_names (section_variables vs)) non_constant_placeholder
       inner) d (first_procedure_ordinal k (forms_block (declares cs ts vs ps) statements)) ps)
       (declare_constants naming_by_spelling known (section_constants cs))
 
@@ -72,8 +72,8 @@ unfoldable mutual
   value_in_procedures known d k end = None
   value_in_procedures known d k (more p rest) =
       if nat_lt d (ordinal_after_procedure (suc k) p)
-      then value_in_procedure ((procedure_name p, non_constant) ∷ known) d (suc k) p
-      else value_in_procedures ((procedure_name p, non_constant) ∷ known) d
+      then value_in_procedure ((procedure_name p, non_constant_placeholder) ∷ known) d (suc k) p
+      else value_in_procedures ((procedure_name p, non_constant_placeholder) ∷ known) d
       (ordinal_after_procedure (suc k) p) rest
 
   -- Returns the value of the constant with ordinal `d` in a procedure's block. The procedure's
@@ -82,7 +82,7 @@ unfoldable mutual
   pub value_in_procedure : ConstantEnvironment → ℕ → ℕ → Tree Name (item procedure) → Option Value
   value_in_procedure known d k (declares_procedure x fs b closing) =
       if nat_lt d (ordinal_after_names k (formal_names (formal_sections fs))) then None
-      else value_in_block (bind_names (formal_names (formal_sections fs)) non_constant known) d
+      else value_in_block (bind_names (formal_names (formal_sections fs)) non_constant_placeholder known) d
       (ordinal_after_names k (formal_names (formal_sections fs))) b
 
 -- Returns the value of the constant with ordinal `d`. A declaration's ordinal is its number in text

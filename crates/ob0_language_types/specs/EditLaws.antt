@@ -7,7 +7,7 @@ use Rattle.ob0_language_names.specs.Inlining.{OccurrenceSet, inlined, inlined_ev
 use Rattle.ob0_language_names.specs.Names.{Name, declared}
 use Rattle.ob0_language_names.specs.Occurrences.{IsFreeName, ordinal_bound_at}
 use Rattle.ob0_language_names.specs.Scopes.{numbered, renamed}
-use Rattle.ob0_language_names.specs.OccurrenceLookup.{resolve_at_occurrence}
+use Rattle.ob0_language_names.specs.OccurrenceLookup.{resolve_name_at_occurrence}
 use Rattle.ob0_language_values.specs.Values.{Value, elements, fits_in_32_bits, members, number, truth}
 use Rattle.ob0_language_types.specs.ConstantValues.{value_of_constant}
 use Rattle.ob0_language_types.specs.WellTyped.{WellTyped}
@@ -23,18 +23,18 @@ FreeRenamingKeepsWellTyped =
     → WellTyped (renamed m d new)
 
 -- states that a value is a 32-bit number or a truth value
-abbrev pub IsScalar : Value → Type 0
-IsScalar (number n) = IsTrue (fits_in_32_bits n)
-IsScalar (truth b) = Unit {0}
-IsScalar (elements vs) = ⊥
-IsScalar (members k ms) = ⊥
+abbrev pub Is32BitScalar : Value → Type 0
+Is32BitScalar (number n) = IsTrue (fits_in_32_bits n)
+Is32BitScalar (truth b) = Unit {0}
+Is32BitScalar (elements vs) = ⊥
+Is32BitScalar (members k ms) = ⊥
 
 -- States that the word for a truth value (TRUE or FALSE) would be bound to the predeclared constant if it replaced the
 -- name at the occurrence with number `occurrence`. Occurrences of names are numbered from 0 in text order. States
 -- nothing for any other value.
 abbrev pub MeansPredeclaredTruth : Tree Name module_text → ℕ → Value → Type 0
-MeansPredeclaredTruth m occurrence (truth true) = resolve_at_occurrence m occurrence (codes "TRUE") ≡ Some 2
-MeansPredeclaredTruth m occurrence (truth false) = resolve_at_occurrence m occurrence (codes "FALSE") ≡ Some 3
+MeansPredeclaredTruth m occurrence (truth true) = resolve_name_at_occurrence m occurrence (codes "TRUE") ≡ Some 2
+MeansPredeclaredTruth m occurrence (truth false) = resolve_name_at_occurrence m occurrence (codes "FALSE") ≡ Some 3
 MeansPredeclaredTruth m occurrence _ = Unit {0}
 
 -- States that a CONST section declares a constant with ordinal `d` and that its value `w` is a number or a truth value.
@@ -42,7 +42,7 @@ MeansPredeclaredTruth m occurrence _ = Unit {0}
 pub record IsConstantWithLiteral
     (m : Tree Name module_text) (d : ℕ) (w : Value) (v : Tree Name factor) : Type 0 where
   pub value : value_of_constant m d ≡ Some w
-  pub scalar : IsScalar w
+  pub scalar : Is32BitScalar w
   pub literal : value_literal w ≡ Some v
 
 -- States that each occurrence in the set `uses` is bound to the constant with ordinal `d`. If the constant's value `w`
@@ -60,8 +60,8 @@ InliningKeepsWellTyped =
 
 -- States that a well-typed module remains well-typed if the declaration of an unused constant is removed. A constant is
 -- unused if no occurrence of a name is bound to it.
-abbrev pub RemovingUnusedKeepsWellTyped : Type 0
-RemovingUnusedKeepsWellTyped =
+abbrev pub RemovingUnusedConstantKeepsWellTyped : Type 0
+RemovingUnusedConstantKeepsWellTyped =
     (m : Tree Name module_text) (d : ℕ) (w : Value) (v : Tree Name factor)
     → IsConstantWithLiteral m d w v
     → ((k : ℕ) → ordinal_bound_at m k ≢ Some d)

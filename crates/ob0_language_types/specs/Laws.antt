@@ -32,8 +32,8 @@ NumberedTreeDecidesTyping =
 
 -- States that a constant expression has the same value in a run as in the checker. Each name that means a constant in
 -- the checker must mean the same constant in the run. Each name must also have the same spelling in both.
-abbrev pub ConstantValuesAgree : Type 0
-ConstantValuesAgree =
+abbrev pub ConstantsHaveSameValueInRunAndChecker : Type 0
+ConstantsHaveSameValueInRunAndChecker =
     (checked : TypeMeanings Name) (active : Meanings Name Place (List Mode)) (store : Store)
     (e : Tree Name expression) (v : Value)
     → ((x : Name) → checked.written x ≡ active.written x)

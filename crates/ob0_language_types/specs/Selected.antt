@@ -6,10 +6,10 @@ use Rattle.ob0_tree.specs.View.{items_of, selector_of}
 use Rattle.ob0_tree.specs.declared.tree.Designator.{Designator, out-Designator}
 
 -- returns the selectors of a designator of the code, as a tree of the definitions
-abbrev pub selectors_in : Designator → Tree ℕ (items selector)
-selectors_in d = items_of selector_of (out-Designator d).selectors.items
+abbrev pub selectors_of_designator : Designator → Tree ℕ (items selector)
+selectors_of_designator d = items_of selector_of (out-Designator d).selectors.items
 
 -- returns the result of an operation with two optional operands; None if an operand is missing or
 -- the operation has no result
-abbrev pub apply_to_both : {A B C : Type 0} → (A → B → Option C) → Option A → Option B → Option C
-apply_to_both operation a b = option_and_then (λ x. option_and_then (operation x) b) a
+abbrev pub apply_to_both_options : {A B C : Type 0} → (A → B → Option C) → Option A → Option B → Option C
+apply_to_both_options operation a b = option_and_then (λ x. option_and_then (operation x) b) a

@@ -36,9 +36,9 @@ pub data Mode : Type 0 where
   by_value by_place : Mode
 
 -- returns the mode of a section of parameters: by place if the section begins with VAR, otherwise by value
-abbrev pub section_mode : {N : Type 0} → Tree N section → Mode
-section_mode (value_section ns t) = by_value
-section_mode (variable_section ns t) = by_place
+abbrev pub parameter_section_mode : {N : Type 0} → Tree N section → Mode
+parameter_section_mode (value_section ns t) = by_value
+parameter_section_mode (variable_section ns t) = by_place
 
 -- a formal parameter: its mode and its type
 pub record FormalParameter : Type 0 where
@@ -210,7 +210,7 @@ typed_parameters naming env k (more (then_section f) fs) = do
   s ← denoted_type (meanings naming env) k (parameter_section_type f)
   rest ← typed_parameters naming (bind_names (parameter_section_names f) (a_variable s) env)
       (k + constructor_count (parameter_section_type f)) fs
-  Some (map (λ x. record { name = x; formal = record { mode = section_mode f; shape = s } })
+  Some (map (λ x. record { name = x; formal = record { mode = parameter_section_mode f; shape = s } })
       (parameter_section_names f)
       ++ rest)
 

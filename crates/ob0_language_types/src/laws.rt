@@ -1,8 +1,8 @@
 //! Laws about types, and about edits that leave a module well-typed. Each function does nothing;
 //! its contract is the law.
 
-ghost use Rattle.ob0_language_types.specs.Laws.{NumberingKeepsTypeCheck, NumberedTreeDecidesTyping, ConstantValuesAgree, InliningKeepsEvaluation, InliningKeepsTypes};
-ghost use Rattle.ob0_language_types.specs.EditLaws.{FreeRenamingKeepsWellTyped, InliningKeepsWellTyped, RemovingUnusedKeepsWellTyped, InliningEverywhereKeepsWellTyped, ConstantUsesAreFactors};
+ghost use Rattle.ob0_language_types.specs.Laws.{NumberingKeepsTypeCheck, NumberedTreeDecidesTyping, ConstantsHaveSameValueInRunAndChecker, InliningKeepsEvaluation, InliningKeepsTypes};
+ghost use Rattle.ob0_language_types.specs.EditLaws.{FreeRenamingKeepsWellTyped, InliningKeepsWellTyped, RemovingUnusedConstantKeepsWellTyped, InliningEverywhereKeepsWellTyped, ConstantUsesAreFactors};
 
 /// Proves that the type check by names accepts a module exactly if the type check by ordinals
 /// accepts the module's numbered tree. In this tree, each bound name is replaced by the ordinal of
@@ -22,8 +22,8 @@ pub fn numbered_tree_decides_typing()
 /// Proves that a constant expression has the same value in a run as in the checker. Each name that
 /// means a constant in the checker must mean the same constant in the run. Each name must also have
 /// the same spelling in both.
-pub fn constant_values_agree()
-    ensures { ConstantValuesAgree }
+pub fn constants_have_same_value_in_run_and_checker()
+    ensures { ConstantsHaveSameValueInRunAndChecker }
 {}
 
 /// Proves that replacing uses of a constant by a factor with the constant's value leaves an
@@ -53,8 +53,8 @@ pub fn inlining_keeps_well_typed()
 
 /// Proves that a well-typed module remains well-typed if the declaration of an unused constant is
 /// removed. A constant is unused if no occurrence of a name is bound to it.
-pub fn removing_unused_keeps_well_typed()
-    ensures { RemovingUnusedKeepsWellTyped }
+pub fn removing_unused_constant_keeps_well_typed()
+    ensures { RemovingUnusedConstantKeepsWellTyped }
 {}
 
 /// Proves that a well-typed module remains well-typed if all uses of a constant are replaced by the

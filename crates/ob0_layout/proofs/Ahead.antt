@@ -6,6 +6,7 @@ use Rattle.std.proofs.Common.{◌≡◌, ℕ, ◌+◌, ◌-◌, ◌*◌, ◌<◌
 use Rattle.std.proofs.Math.Seq.{take-append-add}
 use Rattle.std.proofs.lemmas.Bool.Decides.{nat_tests}
 use Rattle.std.proofs.lemmas.List.{map-append}
+use Rattle.std.proofs.lemmas.Str.{IsCharBoundary-start}
 use Rattle.std.specs.Prelude.{nat_lt, if◌then◌else◌, ◌==◌}
 use Rattle.std.proofs.Math.Bool.{or-false}
 use Rattle.ob0_text.proofs.StableSort.{first_same}
@@ -17,7 +18,7 @@ use Rattle.ob0_scan.specs.declared.lexeme.LexemeKind.TheVariants as lexeme
 use Rattle.ob0_scan.specs.declared.lexeme.Span.{Span}
 use Rattle.ob0_scan.specs.declared.lexeme.Token.{Token}
 use Rattle.ob0_scan.specs.Lexed.{Lexeme, text_of_lexemes}
-use Rattle.ob0_scan.specs.TextWithTokens.{TextWithTokens, IsScan, span_from, tokens_of_lexeme, comments_of_lexeme, tokens_from, comments_from}
+use Rattle.ob0_scan.specs.TextWithTokens.{TextWithTokens, IsScan, span_from, tokens_of_lexeme, comments_of_lexeme, tokens_of_lexemes_from, comments_of_lexemes_from}
 use Rattle.ob0_scan.proofs.Cuts.{nonempty}
 use Rattle.ob0_scan.proofs.Spans.{LexemesFrom, next_from}
 use Rattle.ob0_layout.specs.declared.gap.Gap.{Gap}
@@ -30,7 +31,6 @@ use Rattle.ob0_layout.specs.Cuts.{changed_sites, gap_before, gap_cut, last_gap, 
 use Rattle.ob0_layout.specs.Gaps.{all_gaps, changed_gaps, gaps_of_lexemes, gaps_after, formatting_changes_gap}
 use Rattle.ob0_layout.specs.Layout.{LexemeWithRole, lexemes_with_roles, next_line_level, next_line_role, contains_line_break, comment_role, gap_text_between, indentation}
 use Rattle.ob0_layout.proofs.Apart.{IsSolid}
-use Rattle.ob0_layout.proofs.InText.{from_start}
 
 break_append : (xs ys : List ℕ) → contains_line_break (xs ++ ys) ≡ (contains_line_break xs || contains_line_break ys)
 break_append [] ys = refl
@@ -45,22 +45,22 @@ or_assoc : (a b c : Bool) → ((a || b) || c) ≡ (a || (b || c))
 or_assoc true b c = refl
 or_assoc false b c = refl
 
-first_token_kind : (k : LexemeKind) (at size : ℕ) (ls : List Lexeme) (t : Token) (ts : List Token) → (tokens_from (at + size) ls ≡ t ∷ ts → at + size ≤ t.span.start)
-    → tokens_of_lexeme k (span_from at size) ++ tokens_from (at + size) ls ≡ t ∷ ts → at ≤ t.span.start
+first_token_kind : (k : LexemeKind) (at size : ℕ) (ls : List Lexeme) (t : Token) (ts : List Token) → (tokens_of_lexemes_from (at + size) ls ≡ t ∷ ts → at + size ≤ t.span.start)
+    → tokens_of_lexeme k (span_from at size) ++ tokens_of_lexemes_from (at + size) ls ≡ t ∷ ts → at ≤ t.span.start
 first_token_kind (lexeme.Token k) at size ls t ts more e = let same : record { kind = k; span = span_from at size } ≡ t = first_same e in omega (arith, ap (λ (x : Token). x.span.start) same)
 first_token_kind _ at size ls t ts more e = omega (arith, more e)
 
 -- The tokens of a suffix begin at its start or later.
-first_bound_token : (at : ℕ) (ls : List Lexeme) (t : Token) (ts : List Token) → tokens_from at ls ≡ t ∷ ts → at ≤ t.span.start
+first_bound_token : (at : ℕ) (ls : List Lexeme) (t : Token) (ts : List Token) → tokens_of_lexemes_from at ls ≡ t ∷ ts → at ≤ t.span.start
 first_bound_token at [] t ts e = absurd (cc)
 first_bound_token at (l ∷ ls) t ts e = first_token_kind l.kind at (length l.text) ls t ts (first_bound_token (at + length l.text) ls t ts) e
 
-first_comment_kind : (k : LexemeKind) (at size : ℕ) (ls : List Lexeme) (c : Span) (cs : List Span) → (comments_from (at + size) ls ≡ c ∷ cs → at + size ≤ c.start)
-    → comments_of_lexeme k (span_from at size) ++ comments_from (at + size) ls ≡ c ∷ cs → at ≤ c.start
+first_comment_kind : (k : LexemeKind) (at size : ℕ) (ls : List Lexeme) (c : Span) (cs : List Span) → (comments_of_lexemes_from (at + size) ls ≡ c ∷ cs → at + size ≤ c.start)
+    → comments_of_lexeme k (span_from at size) ++ comments_of_lexemes_from (at + size) ls ≡ c ∷ cs → at ≤ c.start
 first_comment_kind lexeme.Comment at size ls c cs more e = let same : span_from at size ≡ c = first_same e in omega (arith, ap (λ (x : Span). x.start) same)
 first_comment_kind _ at size ls c cs more e = omega (arith, more e)
 
-first_comment : (at : ℕ) (ls : List Lexeme) (c : Span) (cs : List Span) → comments_from at ls ≡ c ∷ cs → at ≤ c.start
+first_comment : (at : ℕ) (ls : List Lexeme) (c : Span) (cs : List Span) → comments_of_lexemes_from at ls ≡ c ∷ cs → at ≤ c.start
 first_comment at [] c cs e = absurd (cc)
 first_comment at (l ∷ ls) c cs e = first_comment_kind l.kind at (length l.text) ls c cs (first_comment (at + length l.text) ls c cs) e
 
@@ -71,22 +71,22 @@ first_of lexeme.Comment span = Some (next.Comment span)
 first_of (lexeme.Token k) span = Some (next.Token (record { kind = k; span = span }))
 
 comes_first : (k : LexemeKind) (at : ℕ) (t : List ℕ) (ls : List Lexeme) → IsSolid k → 0 < length t
-    → next_token_or_comment (tokens_from at (record { kind = k; text = t } ∷ ls)) (comments_from at (record { kind = k; text = t } ∷ ls)) ≡ first_of k (span_from at (length t))
+    → next_token_or_comment (tokens_of_lexemes_from at (record { kind = k; text = t } ∷ ls)) (comments_of_lexemes_from at (record { kind = k; text = t } ∷ ls)) ≡ first_of k (span_from at (length t))
 comes_first lexeme.Space at t ls solid some = absurd solid
-comes_first lexeme.Comment at t ls solid some = by_tokens (tokens_from (at + length t) ls) refl
+comes_first lexeme.Comment at t ls solid some = by_tokens (tokens_of_lexemes_from (at + length t) ls) refl
   where
-    by_tokens : (ts : List Token) → tokens_from (at + length t) ls ≡ ts → next_token_or_comment ts (span_from at (length t) ∷ comments_from (at + length t) ls) ≡ Some (next.Comment (span_from at (length t)))
+    by_tokens : (ts : List Token) → tokens_of_lexemes_from (at + length t) ls ≡ ts → next_token_or_comment ts (span_from at (length t) ∷ comments_of_lexemes_from (at + length t) ls) ≡ Some (next.Comment (span_from at (length t)))
     by_tokens [] e = refl
     by_tokens (u ∷ ts) e =
         let later = first_bound_token (at + length t) ls u ts e in
         let test : nat_lt at u.span.start ≡ true = grind (arith, nat_tests) in
         ap (λ b. if b then Some (next.Comment (span_from at (length t))) else Some (next.Token u)) test
-comes_first (lexeme.Token k) at t ls solid some = by_comments (comments_from (at + length t) ls) refl
+comes_first (lexeme.Token k) at t ls solid some = by_comments (comments_of_lexemes_from (at + length t) ls) refl
   where
     token : Token
     token = record { kind = k; span = span_from at (length t) }
 
-    by_comments : (cs : List Span) → comments_from (at + length t) ls ≡ cs → next_token_or_comment (token ∷ tokens_from (at + length t) ls) cs ≡ Some (next.Token token)
+    by_comments : (cs : List Span) → comments_of_lexemes_from (at + length t) ls ≡ cs → next_token_or_comment (token ∷ tokens_of_lexemes_from (at + length t) ls) cs ≡ Some (next.Token token)
     by_comments [] e = refl
     by_comments (c ∷ cs) e =
         let later = first_comment (at + length t) ls c cs e in
@@ -97,8 +97,8 @@ module _ (text : List ℕ) where
   -- states that only white space remains
   pub record NoMore (at : ℕ) (rest : List Lexeme) : Type 0 where
     pub up : at ≤ length text
-    pub tokens : tokens_from at rest ≡ []
-    pub comments : comments_from at rest ≡ []
+    pub tokens : tokens_of_lexemes_from at rest ≡ []
+    pub comments : comments_of_lexemes_from at rest ≡ []
     pub none : (level : ℕ) (broken : Bool) (ss : List LineRole) → lexemes_with_roles at level broken ss rest ≡ []
 
   -- states that a token or comment comes next, after white space
@@ -110,8 +110,8 @@ module _ (text : List ℕ) where
     pub solid : IsSolid kind
     pub up : at ≤ place
     pub from_there : LexemesFrom text place (record { kind = kind; text = t } ∷ ls) []
-    pub tokens : tokens_from at rest ≡ tokens_from place (record { kind = kind; text = t } ∷ ls)
-    pub comments : comments_from at rest ≡ comments_from place (record { kind = kind; text = t } ∷ ls)
+    pub tokens : tokens_of_lexemes_from at rest ≡ tokens_of_lexemes_from place (record { kind = kind; text = t } ∷ ls)
+    pub comments : comments_of_lexemes_from at rest ≡ comments_of_lexemes_from place (record { kind = kind; text = t } ∷ ls)
     pub found : (level : ℕ) (broken : Bool) (ss : List LineRole)
         → lexemes_with_roles at level broken ss rest ≡ lexemes_with_roles place level (broken || contains_line_break (slice_range text at place)) ss (record { kind = kind; text = t } ∷ ls)
 
@@ -221,15 +221,16 @@ module _ (indent : Indent) (text : List ℕ) where
   pub record Passing (whole : List Cut) (left : List Token) (comments : List Span) (ss : List LineRole) (before : Option KindAndRole) (level start : ℕ) (out : List GapSite) : Type 0 where
     pub rest : List Lexeme
     pub from_there : LexemesFrom text start rest []
-    pub left_is : left ≡ tokens_from start rest
-    pub comments_is : comments ≡ comments_from start rest
+    pub left_is : left ≡ tokens_of_lexemes_from start rest
+    pub comments_is : comments ≡ comments_of_lexemes_from start rest
     pub same : map (gap_cut indent) out ++ changed_gaps text (gaps_left before start (lexemes_with_roles start level (is_none before) ss rest)) ≡ changed_gaps text whole
 
   pub passing_at_start : (s : TextWithTokens) (scan : IsScan s) (ss : List LineRole) (left : List Token) (comments : List Span) (out : List GapSite) → text ≡ s.text → left ≡ s.tokens → comments ≡ s.comments → out ≡ []
       → Passing (all_gaps indent text ss scan.lexemes) left comments ss None 0 0 out
   passing_at_start s scan ss left comments out text_is left_is comments_is out_is = record {
     rest = scan.lexemes;
-    from_there = subst (λ t. LexemesFrom t 0 scan.lexemes []) (sym text_is) (from_start s scan);
+    indexed_terminals_from = subst (λ t. LexemesFrom t 0 scan.lexemes []) (sym text_is)
+        (record { utf8 = scan.utf8; place = IsCharBoundary-start s.text scan.utf8; each = scan.lexed.each; rest = sym (append-nil (text_of_lexemes scan.lexemes) ∙ scan.lexed.whole) });
     left_is = left_is ∙ scan.tokens;
     comments_is = comments_is ∙ scan.comments;
     same = λ i. map (gap_cut indent) (out_is i) ++ changed_gaps text (at_start (lexemes_with_roles 0 0 true ss scan.lexemes) i);
@@ -277,7 +278,7 @@ module _ (indent : Indent) (text : List ℕ) where
 
       passes : (kind : LexemeKind) (place : ℕ) (t : List ℕ) (ls : List Lexeme) (role : LineRole) (left' : List Token) (comments' : List Span) (ss' : List LineRole) (level' : ℕ)
           → start ≤ place → LexemesFrom text place (record { kind = kind; text = t } ∷ ls) []
-          → left' ≡ tokens_from (place + length t) ls → comments' ≡ comments_from (place + length t) ls
+          → left' ≡ tokens_of_lexemes_from (place + length t) ls → comments' ≡ comments_of_lexemes_from (place + length t) ls
           → lexemes_with_roles start level (is_none before) ss h.rest ≡ record { lexeme = record { kind = kind; text = t }; span = span_from place (length t); role = role } ∷ lexemes_with_roles (place + length t) level' false ss' ls
           → Passes kind (span_from place (length t)) role left' comments' ss' level'
       passes kind place t ls role left' comments' ss' level' up s tokens others found =
@@ -299,7 +300,7 @@ module _ (indent : Indent) (text : List ℕ) where
           }
 
       passes_kind : (kind : LexemeKind) (place : ℕ) (t : List ℕ) (ls : List Lexeme) → IsSolid kind → start ≤ place → LexemesFrom text place (record { kind = kind; text = t } ∷ ls) []
-          → left ≡ tokens_from place (record { kind = kind; text = t } ∷ ls) → comments ≡ comments_from place (record { kind = kind; text = t } ∷ ls)
+          → left ≡ tokens_of_lexemes_from place (record { kind = kind; text = t } ∷ ls) → comments ≡ comments_of_lexemes_from place (record { kind = kind; text = t } ∷ ls)
           → lexemes_with_roles start level (is_none before) ss h.rest ≡ lexemes_with_roles place level (is_none before || contains_line_break (slice_range text start place)) ss (record { kind = kind; text = t } ∷ ls)
           → Goes (first_of kind (span_from place (length t)))
       passes_kind lexeme.Space place t ls solid up s tokens others found = absurd solid

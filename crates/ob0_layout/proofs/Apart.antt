@@ -13,9 +13,9 @@ use Rattle.ob0_scan.specs.declared.lexeme.TokenKind.{TokenKind}
 use Rattle.ob0_scan.specs.declared.lexeme.TokenKind.TheVariants as token
 use Rattle.ob0_scan.specs.declared.lexeme.LexemeKind.{LexemeKind}
 use Rattle.ob0_scan.specs.declared.lexeme.LexemeKind.TheVariants as lexeme
-use Rattle.ob0_scan.specs.Classes.{symbol_text, is_space, IsNonEmptySequenceOf, IsLexemeOfKind}
+use Rattle.ob0_scan.specs.Classes.{symbol_text, is_white_space, IsNonEmptySequenceOf, IsLexemeOfKind}
 use Rattle.ob0_scan.specs.Lexed.{Lexeme, text_of_lexemes}
-use Rattle.ob0_scan.specs.Ends.{continues_symbol, continues_lexeme, EachEndsBeforeNext}
+use Rattle.ob0_scan.specs.Ends.{continues_symbol, continues_lexeme, EachLexemeEndsBeforeNext}
 use Rattle.ob0_scan.specs.TextWithTokens.{span_from, words_of_lexemes}
 use Rattle.ob0_scan.proofs.Families.{Family, Blank, Letter, Digit, family, family_of, family-blank, head_family}
 use Rattle.ob0_scan.proofs.Families as families
@@ -63,8 +63,8 @@ not_blank (lexeme.Token token.Identifier) solid e = cc
 not_blank _ solid e = cc
 
 -- The first byte of a token or comment isn't white space.
-pub solid_first : (k : LexemeKind) (text : List ℕ) → IsSolid k → IsLexemeOfKind k text → is_space (get_or text 0 0) ≡ false
-solid_first k text solid h = false_from_ne_true (is_space (get_or text 0 0)) (λ blank. not_blank k solid (sym (family-blank (get_or text 0 0) blank) ∙ head_family k text h))
+pub solid_first : (k : LexemeKind) (text : List ℕ) → IsSolid k → IsLexemeOfKind k text → is_white_space (get_or text 0 0) ≡ false
+solid_first k text solid h = false_from_ne_true (is_white_space (get_or text 0 0)) (λ blank. not_blank k solid (sym (family-blank (get_or text 0 0) blank) ∙ head_family k text h))
 
 differ : false ≡ true → ⊥
 differ e = cc
@@ -117,7 +117,7 @@ token_first (token.Symbol s) text b h = ap (λ t. get_or t 0 0 == 42) b ∙ symb
 -- a gap that separates a lexeme of a kind from one that begins with this byte
 data Fits (k : LexemeKind) (first : ℕ) : List ℕ → Type 0 where
   directly : continues_lexeme k first ≡ false → Fits k first []
-  by_space : {x : ℕ} {xs : List ℕ} → Quiet x → IsNonEmptySequenceOf is_space (x ∷ xs) → Fits k first (x ∷ xs)
+  by_space : {x : ℕ} {xs : List ℕ} → Quiet x → IsNonEmptySequenceOf is_white_space (x ∷ xs) → Fits k first (x ∷ xs)
 
 either_true : (x y : Bool) → (x || y) ≡ true → (x ≡ true) ⊎ (y ≡ true)
 either_true true y h = inl refl
@@ -127,15 +127,15 @@ both_false : (x y : Bool) → (x || y) ≡ false → y ≡ false
 both_false true y h = absurd (differ (sym h))
 both_false false y h = h
 
-pub indented : (indent : Indent) (level : ℕ) → AllPass is_space (indentation indent level)
-indented indent_by.Tab level = All-replicate (λ x. is_space x ≡ true) level 9 refl
-indented (indent_by.Spaces n) level = All-replicate (λ x. is_space x ≡ true) (level * n) 32 refl
+pub indented : (indent : Indent) (level : ℕ) → AllPass is_white_space (indentation indent level)
+indented indent_by.Tab level = All-replicate (λ x. is_white_space x ≡ true) level 9 refl
+indented (indent_by.Spaces n) level = All-replicate (λ x. is_white_space x ≡ true) (level * n) 32 refl
 
 line_fits : (k : LexemeKind) (first : ℕ) (indent : Indent) (level : ℕ) → Fits k first (10 ∷ indentation indent level)
-line_fits k first indent level = by_space (record { alone = refl; unequal = refl; starless = refl }) (record { nonempty = omega arith; all = All-cons (λ x. is_space x ≡ true) 10 (indentation indent level) refl (indented indent level) })
+line_fits k first indent level = by_space (record { alone = refl; unequal = refl; starless = refl }) (record { nonempty = omega arith; all = All-cons (λ x. is_white_space x ≡ true) 10 (indentation indent level) refl (indented indent level) })
 
 space_fits : (k : LexemeKind) (first : ℕ) → Fits k first (32 ∷ [])
-space_fits k first = by_space (record { alone = refl; unequal = refl; starless = refl }) (record { nonempty = omega arith; all = AllPass-from_list_all is_space (32 ∷ []) refl })
+space_fits k first = by_space (record { alone = refl; unequal = refl; starless = refl }) (record { nonempty = omega arith; all = AllPass-from_list_all is_white_space (32 ∷ []) refl })
 
 -- states that two lexemes are tokens or comments, and that after a `(` the second one isn't a token
 -- that begins with `*`
@@ -177,12 +177,12 @@ first_of : (l : Lexeme) (ls : List Lexeme) → IsLexemeOfKind l.kind l.text → 
 first_of l ls h = get_or_append_left l.text (text_of_lexemes ls) 0 0 (nonempty l.kind l.text h)
 
 fits_apart : (a b : LexemeWithRole) (rest : List Lexeme) (g : List ℕ) → Neighbours a b → IsLexemeOfKind a.lexeme.kind a.lexeme.text
-    → Fits a.lexeme.kind (get_or b.lexeme.text 0 0) g → EachEndsBeforeNext (b.lexeme ∷ rest) → EachEndsBeforeNext (a.lexeme ∷ (optional_white_space_lexeme g ++ (b.lexeme ∷ rest)))
+    → Fits a.lexeme.kind (get_or b.lexeme.text 0 0) g → EachLexemeEndsBeforeNext (b.lexeme ∷ rest) → EachLexemeEndsBeforeNext (a.lexeme ∷ (optional_white_space_lexeme g ++ (b.lexeme ∷ rest)))
 fits_apart a b rest _ n h (directly e) more =
     (record { belongs = h; ends = ap (continues_lexeme a.lexeme.kind) (first_of b.lexeme rest n.right_belongs) ∙ e }, more)
 fits_apart a b rest _ n h (by_space {x = x} q run) more = (
   record { belongs = h; ends = quiet_ends a.lexeme.kind x n.left q },
-  (record { belongs = run; ends = ap is_space (first_of b.lexeme rest n.right_belongs) ∙ solid_first b.lexeme.kind b.lexeme.text n.right n.right_belongs }, more),
+  (record { belongs = run; ends = ap is_white_space (first_of b.lexeme rest n.right_belongs) ∙ solid_first b.lexeme.kind b.lexeme.text n.right n.right_belongs }, more),
 )
 
 -- returns the tokens among lexemes, as a tree spells them
@@ -207,7 +207,7 @@ paren_of k text e = let same : k ≡ token.Symbol symbol.LeftParen = cc in ap (�
 
 abbrev Spread : Indent → List Lexeme → Type 0
 Spread indent ls = (at level : ℕ) (broken : Bool) (ss : List LineRole) (a : LexemeWithRole) → IsSolid a.lexeme.kind → IsLexemeOfKind a.lexeme.kind a.lexeme.text
-    → (a.lexeme.kind ≡ left_paren → NoStar (spelled ls)) → Calm (spelled ls) → EachEndsBeforeNext ls → EachEndsBeforeNext (a.lexeme ∷ lexemes_with_formatted_gaps_after indent a (lexemes_with_roles at level broken ss ls))
+    → (a.lexeme.kind ≡ left_paren → NoStar (spelled ls)) → Calm (spelled ls) → EachLexemeEndsBeforeNext ls → EachLexemeEndsBeforeNext (a.lexeme ∷ lexemes_with_formatted_gaps_after indent a (lexemes_with_roles at level broken ss ls))
 
 comment_spread : (indent : Indent) (text : List ℕ) (ls : List Lexeme) → Spread indent ls → Spread indent (record { kind = lexeme.Comment; text = text } ∷ ls)
 comment_spread indent text ls rest at level broken ss a solid h after calm apart =
@@ -231,7 +231,7 @@ kind_spread indent (lexeme.Token k) text ls rest = token_spread indent k text ls
 nothing_spread : (indent : Indent) → Spread indent []
 nothing_spread indent at level broken ss a solid h after calm apart = (
   record { belongs = h; ends = quiet_ends a.lexeme.kind 10 solid (record { alone = refl; unequal = refl; starless = refl }) },
-  (record { belongs = record { nonempty = omega arith; all = AllPass-from_list_all is_space (10 ∷ []) refl }; ends = refl }, tt),
+  (record { belongs = record { nonempty = omega arith; all = AllPass-from_list_all is_white_space (10 ∷ []) refl }; ends = refl }, tt),
 )
 
 following_spread : (indent : Indent) (ls : List Lexeme) → Spread indent ls
@@ -239,7 +239,7 @@ following_spread indent [] = nothing_spread indent
 following_spread indent (l ∷ ls) = kind_spread indent l.kind l.text ls (following_spread indent ls)
 
 abbrev FirstSpread : Indent → List Lexeme → Type 0
-FirstSpread indent ls = (at level : ℕ) (broken : Bool) (ss : List LineRole) → Calm (spelled ls) → EachEndsBeforeNext ls → EachEndsBeforeNext (lexemes_with_formatted_gaps indent (lexemes_with_roles at level broken ss ls))
+FirstSpread indent ls = (at level : ℕ) (broken : Bool) (ss : List LineRole) → Calm (spelled ls) → EachLexemeEndsBeforeNext ls → EachLexemeEndsBeforeNext (lexemes_with_formatted_gaps indent (lexemes_with_roles at level broken ss ls))
 
 kind_first_spread : (indent : Indent) (k : LexemeKind) (text : List ℕ) (ls : List Lexeme) → FirstSpread indent ls → FirstSpread indent (record { kind = k; text = text } ∷ ls)
 kind_first_spread indent lexeme.Space text ls rest = λ at level broken ss calm apart. rest (at + length text) level (broken || contains_line_break text) ss calm apart.1
@@ -254,6 +254,6 @@ first_spread : (indent : Indent) (ls : List Lexeme) → FirstSpread indent ls
 first_spread indent [] = λ at level broken ss calm apart. tt
 first_spread indent (l ∷ ls) = kind_first_spread indent l.kind l.text ls (first_spread indent ls)
 
-pub laid_out_apart : {s : Sort} (indent : Indent) (tree : Tree (List ℕ) s) (ls : List Lexeme) → spelled ls ≡ spell tree → EachEndsBeforeNext ls → EachEndsBeforeNext (formatted_lexemes indent tree ls)
+pub laid_out_apart : {s : Sort} (indent : Indent) (tree : Tree (List ℕ) s) (ls : List Lexeme) → spelled ls ≡ spell tree → EachLexemeEndsBeforeNext ls → EachLexemeEndsBeforeNext (formatted_lexemes indent tree ls)
 unfolding formatted_lexemes
 laid_out_apart indent tree ls e apart = first_spread indent ls 0 0 true (line_roles 0 tree) (subst Calm (sym e) (calm_spelled tree)) apart

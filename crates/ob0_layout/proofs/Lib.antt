@@ -6,11 +6,8 @@ pub mod Apart
 pub mod Modules
 pub mod Ahead
 pub mod EditSteps
-pub mod Pieced
-pub mod LastBytes
 pub mod InText
 pub mod Gaps
-pub mod Patched
 pub mod Written
 mod Walks
 pub mod Unnamed

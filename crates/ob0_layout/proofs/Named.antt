@@ -4,7 +4,7 @@ use Rattle.ob0_scan.specs.declared.lexeme.Token.{Token}
 use Rattle.ob0_scan.specs.TextWithTokens.{TextWithTokens, IsScan, Word, words_of_lexemes, word_of_token}
 use Rattle.ob0_tree.specs.Lexeme.{Terminal, terminal_of_kind}
 use Rattle.ob0_tree.specs.Tree.{Tree, module_text, spell}
-use Rattle.ob0_tree.specs.Module.{ModuleOf, terminal_of_token, terminals_of_text}
+use Rattle.ob0_tree.specs.Module.{IsModuleWithTree, terminal_of_token, terminals_of_text}
 use Rattle.ob0_scan.proofs.Spans.{scan_words}
 
 -- returns a word as a tree spells it; an identifier is spelled by its text
@@ -18,5 +18,5 @@ as_words text (t ∷ ts) = ap (λ xs. terminal_of_token text t ∷ xs) (as_words
 pub text_words : (s : TextWithTokens) (scan : IsScan s) → terminals_of_text s ≡ map named_lexeme (words_of_lexemes scan.lexemes)
 text_words s scan = as_words s.text s.tokens ∙ ap (map named_lexeme) (scan_words s scan)
 
-pub spelled_words : (s : TextWithTokens) (scan : IsScan s) (tree : Tree (List ℕ) module_text) → ModuleOf s tree → map named_lexeme (words_of_lexemes scan.lexemes) ≡ spell tree
+pub spelled_words : (s : TextWithTokens) (scan : IsScan s) (tree : Tree (List ℕ) module_text) → IsModuleWithTree s tree → map named_lexeme (words_of_lexemes scan.lexemes) ≡ spell tree
 spelled_words s scan tree m = sym (text_words s scan) ∙ m.spelled

@@ -1,17 +1,13 @@
 -- Defines the role of each token of a tree in its line: whether the token begins the line, and
 -- whether a space may stand next to it.
 -- Rule: docs/LANGUAGE.md, Layout 2 to 4.
-use Rattle.std.specs.Prelude.{ℕ, ◌+◌, min, Bool, true, false, Option, Some, None, List, [], ◌∷◌, ◌++◌}
+use Rattle.std.specs.Prelude.{ℕ, ◌+◌, Bool, true, false, Option, Some, None, List, [], ◌∷◌, ◌++◌}
 use Rattle.ob0_tree.specs.declared.tree.Sign.{Sign}
 use Rattle.ob0_tree.specs.Tree.{Sort, Tree, none, one, end, more, compares, relates, sum, adds, product, multiplies, designator, integer, parenthesised, negation, field, index, empty, assigns, calls, branches, while_loop, repeat_loop, no_arguments, some_arguments, then_argument, runs, then_statement, elsif_branch, else_branch, listed, then_name, named_type, array_type, record_type, no_fields, some_fields, then_fields, no_formals, some_formals, value_section, variable_section, then_section, declares_constant, declares_constants, declares_type, declares_types, declares_variable, declares_variables, declares_procedure, declares, begins, forms_block, is_module}
 use Rattle.ob0_layout.specs.declared.line_role.LineRole.{LineRole}
 use Rattle.ob0_layout.specs.declared.line_role.LineRole.TheVariants.{Begins, Opening, Joining, Plain}
 
--- Returns `k` plus 1, capped at 2^32 - 1, so that the level fits in 32 bits.
-abbrev pub deeper_level : ℕ → ℕ
-deeper_level k = min (k + 1) 4294967295
-
--- Returns these roles with the first role replaced by `Begins level`. Returns an empty list
+-- Returns the list of roles with the first role replaced by `Begins level`. Returns an empty list
 -- unchanged.
 abbrev pub roles_with_line_start : ℕ → List LineRole → List LineRole
 roles_with_line_start level [] = []
@@ -59,20 +55,20 @@ line_roles k (branches condition s elsifs rest) =
     Begins k
     ∷ (line_roles 0 condition
     ++ (Plain
-    ∷ (line_roles (deeper_level k) s
+    ∷ (line_roles (k + 1) s
     ++ (line_roles k elsifs ++ (line_roles k rest ++ (Begins k ∷ []))))))
 line_roles k (while_loop condition s) =
-    Begins k ∷ (line_roles 0 condition ++ (Plain ∷ (line_roles (deeper_level k) s ++ (Begins k ∷ []))))
+    Begins k ∷ (line_roles 0 condition ++ (Plain ∷ (line_roles (k + 1) s ++ (Begins k ∷ []))))
 line_roles k (repeat_loop s condition) =
-    Begins k ∷ (line_roles (deeper_level k) s ++ (Begins k ∷ line_roles 0 condition))
+    Begins k ∷ (line_roles (k + 1) s ++ (Begins k ∷ line_roles 0 condition))
 line_roles k no_arguments = Opening ∷ Plain ∷ []
 line_roles k (some_arguments e es) = Opening ∷ (line_roles k e ++ (line_roles k es ++ (Plain ∷ [])))
 line_roles k (then_argument e) = Plain ∷ line_roles k e
 line_roles k (runs first statements) = line_roles k first ++ line_roles k statements
 line_roles k (then_statement s) = Plain ∷ line_roles k s
 line_roles k (elsif_branch condition s) =
-    Begins k ∷ (line_roles 0 condition ++ (Plain ∷ line_roles (deeper_level k) s))
-line_roles k (else_branch s) = Begins k ∷ line_roles (deeper_level k) s
+    Begins k ∷ (line_roles 0 condition ++ (Plain ∷ line_roles (k + 1) s))
+line_roles k (else_branch s) = Begins k ∷ line_roles (k + 1) s
 line_roles k (listed name others) = Plain ∷ line_roles k others
 line_roles k (then_name name) = Plain ∷ Plain ∷ []
 line_roles k (named_type name) = Plain ∷ []
@@ -89,21 +85,21 @@ line_roles k (value_section ns t) = line_roles k ns ++ (Plain ∷ line_roles k t
 line_roles k (variable_section ns t) = Plain ∷ (line_roles k ns ++ (Plain ∷ line_roles k t))
 line_roles k (then_section s) = Plain ∷ line_roles k s
 line_roles k (declares_constant name e) =
-    Begins (deeper_level k) ∷ Plain ∷ (line_roles 0 e ++ (Plain ∷ []))
+    Begins (k + 1) ∷ Plain ∷ (line_roles 0 e ++ (Plain ∷ []))
 line_roles k (declares_constants cs) = Begins k ∷ line_roles k cs
-line_roles k (declares_type name t) = Begins (deeper_level k) ∷ Plain ∷ (line_roles 0 t ++ (Plain ∷ []))
+line_roles k (declares_type name t) = Begins (k + 1) ∷ Plain ∷ (line_roles 0 t ++ (Plain ∷ []))
 line_roles k (declares_types ts) = Begins k ∷ line_roles k ts
 line_roles k (declares_variable ns t) =
-    roles_with_line_start (deeper_level k) (line_roles 0 ns) ++ (Plain ∷ (line_roles 0 t ++ (Plain ∷ [])))
+    roles_with_line_start (k + 1) (line_roles 0 ns) ++ (Plain ∷ (line_roles 0 t ++ (Plain ∷ [])))
 line_roles k (declares_variables vs) = Begins k ∷ line_roles k vs
 line_roles k (declares_procedure name fs b closing) =
-    Begins (deeper_level k)
+    Begins (k + 1)
     ∷ Plain
     ∷ (line_roles 0 fs
-    ++ (Plain ∷ (line_roles (deeper_level k) b ++ (Begins (deeper_level k) ∷ Plain ∷ Plain ∷ []))))
+    ++ (Plain ∷ (line_roles (k + 1) b ++ (Begins (k + 1) ∷ Plain ∷ Plain ∷ []))))
 line_roles k (declares cs ts vs ps) =
     line_roles k cs ++ (line_roles k ts ++ (line_roles k vs ++ line_roles k ps))
-line_roles k (begins s) = Begins k ∷ line_roles (deeper_level k) s
+line_roles k (begins s) = Begins k ∷ line_roles (k + 1) s
 line_roles k (forms_block ds b) = line_roles k ds ++ line_roles k b
 line_roles k (is_module name b closing) =
     Begins k ∷ Plain ∷ Plain ∷ (line_roles k b ++ (Begins k ∷ Plain ∷ Plain ∷ []))

@@ -8,10 +8,12 @@ ghost use Rattle.ob0_text.specs.Patches.{patched_text};
 ghost use Rattle.ob0_text.specs.Units.{width_of};
 ghost use Rattle.ob0_text.specs.declared.refusals.EditRefusal.TheVariants.{TooLong, Memory};
 ghost use Rattle.ob0_tree.specs.ParsedModule.{named_tree_of};
+ghost use Rattle.ob0_edits_tokens.specs.ByteCuts.{edit_at_cut, length_with_cuts};
+ghost use Rattle.ob0_edits_tokens.specs.Replaced.{range_and_text};
 ghost use Rattle.ob0_layout.specs.Layout.{formatted_text};
 ghost use Rattle.ob0_layout.specs.LineRoles.{line_roles};
 ghost use Rattle.ob0_layout.specs.Cuts.{gap_cut, GapLiesWithin};
-ghost use Rattle.ob0_layout.specs.Gaps.{all_gaps, changed_gaps, edit_content, edit_of_cut, formatted_len_from};
+ghost use Rattle.ob0_layout.specs.Gaps.{all_gaps, changed_gaps};
 
 use crate::sites::{GapSite, changed_sites};
 use crate::walk::line_roles;
@@ -32,8 +34,8 @@ pub fn format<T: TextStore>(
     indent: Indent,
 ) -> Result<Vec<Edit>, EditRefusal>
     ensures edits { (scan : IsScan module.now.source)
-        → IfOk result (λ edits. map edit_content edits.items ≡
-        map (edit_of_cut (width_of (T.unit_of store.now)) (T.content store.now))
+        → IfOk result (λ edits. map range_and_text edits.items ≡
+        map (edit_at_cut (T.unit_of store.now) (T.content store.now))
         (changed_gaps module.now.source.text (all_gaps indent module.now.source.text
         (line_roles 0 (named_tree_of module.now)) scan.lexemes))) }
     ensures fits { (scan : IsScan module.now.source)
@@ -63,7 +65,7 @@ fn is_formatted_text_within_limit(sites: &[GapSite], len: usize, indent: Indent)
     requires length { len ≤ max_text_length }
     requires within { All (GapLiesWithin len) sites.now }
     ensures { IsTrue result
-        ↔ formatted_len_from len 0 (map (gap_cut indent) sites.now) ≤ max_text_length }
+        ↔ length_with_cuts len 0 (map (gap_cut indent) sites.now) ≤ max_text_length }
 {
     let mut made = 0;
     let mut at = 0;
@@ -84,8 +86,8 @@ fn edits<T: TextStore>(
     sites: &[GapSite],
     indent: Indent,
 ) -> Result<Vec<Edit>, AllocError>
-    ensures { IfOk result (λ edits. map edit_content edits.items
-        ≡ map (λ site. edit_of_cut (width_of (T.unit_of store.now)) (T.content store.now)
+    ensures { IfOk result (λ edits. map range_and_text edits.items
+        ≡ map (λ site. edit_at_cut (T.unit_of store.now) (T.content store.now)
         (gap_cut indent site)) sites.now) }
 {
     let gap_starts = gap_starts(alloc, sites)?;

@@ -5,15 +5,16 @@
 ghost use Rattle.std.specs.Prelude.{◌≡◌, ℕ, List, length};
 ghost use Rattle.std.specs.List.{All, AllPass};
 ghost use Rattle.std.specs.Str.{IsUtf8};
-ghost use Rattle.ob0_scan.specs.Classes.{is_space};
+ghost use Rattle.ob0_scan.specs.Classes.{is_white_space};
 ghost use Rattle.ob0_scan.specs.Lexed.{LexesInto};
 ghost use Rattle.ob0_scan.specs.TextWithTokens.{TextWithTokens, IsScan};
 ghost use Rattle.ob0_text.specs.Patches.{Cut, text_with_cuts};
 ghost use Rattle.ob0_text.specs.declared.edits.Indent.{Indent};
 ghost use Rattle.ob0_tree.specs.Tree.{Tree, module_text};
-ghost use Rattle.ob0_tree.specs.Module.{ModuleOf};
+ghost use Rattle.ob0_tree.specs.Module.{IsModuleWithTree};
+ghost use Rattle.ob0_edits_tokens.specs.ByteCuts.{length_with_cuts};
 ghost use Rattle.ob0_layout.specs.Layout.{lexemes_without_white_space, formatted_lexemes, formatted_text};
-ghost use Rattle.ob0_layout.specs.Gaps.{ReplacesOnlyWhiteSpace, all_gaps, changed_gaps, formatted_len_from};
+ghost use Rattle.ob0_layout.specs.Gaps.{ReplacesOnlyWhiteSpace, all_gaps, changed_gaps};
 ghost use Rattle.ob0_layout.specs.LineRoles.{line_roles};
 
 /// Proves two facts: scanning a formatted text gives `formatted_lexemes`, and formatting changes no
@@ -21,31 +22,31 @@ ghost use Rattle.ob0_layout.specs.LineRoles.{line_roles};
 pub fn formatting_keeps_tokens_and_comments()
     ensures lexed { (indent : Indent) (s : TextWithTokens) (scan : IsScan s)
         (tree : Tree (List ℕ) module_text)
-        → ModuleOf s tree
+        → IsModuleWithTree s tree
         → LexesInto (formatted_text indent tree scan.lexemes) (formatted_lexemes indent tree scan.lexemes) }
     ensures lexemes_without_white_space { (indent : Indent) (s : TextWithTokens) (scan : IsScan s)
         (tree : Tree (List ℕ) module_text)
-        → ModuleOf s tree
+        → IsModuleWithTree s tree
         → lexemes_without_white_space (formatted_lexemes indent tree scan.lexemes) ≡ lexemes_without_white_space scan.lexemes }
 {}
 
 /// Proves that a formatted text is a module with the same tree as the original text.
 pub fn formatting_keeps_module()
     ensures { (indent : Indent) (s : TextWithTokens) (scan : IsScan s) (tree : Tree (List ℕ) module_text)
-        → ModuleOf s tree
-        → (t : TextWithTokens) → IsScan t → t.text ≡ formatted_text indent tree scan.lexemes → ModuleOf t tree }
+        → IsModuleWithTree s tree
+        → (t : TextWithTokens) → IsScan t → t.text ≡ formatted_text indent tree scan.lexemes → IsModuleWithTree t tree }
 {}
 
 /// Proves that formatting a formatted text changes nothing.
 pub fn formatting_is_idempotent()
     ensures { (indent : Indent) (s : TextWithTokens) (scan : IsScan s) (tree : Tree (List ℕ) module_text)
-        → ModuleOf s tree
+        → IsModuleWithTree s tree
         → (t : TextWithTokens) (again : IsScan t) → t.text ≡ formatted_text indent tree scan.lexemes
         → formatted_text indent tree again.lexemes ≡ formatted_text indent tree scan.lexemes }
 {}
 
 /// Proves three facts: replacing the gaps that formatting changes gives the formatted text, the
-/// formatted text is UTF-8, and `formatted_len_from` computes the length of the formatted text in
+/// formatted text is UTF-8, and `length_with_cuts` computes the length of the formatted text in
 /// bytes.
 pub fn gaps_give_formatted_text()
     ensures utf8 { (indent : Indent) (s : TextWithTokens) (scan : IsScan s)
@@ -58,7 +59,7 @@ pub fn gaps_give_formatted_text()
         ≡ formatted_text indent tree scan.lexemes }
     ensures length { (indent : Indent) (s : TextWithTokens) (scan : IsScan s)
         (tree : Tree (List ℕ) module_text)
-        → formatted_len_from (length s.text) 0
+        → length_with_cuts (length s.text) 0
         (all_gaps indent s.text (line_roles 0 tree) scan.lexemes)
         ≡ length (formatted_text indent tree scan.lexemes) }
 {}
@@ -71,6 +72,6 @@ pub fn gaps_are_white_space()
         → All (ReplacesOnlyWhiteSpace s.text) (all_gaps indent s.text (line_roles 0 tree) scan.lexemes) }
     ensures after { (indent : Indent) (s : TextWithTokens) (scan : IsScan s)
         (tree : Tree (List ℕ) module_text)
-        → All (λ (c : Cut). AllPass is_space c.new)
+        → All (λ (c : Cut). AllPass is_white_space c.new)
         (all_gaps indent s.text (line_roles 0 tree) scan.lexemes) }
 {}

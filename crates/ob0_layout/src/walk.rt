@@ -1,11 +1,11 @@
 //! Computes the role of each token in its line, by a walk over the module's tree.
 
-ghost use Rattle.std.specs.Prelude.{◌≡◌, ◌++◌, ◌∷◌, [], IfOk};
+ghost use Rattle.std.specs.Prelude.{◌≡◌, ◌≤◌, ◌+◌, ◌^◌, ◌++◌, ◌∷◌, [], IfOk, MatchResult};
 ghost use Rattle.ob0_layout.specs.declared.line_role.LineRole.TheVariants.{Begins, Plain};
-ghost use Rattle.ob0_layout.specs.LineRoles.{line_roles, deeper_level, optional_sign_role, separator_role_unless_first};
+ghost use Rattle.ob0_layout.specs.LineRoles.{line_roles, optional_sign_role, separator_role_unless_first};
 ghost use Rattle.ob0_tree.specs.ParsedModule.{tree_of};
 ghost use Rattle.ob0_tree.specs.Tree.{then_name};
-ghost use Rattle.ob0_tree.specs.View.{items_of, expression_of, compound_expression_of, simple_expression_of, term_of, factor_of, selector_of, designator_of, assignment_of, arguments_of_vec, call_of, statement_of, if_of, elsifs_of_vec, sequence_of_vec, type_of, record_type_of, optional_field_group_of, parameter_section_of, formals_of, constants_of, types_of, variables_of, body_of, procedure_of, block_of};
+ghost use Rattle.ob0_tree.specs.View.{items_of, expression_of, compound_expression_of, simple_expression_of, term_of, factor_of, selector_of, designator_of, assignment_of, arguments_of_vec, call_of, statement_of, if_of, elsifs_of_vec, sequence_of_vec, type_of, record_type_of, optional_field_group_of, parameter_section_of, formals_of, constant_section_of, type_section_of, variable_section_of, body_of, procedure_of, block_of};
 
 use crate::line_role::LineRole;
 use ob0_tree::{
@@ -30,11 +30,15 @@ pub(crate) fn line_roles(alloc: Global, module: &Module) -> Result<Vec<LineRole>
     Ok(out)
 }
 
-/// Returns `level` plus 1, capped at 2^32 - 1.
-fn deeper_level(level: u32) -> u32
-    ensures { result ≡ deeper_level level }
+/// Returns `level` plus 1. Fails exactly if the sum doesn't fit in 32 bits. No module is nested that
+/// deep.
+fn deeper_level(level: u32) -> Result<u32, AllocError>
+    ensures { MatchResult result (λ k. k ≡ level + 1) (λ _. 2 ^ 32 ≤ level + 1) }
 {
-    level.saturating_add(1)
+    match level.checked_add(1) {
+        None => Err(AllocError),
+        Some(deeper) => Ok(deeper),
+    }
 }
 
 /// Appends the line role `Plain`, for one token.
@@ -212,12 +216,12 @@ fn add_statement_roles(out: &mut Vec<LineRole>, level: u32, s: &Statement) -> Re
             out.push(LineRole::Begins(level))?;
             add_expression_roles(out, &w.condition)?;
             add_plain_role(out)?;
-            add_sequence_roles(out, deeper_level(level), &w.body)?;
+            add_sequence_roles(out, deeper_level(level)?, &w.body)?;
             add_line_start_role(out, level)
         }
         Statement::Repeat(r) => {
             out.push(LineRole::Begins(level))?;
-            add_sequence_roles(out, deeper_level(level), &r.body)?;
+            add_sequence_roles(out, deeper_level(level)?, &r.body)?;
             out.push(LineRole::Begins(level))?;
             add_expression_roles(out, &r.condition)
         }
@@ -281,15 +285,16 @@ fn add_argument_roles(out: &mut Vec<LineRole>, given: &Vec<Expression>) -> Resul
 fn add_if_roles(out: &mut Vec<LineRole>, level: u32, i: &If) -> Result<(), AllocError>
     ensures { IfOk result (λ _. out.new.items ≡ out.old.items ++ line_roles level (if_of i.now)) }
 {
+    let inner = deeper_level(level)?;
     add_line_start_role(out, level)?;
     add_expression_roles(out, &i.condition)?;
     add_plain_role(out)?;
-    add_sequence_roles(out, deeper_level(level), &i.then)?;
+    add_sequence_roles(out, inner, &i.then)?;
     add_elsif_roles(out, level, &i.elsifs)?;
     match &i.otherwise {
         Some(statements) => {
             add_line_start_role(out, level)?;
-            add_sequence_roles(out, deeper_level(level), statements)?;
+            add_sequence_roles(out, inner, statements)?;
             add_line_start_role(out, level)
         }
         None => add_line_start_role(out, level),
@@ -311,7 +316,7 @@ fn add_elsif_roles(
         add_line_start_role(out, level)?;
         add_expression_roles(out, &e.condition)?;
         add_plain_role(out)?;
-        add_sequence_roles(out, deeper_level(level), &e.then)?;
+        add_sequence_roles(out, deeper_level(level)?, &e.then)?;
     }
     Ok(())
 }
@@ -429,14 +434,14 @@ fn add_constant_section_roles(
     declared: &Option<Vec<Constant>>,
 ) -> Result<(), AllocError>
     ensures { IfOk result
-        (λ _. out.new.items ≡ out.old.items ++ line_roles level (constants_of declared.now)) }
+        (λ _. out.new.items ≡ out.old.items ++ line_roles level (constant_section_of declared.now)) }
 {
     let Some(declared) = declared else {
         return Ok(());
     };
     add_line_start_role(out, level)?;
     for c in declared {
-        add_line_start_role(out, deeper_level(level))?;
+        add_line_start_role(out, deeper_level(level)?)?;
         add_plain_role(out)?;
         add_expression_roles(out, &c.value)?;
         add_plain_role(out)?;
@@ -452,14 +457,14 @@ fn add_type_section_roles(
     declared: &Option<Vec<TypeDeclaration>>,
 ) -> Result<(), AllocError>
     ensures { IfOk result
-        (λ _. out.new.items ≡ out.old.items ++ line_roles level (types_of declared.now)) }
+        (λ _. out.new.items ≡ out.old.items ++ line_roles level (type_section_of declared.now)) }
 {
     let Some(declared) = declared else {
         return Ok(());
     };
     add_line_start_role(out, level)?;
     for d in declared {
-        add_line_start_role(out, deeper_level(level))?;
+        add_line_start_role(out, deeper_level(level)?)?;
         add_plain_role(out)?;
         add_written_type_roles(out, &d.written)?;
         add_plain_role(out)?;
@@ -475,14 +480,14 @@ fn add_variable_section_roles(
     declared: &Option<Vec<VariableDeclaration>>,
 ) -> Result<(), AllocError>
     ensures { IfOk result
-        (λ _. out.new.items ≡ out.old.items ++ line_roles level (variables_of declared.now)) }
+        (λ _. out.new.items ≡ out.old.items ++ line_roles level (variable_section_of declared.now)) }
 {
     let Some(declared) = declared else {
         return Ok(());
     };
     add_line_start_role(out, level)?;
     for v in declared {
-        add_name_list_roles(out, LineRole::Begins(deeper_level(level)), &v.names)?;
+        add_name_list_roles(out, LineRole::Begins(deeper_level(level)?), &v.names)?;
         add_plain_role(out)?;
         add_written_type_roles(out, &v.written)?;
         add_plain_role(out)?;
@@ -503,7 +508,7 @@ fn add_body_roles(
     match statements {
         Some(statements) => {
             add_line_start_role(out, level)?;
-            add_sequence_roles(out, deeper_level(level), statements)
+            add_sequence_roles(out, deeper_level(level)?, statements)
         }
         None => Ok(()),
     }
@@ -531,7 +536,7 @@ fn add_procedure_roles(out: &mut Vec<LineRole>, level: u32, p: &Procedure) -> Re
     ensures { IfOk result
         (λ _. out.new.items ≡ out.old.items ++ line_roles level (procedure_of p.now)) }
 {
-    let inner = deeper_level(level);
+    let inner = deeper_level(level)?;
     add_line_start_role(out, inner)?;
     add_plain_role(out)?;
     add_formal_parameter_roles(out, &p.formals)?;

@@ -6,7 +6,7 @@ use Rattle.ob0_scan.specs.declared.lexeme.Token.{Token}
 use Rattle.ob0_scan.specs.TextWithTokens.{IsScan, TextWithTokens}
 use Rattle.ob0_tree.specs.declared.tree.ModuleTree.{ModuleTree}
 use Rattle.ob0_tree.specs.Lexeme.{EndOfText}
-use Rattle.ob0_tree.specs.Module.{ModuleOf, max_nesting, terminals_of_text}
+use Rattle.ob0_tree.specs.Module.{IsModuleWithTree, max_nesting, terminals_of_text}
 use Rattle.ob0_tree.specs.ParsedModule.{IsParsed, ParsedModule, named_tree_of, parsed_module, tree_of}
 use Rattle.ob0_tree.specs.Places.{indexed_terminals, indexed_terminals_from, token_text_at, token_value_at}
 use Rattle.ob0_tree.specs.Tree.{Tree, module_text, nesting, spell}
@@ -16,13 +16,14 @@ use Rattle.ob0_parse.proofs.Whole.{indexes_again, module_spelled, texts}
 use Rattle.ob0_scope_table.proofs.FewTokens.{few_tokens}
 use Rattle.ob0_scope_table.specs.DuplicatesAndEndNames.{declaration_faults}
 use Rattle.ob0_scope_table.specs.Resolution.{IsResolution, Resolution, undeclared_faults_by_table}
-use Rattle.ob0_scope_numbering.specs.MarkWalk.{initial_walk_state, visit_module}
+use Rattle.ob0_scope_numbering.specs.MarkWalk.{initial_walk_state}
+use Rattle.ob0_scope_numbering.specs.IdentifierWalk.{visit_module}
 use Rattle.ob0_scope_numbering.specs.Marks.{with_marks}
 use Rattle.ob0_scope_numbering.specs.Written.{original_spellings}
 use Rattle.ob0_scope.proofs.Made.{resolution_made}
 
 abbrev pub OneTree : Type 0
-OneTree = (text : TextWithTokens) (a b : Tree (List ℕ) module_text) → ModuleOf text a → ModuleOf text b → a ≡ b
+OneTree = (text : TextWithTokens) (a b : Tree (List ℕ) module_text) → IsModuleWithTree text a → IsModuleWithTree text b → a ≡ b
 
 -- A parsed module of the text `s`, whose tree is `t`.
 pub record ParsedOf (s : TextWithTokens) (t : Tree (List ℕ) module_text) : Type 0 where
@@ -52,7 +53,7 @@ few_places s t scan spelled =
       length-append (spell (indexed 0 t)) (EndOfText ∷ []),
     )
 
-pub parsed_of : OneTree → (s : TextWithTokens) → IsScan s → (t : Tree (List ℕ) module_text) → ModuleOf s t → ParsedOf s t
+pub parsed_of : OneTree → (s : TextWithTokens) → IsScan s → (t : Tree (List ℕ) module_text) → IsModuleWithTree s t → ParsedOf s t
 parsed_of tree_is_unique s scan t h =
     let made = tree_made (indexed 0 t) (few_places s t scan h.spelled) in
     let x : ModuleTree = made.0 in

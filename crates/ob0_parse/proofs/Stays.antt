@@ -1,9 +1,7 @@
 -- Proves facts about a text whose tokens have the same kinds as before, one by one. It has the same
 -- tree over token indexes, or the parser refuses it at the same token.
-use Rattle.std.proofs.Common.{◌≡◌, ℕ, ◌+◌, ◌≤◌, List, [], ◌∷◌, ◌++◌, map, take, length, refl, sym, ap, ◌∙◌, subst}
+use Rattle.std.proofs.Common.{◌≡◌, ℕ, ◌+◌, ◌≤◌, List, [], ◌∷◌, ◌++◌, map, take, length, sym, ap, ◌∙◌, subst}
 use Rattle.std.proofs.lemmas.List.{map-append, length-map, take-map}
-use Rattle.ob0_scan.specs.declared.lexeme.TokenKind.{TokenKind}
-use Rattle.ob0_scan.specs.declared.lexeme.TokenKind.TheVariants as kind
 use Rattle.ob0_scan.specs.declared.lexeme.Token.{Token}
 use Rattle.ob0_scan.specs.TextWithTokens.{TextWithTokens, max_text_length}
 use Rattle.ob0_scan.specs.Reused.{kind_without_value, kinds}
@@ -11,31 +9,19 @@ use Rattle.ob0_tree.specs.Lexeme.{Terminal, EndOfText, mapped_terminal}
 use Rattle.ob0_tree.specs.Tree.{Tree, module_text, nesting, spell, mapped_tree}
 use Rattle.ob0_tree.specs.Module.{max_nesting, terminals_of_text}
 use Rattle.ob0_tree.specs.ParsedModule.{ParsedModule, IsParsed, tree_of}
-use Rattle.ob0_tree.specs.Places.{indexed_terminal, indexed_terminals_from, indexed_terminals, token_text_at, token_value_at}
+use Rattle.ob0_tree.specs.Places.{indexed_terminals, token_text_at, token_value_at}
 use Rattle.ob0_tree.proofs.Mapped.{nesting_mapped, spell_mapped}
 use Rattle.ob0_tree.proofs.Indexed.{reindexed, reindexed-append, indexed, spell_indexed, nesting_indexed}
-use Rattle.ob0_parse_descent.specs.Descent.{DescendsText, Expects, TooDeepAt}
+use Rattle.ob0_parse_descent.specs.Descent.{TextDescentEndsWith, Expects, TooDeepAt}
 use Rattle.ob0_parse.specs.IsRightParseRefusal.{NoModuleBeginsWithTokens, IsRightParseRefusal}
 use Rattle.ob0_parse_descent.specs.declared.refusal.ParseRefusal.{ParseRefusal}
 use Rattle.ob0_parse_descent.specs.declared.refusal.ParseRefusal.TheVariants.{Syntax, TooDeep, Memory}
-use Rattle.ob0_parse.proofs.Keeping.{by_kind}
+use Rattle.ob0_parse.specs.KeptTokens.{indexed_terminals_of_kinds}
+use Rattle.ob0_parse.proofs.TerminalsOfKinds.{terminals_of_tokens}
 use Rattle.ob0_parse.proofs.Whole.{module_spelled, texts, indexes_again, reindexed-take}
 
--- Returns the tokens with their indexes in place of names and numbers, computed only from their
--- kinds.
-from_kinds : ℕ → List TokenKind → List (Terminal ℕ)
-from_kinds i [] = EndOfText ∷ []
-from_kinds i (k ∷ ks) = indexed_terminal i k ∷ from_kinds (i + 1) ks
-
-by_kinds : (i : ℕ) (ts : List Token) → from_kinds i (kinds ts) ≡ indexed_terminals_from i ts
-unfolding from_kinds
-by_kinds i [] = refl
-by_kinds i (t ∷ ts) =
-    ap (λ x. x ∷ from_kinds (i + 1) (kinds ts)) (by_kind i t.kind)
-    ∙ ap (λ xs. indexed_terminal i t.kind ∷ xs) (by_kinds (i + 1) ts)
-
 same_lexemes : (a b : List Token) → kinds a ≡ kinds b → indexed_terminals a ≡ indexed_terminals b
-same_lexemes a b same = sym (by_kinds 0 a) ∙ ap (from_kinds 0) same ∙ by_kinds 0 b
+same_lexemes a b same = terminals_of_tokens 0 a ∙ ap (λ ks. indexed_terminals_of_kinds 0 ks ++ (EndOfText ∷ [])) same ∙ sym (terminals_of_tokens 0 b)
 
 pub tree_stays : (old new : ParsedModule) → IsParsed old → tree_of new ≡ tree_of old → length new.source.text ≤ max_text_length → kinds new.source.tokens ≡ kinds old.source.tokens → IsParsed new
 tree_stays old new parsed tree short same =
@@ -80,11 +66,11 @@ pub refusal_stays : (old new : TextWithTokens) (e : ParseRefusal) → kinds new.
 refusal_stays old new (Syntax i expected) same by = (
   subst (λ n. i ≤ n) (sym (as_many _ _ same)) by.0,
   none_begins old new i same by.1,
-  subst (λ w. DescendsText w (Expects i expected)) (sym (same_lexemes _ _ same)) by.2,
+  subst (λ w. TextDescentEndsWith w (Expects i expected)) (sym (same_lexemes _ _ same)) by.2,
 )
 refusal_stays old new (TooDeep i) same by = (
   subst (λ n. i ≤ n) (sym (as_many _ _ same)) by.0,
   none_begins old new i same by.1,
-  subst (λ w. DescendsText w (TooDeepAt i)) (sym (same_lexemes _ _ same)) by.2,
+  subst (λ w. TextDescentEndsWith w (TooDeepAt i)) (sym (same_lexemes _ _ same)) by.2,
 )
 refusal_stays old new Memory same by = tt

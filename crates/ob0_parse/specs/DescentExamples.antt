@@ -10,7 +10,7 @@ use Rattle.ob0_scan.specs.declared.lexeme.Symbol.{Symbol}
 use Rattle.ob0_scan.specs.declared.lexeme.Symbol.TheVariants as symbol
 use Rattle.ob0_tree.specs.Lexeme.{Terminal, EndOfText}
 use Rattle.ob0_tree.specs.Places.{indexed_terminal}
-use Rattle.ob0_parse_descent.specs.Descent.{Stop, Done, Expects, TooDeepAt, DescendsText}
+use Rattle.ob0_parse_descent.specs.Descent.{DescentEnd, Done, Expects, TooDeepAt, TextDescentEndsWith}
 use Rattle.ob0_parse_descent.specs.declared.refusal.ExpectedSyntax.TheVariants as expected
 
 -- Returns the tokens of a text as they are spelled by a tree whose leaves are token indexes,
@@ -20,13 +20,13 @@ abbrev pub indexed_text_terminals_of_kinds : ℕ → List TokenKind → List (Te
 indexed_text_terminals_of_kinds i [] = EndOfText ∷ []
 indexed_text_terminals_of_kinds i (k ∷ ks) = indexed_terminal i k ∷ indexed_text_terminals_of_kinds (i + 1) ks
 
--- States that the descent ends with `stop` in a text whose tokens have the kinds `kinds`.
-abbrev pub DescendsTextWithKinds : List TokenKind → Stop → Type 0
-DescendsTextWithKinds kinds stop = DescendsText (indexed_text_terminals_of_kinds 0 kinds) stop
+-- States that the descent through a text whose tokens have the kinds `kinds` has the end `stop`.
+abbrev pub DescentOfKindsEndsWith : List TokenKind → DescentEnd → Type 0
+DescentOfKindsEndsWith kinds stop = TextDescentEndsWith (indexed_text_terminals_of_kinds 0 kinds) stop
 
 -- Returns the kind of a reserved word.
-abbrev pub reserved_kind : ReservedWord → TokenKind
-reserved_kind r = kind.ReservedWord r
+abbrev pub reserved_word_kind : ReservedWord → TokenKind
+reserved_word_kind r = kind.ReservedWord r
 
 -- Returns the kind of a symbol.
 abbrev pub symbol_kind : Symbol → TokenKind
@@ -37,16 +37,16 @@ abbrev pub identifier_kind : TokenKind
 identifier_kind = kind.Identifier
 
 -- The kind of each integer in the examples: the kind of the integer 1. The value doesn't matter.
-abbrev pub integer_kind : TokenKind
-integer_kind = kind.Integer 1
+abbrev pub kind_of_integer_one : TokenKind
+kind_of_integer_one = kind.Integer 1
 
 -- The kinds of the tokens `MODULE M ;`.
-abbrev pub module_head : List TokenKind
-module_head = reserved_kind reserved.Module ∷ identifier_kind ∷ symbol_kind symbol.Semicolon ∷ []
+abbrev pub module_head_kinds : List TokenKind
+module_head_kinds = reserved_word_kind reserved.Module ∷ identifier_kind ∷ symbol_kind symbol.Semicolon ∷ []
 
 -- The kinds of the tokens `END M .`.
-abbrev pub module_end : List TokenKind
-module_end = reserved_kind reserved.End ∷ identifier_kind ∷ symbol_kind symbol.Dot ∷ []
+abbrev pub module_end_kinds : List TokenKind
+module_end_kinds = reserved_word_kind reserved.End ∷ identifier_kind ∷ symbol_kind symbol.Dot ∷ []
 
 -- Returns the list `ks` repeated `n` times.
 abbrev pub repeated_kinds : ℕ → List TokenKind → List TokenKind
@@ -55,63 +55,63 @@ repeated_kinds (suc n) ks = ks ++ repeated_kinds n ks
 
 -- States at which token the descent stops in each example of docs/LANGUAGE.md, and which token or
 -- construct is expected there. In the last example the descent reads the whole text.
-pub record ExamplesStopWhereExpected : Type 0 where
+pub record ExampleDescentsStopWhereExpected : Type 0 where
   -- The empty text: MODULE is expected at its end.
-  pub empty : DescendsTextWithKinds [] (Expects 0 (expected.Word reserved.Module))
+  pub empty : DescentOfKindsEndsWith [] (Expects 0 (expected.Word reserved.Module))
   -- `MODULE M; BEGIN x = 1 END M.`: END is expected at `=`.
-  pub equals_for_becomes : DescendsTextWithKinds
-      (module_head ++ (reserved_kind reserved.Begin ∷ identifier_kind ∷ symbol_kind symbol.Equal ∷ integer_kind ∷ module_end))
+  pub equals_for_becomes : DescentOfKindsEndsWith
+      (module_head_kinds ++ (reserved_word_kind reserved.Begin ∷ identifier_kind ∷ symbol_kind symbol.Equal ∷ kind_of_integer_one ∷ module_end_kinds))
       (Expects 5 (expected.Word reserved.End))
   -- `MODULE M; BEGIN x[0] END M.`: `:=` is expected at END.
-  pub selector_without_becomes : DescendsTextWithKinds (module_head
-      ++ (reserved_kind reserved.Begin
+  pub selector_without_becomes : DescentOfKindsEndsWith (module_head_kinds
+      ++ (reserved_word_kind reserved.Begin
       ∷ identifier_kind
       ∷ symbol_kind symbol.LeftBracket
-      ∷ integer_kind
+      ∷ kind_of_integer_one
       ∷ symbol_kind symbol.RightBracket
-      ∷ module_end)) (Expects 8 (expected.Symbol symbol.Becomes))
+      ∷ module_end_kinds)) (Expects 8 (expected.Symbol symbol.Becomes))
   -- `MODULE M; VAR x INTEGER; END M.`: a colon is expected at INTEGER.
-  pub no_colon : DescendsTextWithKinds
-      (module_head ++ (reserved_kind reserved.Var ∷ identifier_kind ∷ identifier_kind ∷ symbol_kind symbol.Semicolon ∷ module_end))
+  pub no_colon : DescentOfKindsEndsWith
+      (module_head_kinds ++ (reserved_word_kind reserved.Var ∷ identifier_kind ∷ identifier_kind ∷ symbol_kind symbol.Semicolon ∷ module_end_kinds))
       (Expects 5 (expected.Symbol symbol.Colon))
   -- `MODULE M; VAR x: ; END M.`: a type is expected at the second `;`.
-  pub no_type : DescendsTextWithKinds (module_head
-      ++ (reserved_kind reserved.Var ∷ identifier_kind ∷ symbol_kind symbol.Colon ∷ symbol_kind symbol.Semicolon ∷ module_end))
+  pub no_type : DescentOfKindsEndsWith (module_head_kinds
+      ++ (reserved_word_kind reserved.Var ∷ identifier_kind ∷ symbol_kind symbol.Colon ∷ symbol_kind symbol.Semicolon ∷ module_end_kinds))
       (Expects 6 expected.Type)
   -- `MODULE M; END M. x`: the end of the text is expected at `x`.
-  pub token_after_module : DescendsTextWithKinds (module_head ++ (module_end ++ (identifier_kind ∷ [])))
+  pub token_after_module : DescentOfKindsEndsWith (module_head_kinds ++ (module_end_kinds ++ (identifier_kind ∷ [])))
       (Expects 6 expected.EndOfText)
   -- `MODULE M; BEGIN WriteLn END M`: a full stop is expected at the end of the text.
-  pub no_full_stop : DescendsTextWithKinds
-      (module_head ++ (reserved_kind reserved.Begin ∷ identifier_kind ∷ reserved_kind reserved.End ∷ identifier_kind ∷ []))
+  pub no_full_stop : DescentOfKindsEndsWith
+      (module_head_kinds ++ (reserved_word_kind reserved.Begin ∷ identifier_kind ∷ reserved_word_kind reserved.End ∷ identifier_kind ∷ []))
       (Expects 7 (expected.Symbol symbol.Dot))
   -- `MODULE M; VAR UNTIL: INTEGER; END M.`: END is expected at UNTIL.
-  pub reserved_word_as_name : DescendsTextWithKinds (module_head
-      ++ (reserved_kind reserved.Var
-      ∷ reserved_kind reserved.Until
+  pub reserved_word_as_name : DescentOfKindsEndsWith (module_head_kinds
+      ++ (reserved_word_kind reserved.Var
+      ∷ reserved_word_kind reserved.Until
       ∷ symbol_kind symbol.Colon
       ∷ identifier_kind
       ∷ symbol_kind symbol.Semicolon
-      ∷ module_end)) (Expects 4 (expected.Word reserved.End))
+      ∷ module_end_kinds)) (Expects 4 (expected.Word reserved.End))
   -- `MODULE M; BEGIN WriteLn END M.`: the descent reads the whole text.
-  pub whole_module : DescendsTextWithKinds (module_head ++ (reserved_kind reserved.Begin ∷ identifier_kind ∷ module_end)) Done
+  pub whole_module : DescentOfKindsEndsWith (module_head_kinds ++ (reserved_word_kind reserved.Begin ∷ identifier_kind ∷ module_end_kinds)) Done
 
 -- States that the descent stops at the 101st of 101 nested constructs, in three example texts: with
 -- IF statements, with procedures and with array types.
-pub record DeepExamplesStopAtLevel101 : Type 0 where
+pub record DeepExampleDescentsStopAtLevel101 : Type 0 where
   -- The text is `MODULE M; BEGIN`, 101 times `IF TRUE THEN`, 101 times END, and `END M.`
-  pub ifs : DescendsTextWithKinds (module_head
-      ++ (reserved_kind reserved.Begin
-      ∷ (repeated_kinds 101 (reserved_kind reserved.If ∷ identifier_kind ∷ reserved_kind reserved.Then ∷ [])
-      ++ (repeated_kinds 101 (reserved_kind reserved.End ∷ []) ++ module_end)))) (TooDeepAt 304)
+  pub ifs : DescentOfKindsEndsWith (module_head_kinds
+      ++ (reserved_word_kind reserved.Begin
+      ∷ (repeated_kinds 101 (reserved_word_kind reserved.If ∷ identifier_kind ∷ reserved_word_kind reserved.Then ∷ [])
+      ++ (repeated_kinds 101 (reserved_word_kind reserved.End ∷ []) ++ module_end_kinds)))) (TooDeepAt 304)
   -- The text is `MODULE M;`, 101 times `PROCEDURE P;`, 101 times `END P;`, and `END M.`
-  pub procedures : DescendsTextWithKinds (module_head
-      ++ (repeated_kinds 101 (reserved_kind reserved.Procedure ∷ identifier_kind ∷ symbol_kind symbol.Semicolon ∷ [])
-      ++ (repeated_kinds 101 (reserved_kind reserved.End ∷ identifier_kind ∷ symbol_kind symbol.Semicolon ∷ []) ++ module_end))) (TooDeepAt 303)
+  pub procedures : DescentOfKindsEndsWith (module_head_kinds
+      ++ (repeated_kinds 101 (reserved_word_kind reserved.Procedure ∷ identifier_kind ∷ symbol_kind symbol.Semicolon ∷ [])
+      ++ (repeated_kinds 101 (reserved_word_kind reserved.End ∷ identifier_kind ∷ symbol_kind symbol.Semicolon ∷ []) ++ module_end_kinds))) (TooDeepAt 303)
   -- The text is `MODULE M; VAR x:`, 101 times `ARRAY 1 OF`, and `INTEGER; END M.`
-  pub arrays : DescendsTextWithKinds (module_head
-      ++ (reserved_kind reserved.Var
+  pub arrays : DescentOfKindsEndsWith (module_head_kinds
+      ++ (reserved_word_kind reserved.Var
       ∷ identifier_kind
       ∷ symbol_kind symbol.Colon
-      ∷ (repeated_kinds 101 (reserved_kind reserved.Array ∷ integer_kind ∷ reserved_kind reserved.Of ∷ [])
-      ++ (identifier_kind ∷ symbol_kind symbol.Semicolon ∷ module_end)))) (TooDeepAt 306)
+      ∷ (repeated_kinds 101 (reserved_word_kind reserved.Array ∷ kind_of_integer_one ∷ reserved_word_kind reserved.Of ∷ [])
+      ++ (identifier_kind ∷ symbol_kind symbol.Semicolon ∷ module_end_kinds)))) (TooDeepAt 306)

@@ -7,7 +7,7 @@ use Rattle.ob0_tree.specs.Lexeme.{Terminal, EndOfText}
 use Rattle.ob0_tree.specs.Tree.{Tree, module_text, spell, nesting}
 use Rattle.ob0_tree.specs.Module.{max_nesting, terminals_of_text}
 use Rattle.ob0_tree.specs.Places.{indexed_terminals}
-use Rattle.ob0_parse_descent.specs.Descent.{Expects, TooDeepAt, DescendsText}
+use Rattle.ob0_parse_descent.specs.Descent.{Expects, TooDeepAt, TextDescentEndsWith}
 use Rattle.ob0_parse_descent.specs.declared.refusal.ParseRefusal.{ParseRefusal}
 use Rattle.ob0_parse_descent.specs.declared.refusal.ParseRefusal.TheVariants.{Syntax, TooDeep, Memory}
 
@@ -24,7 +24,7 @@ NoModuleBeginsWithTokens s i = (t : Tree (List ℕ) module_text) (more : List (T
 -- the reason that the refusal gives. The refusal `Memory` is always right.
 abbrev pub IsRightParseRefusal : TextWithTokens → ParseRefusal → Type 0
 IsRightParseRefusal s (Syntax i expected) =
-    (i ≤ length s.tokens) × NoModuleBeginsWithTokens s i × DescendsText (indexed_terminals s.tokens) (Expects i expected)
+    (i ≤ length s.tokens) × NoModuleBeginsWithTokens s i × TextDescentEndsWith (indexed_terminals s.tokens) (Expects i expected)
 IsRightParseRefusal s (TooDeep i) =
-    (i ≤ length s.tokens) × NoModuleBeginsWithTokens s i × DescendsText (indexed_terminals s.tokens) (TooDeepAt i)
+    (i ≤ length s.tokens) × NoModuleBeginsWithTokens s i × TextDescentEndsWith (indexed_terminals s.tokens) (TooDeepAt i)
 IsRightParseRefusal s Memory = Unit {0}

@@ -1,22 +1,21 @@
 -- States which results of the parser are right, for a module and for the procedures that are
--- declared directly in it. The parser stores these procedures in `KeptTrees`.
+-- declared directly in it. The parser stores these procedures in a list of their own.
 -- Rule: none; used in private contracts of the parser.
 use Rattle.std.specs.Prelude.{ℕ, List, [], ◌∷◌, Result, Ok, Err, length}
 use Rattle.ob0_scan.specs.declared.lexeme.Token.{Token}
-use Rattle.ob0_tree.specs.declared.tree.Block.{Block}
 use Rattle.ob0_tree.specs.declared.tree.Procedure.{Procedure}
 use Rattle.ob0_tree.specs.Module.{max_nesting}
 use Rattle.ob0_tree.specs.Tree.{procedure, items, block, module_text, Tree, declares, forms_block, is_module}
-use Rattle.ob0_tree.specs.View.{constants_of, types_of, variables_of, items_of, procedure_of, body_of, block_of}
+use Rattle.ob0_tree.specs.View.{constant_section_of, type_section_of, variable_section_of, items_of, procedure_of, body_of}
 use Rattle.ob0_parse_descent.specs.Reading.{nonterminal, text_end, IsReadTree, FailsToRead}
-use Rattle.ob0_parse.specs.declared.parse_module_block.ModuleBlockParts.{ModuleBlockParts}
+use Rattle.ob0_parse.specs.declared.parse_module_block.ModuleBlockWithoutProcedures.{ModuleBlockWithoutProcedures}
 use Rattle.ob0_parse_descent.specs.declared.refusal.ParseRefusal.{ParseRefusal}
 
 -- Returns the tree of a block with the procedures `ps`, and with the sections and body in `parts`.
-abbrev pub block_with_procedures : List Procedure → ModuleBlockParts → Tree ℕ block
+abbrev pub block_with_procedures : List Procedure → ModuleBlockWithoutProcedures → Tree ℕ block
 block_with_procedures ps parts =
     forms_block
-    (declares (constants_of parts.constants) (types_of parts.types) (variables_of parts.variables)
+    (declares (constant_section_of parts.constants) (type_section_of parts.types) (variable_section_of parts.variables)
     (items_of procedure_of ps))
     (body_of parts.body)
 
@@ -27,9 +26,12 @@ abbrev pub ReadsModuleProcedures : List Procedure → List Token → ℕ → Res
 ReadsModuleProcedures ps ts at (Ok next) = IsReadTree (items_of procedure_of ps) max_nesting ts at next
 ReadsModuleProcedures ps ts at (Err e) = FailsToRead (nonterminal (items procedure) max_nesting ∷ []) ts at e
 
--- States that the result of parsing a module is right. The tree of a parsed module spells all the
--- tokens. If the result is a refusal, the tokens can't be read as a module, for the reason that the
--- refusal gives.
-abbrev pub ReadsModule : List Token → Result (ℕ × Block × ℕ) ParseRefusal → Type 0
-ReadsModule ts (Ok x) = IsReadTree (is_module x.0 (block_of x.1) x.2) max_nesting ts 0 (length ts)
-ReadsModule ts (Err e) = FailsToRead (nonterminal module_text max_nesting ∷ text_end ∷ []) ts 0 e
+-- States that the result of parsing a module is right. The tree of a parsed module, with the
+-- procedures `ps`, spells the tokens, from the first to the last. If the result is a refusal, the
+-- tokens can't be read as a module, for the reason that the refusal gives.
+abbrev pub ReadsModule : List Procedure
+    → List Token
+    → Result (ℕ × ModuleBlockWithoutProcedures × ℕ) ParseRefusal
+    → Type 0
+ReadsModule ps ts (Ok x) = IsReadTree (is_module x.0 (block_with_procedures ps x.1) x.2) max_nesting ts 0 (length ts)
+ReadsModule ps ts (Err e) = FailsToRead (nonterminal module_text max_nesting ∷ text_end ∷ []) ts 0 e

@@ -4,30 +4,30 @@
 
 ghost use Rattle.std.specs.Prelude.{ℕ, List};
 ghost use Rattle.ob0_scan.specs.TextWithTokens.{TextWithTokens};
-ghost use Rattle.ob0_tree.specs.Module.{ModuleOf};
+ghost use Rattle.ob0_tree.specs.Module.{IsModuleWithTree};
 ghost use Rattle.ob0_tree.specs.Places.{indexed_terminals};
 ghost use Rattle.ob0_tree.specs.Tree.{Tree, module_text};
-ghost use Rattle.ob0_parse_descent.specs.Descent.{DescendsText, Done, StopIsUnique};
-ghost use Rattle.ob0_parse.specs.DescentExamples.{DeepExamplesStopAtLevel101, ExamplesStopWhereExpected};
+ghost use Rattle.ob0_parse_descent.specs.Descent.{TextDescentEndsWith, Done, DescentEndIsUnique};
+ghost use Rattle.ob0_parse.specs.DescentExamples.{DeepExampleDescentsStopAtLevel101, ExampleDescentsStopWhereExpected};
 
 /// Proves that the tokens determine at which token the descent stops, and which token or construct
 /// is expected there.
-pub fn stop_is_unique()
-    ensures { StopIsUnique }
+pub fn descent_end_is_unique()
+    ensures { DescentEndIsUnique }
 {}
 
 /// Proves that the descent reads each module to its end. So a text in which the descent stops
 /// earlier is no module.
 pub fn descent_reads_modules()
     ensures { (text : TextWithTokens) (tree : Tree (List ℕ) module_text)
-        → ModuleOf text tree
-        → DescendsText (indexed_terminals text.tokens) Done }
+        → IsModuleWithTree text tree
+        → TextDescentEndsWith (indexed_terminals text.tokens) Done }
 {}
 
 /// Proves that the descent stops at the stated tokens in the examples of docs/LANGUAGE.md. With 101
 /// nested IF statements, procedures or array types, it stops at the 101st
-/// (`DeepExamplesStopAtLevel101`).
-pub fn examples_stop_as_stated()
-    ensures expected { ExamplesStopWhereExpected }
-    ensures deep { DeepExamplesStopAtLevel101 }
+/// (`DeepExampleDescentsStopAtLevel101`).
+pub fn example_descents_stop_as_stated()
+    ensures expected { ExampleDescentsStopWhereExpected }
+    ensures deep { DeepExampleDescentsStopAtLevel101 }
 {}

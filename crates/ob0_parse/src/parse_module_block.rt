@@ -1,18 +1,15 @@
 //! Parses a module: its name, its block and its closing name. If procedures or a body from earlier
 //! parses are kept, the parser reuses them.
 
-ghost use Rattle.std.specs.Prelude.{◌≡◌, ◌≤◌, Some, IfSome, length};
-ghost use Rattle.ob0_scan.specs.declared.lexeme.TokenKind.TheVariants as kind;
-ghost use Rattle.ob0_scan.specs.declared.lexeme.ReservedWord.TheVariants as reserved;
+ghost use Rattle.std.specs.Prelude.{◌≡◌, ◌≤◌, All, length};
 ghost use Rattle.ob0_tree.specs.View.{block_of, body_of, procedure_of};
 ghost use Rattle.ob0_tree.specs.Module.{max_nesting};
-ghost use Rattle.ob0_parse_descent.specs.Reading.{Reads, ReadsItem, IsReadTree, TellsIfTokenAt};
-ghost use Rattle.ob0_parse.specs.KeptTokens.{AreKeptTreesInPlace, HoldsForEach, IsOptionalKeptBodyInPlace, IsKeptProcedureInPlace};
+ghost use Rattle.ob0_parse_descent.specs.Reading.{Reads, ReadsItem};
+ghost use Rattle.ob0_parse.specs.KeptTokens.{AreSpelled, IsKeptTreeInPlace};
 ghost use Rattle.ob0_parse.specs.ModuleBlock.{block_with_procedures, ReadsModule, ReadsModuleProcedures};
-ghost use Rattle.ob0_parse.specs.AreKeptTreesInPlaceAfterParse.{AreKeptTreesInPlaceAfterParse};
 
-use crate::kept::take_procedure_at;
-use crate::{KeptBody, KeptProcedure, KeptTrees};
+use crate::kept::{has_reserved_word_at, take_tree_at};
+use crate::{Construct, KeptTree};
 use ob0_parse_descent::{
     ConstructResult, ExpectedSyntax, ItemResult, ParseRefusal, Parser, push_with_doubling,
     syntax_error,
@@ -21,29 +18,31 @@ use ob0_scan::{ReservedWord, Symbol};
 use ob0_tree::{
     Block, Constant, MAX_NESTING, Procedure, Statement, TypeDeclaration, VariableDeclaration,
 };
-use std::mem;
 
 /// Parses the block of a module, its declarations and its body, beginning at the token `at`. Stores
-/// the procedures in `kept.made`. Returns the other parts of the block, and the index of the token
-/// after the block. If the kept body is reused, it is removed from `kept`.
+/// the procedures in `procedures`. Returns the other parts of the block, and the index of the token
+/// after the block. The trees in `kept` that are reused are removed from `kept`.
 fn parse_module_block(
     parser: &Parser<'_>,
     at: usize,
-    kept: &mut KeptTrees,
-) -> ConstructResult<ModuleBlockParts>
+    kept: &mut Vec<KeptTree>,
+    procedures: &mut Vec<Procedure>,
+) -> ConstructResult<ModuleBlockWithoutProcedures>
     requires at { at ≤ length parser.now.tokens.now }
-    requires kept { AreKeptTreesInPlace parser.now.tokens.now kept.old }
-    ensures read { Reads (block_with_procedures kept.new.made.items) max_nesting parser.now.tokens.now at
-        result }
-    ensures stay { AreKeptTreesInPlaceAfterParse parser.now.tokens.now kept.new result }
+    requires kept { All (IsKeptTreeInPlace parser.now.tokens.now) kept.old.items }
+    requires procedures { AreSpelled parser.now.tokens.now procedures.old.items }
+    ensures read { Reads (block_with_procedures procedures.new.items) max_nesting parser.now.tokens.now
+        at result }
+    ensures kept { All (IsKeptTreeInPlace parser.now.tokens.now) kept.new.items }
+    ensures procedures { AreSpelled parser.now.tokens.now procedures.new.items }
 {
-    let (constants, next) = parser.parse_constants(at, MAX_NESTING)?;
-    let (types, next) = parser.parse_types(next, MAX_NESTING)?;
-    let (variables, next) = parser.parse_variables(next, MAX_NESTING)?;
-    let next = parse_module_procedures(parser, next, kept)?;
-    let (body, next) = parse_module_body(parser, next, &mut kept.body)?;
+    let (constants, next) = parser.parse_constant_section(at, MAX_NESTING)?;
+    let (types, next) = parser.parse_type_section(next, MAX_NESTING)?;
+    let (variables, next) = parser.parse_variable_section(next, MAX_NESTING)?;
+    let next = parse_module_procedures(parser, next, kept, procedures)?;
+    let (body, next) = parse_module_body(parser, next, kept)?;
     Ok((
-        ModuleBlockParts {
+        ModuleBlockWithoutProcedures {
             constants,
             types,
             variables,
@@ -54,133 +53,115 @@ fn parse_module_block(
 }
 
 /// Parses the procedures that are declared directly in a module, `{procedure ";"}`, beginning at
-/// the token `at`. Stores the procedures in `kept.made`, and returns the index of the token after
-/// them.
+/// the token `at`. Stores them in `procedures`, and returns the index of the token after them. If
+/// the result is a refusal, `procedures` has the procedures before the refused token.
 fn parse_module_procedures(
     parser: &Parser<'_>,
     at: usize,
-    kept: &mut KeptTrees,
+    kept: &mut Vec<KeptTree>,
+    procedures: &mut Vec<Procedure>,
 ) -> Result<usize, ParseRefusal>
     requires at { at ≤ length parser.now.tokens.now }
-    requires kept { AreKeptTreesInPlace parser.now.tokens.now kept.old }
-    ensures read { ReadsModuleProcedures kept.new.made.items parser.now.tokens.now at result }
-    ensures stay { AreKeptTreesInPlaceAfterParse parser.now.tokens.now kept.new result }
+    requires kept { All (IsKeptTreeInPlace parser.now.tokens.now) kept.old.items }
+    ensures read { ReadsModuleProcedures procedures.new.items parser.now.tokens.now at result }
+    ensures kept { All (IsKeptTreeInPlace parser.now.tokens.now) kept.new.items }
+    ensures procedures { AreSpelled parser.now.tokens.now procedures.new.items }
 {
-    kept.made.clear();
+    procedures.clear();
     let mut next = at;
-    while let Some((procedure, end)) = next_module_procedure(parser, next, &mut kept.waiting)? {
-        push_with_doubling(&mut kept.made, procedure)?;
+    while let Some((procedure, end)) = parse_or_reuse_module_procedure(parser, next, kept)? {
+        push_with_doubling(procedures, procedure)?;
         next = end;
     }
     Ok(next)
 }
 
-/// Returns the procedure that begins at the token `at`, and the index of the token after it. If a
-/// procedure in `waiting` begins at that token, it is reused. Otherwise the procedure is parsed.
-/// Returns None if that token isn't PROCEDURE.
-fn next_module_procedure(
+/// Returns the procedure that begins at the token `at`, and the index of the token after it. If the
+/// procedure is in `kept`, it is reused, otherwise it is parsed. Returns None if the token at `at`
+/// isn't PROCEDURE.
+fn parse_or_reuse_module_procedure(
     parser: &Parser<'_>,
     at: usize,
-    waiting: &mut Vec<KeptProcedure>,
+    kept: &mut Vec<KeptTree>,
 ) -> ItemResult<Procedure>
     requires at { at ≤ length parser.now.tokens.now }
-    requires waiting { HoldsForEach (IsKeptProcedureInPlace parser.now.tokens.now) waiting.old.items }
+    requires kept { All (IsKeptTreeInPlace parser.now.tokens.now) kept.old.items }
     ensures read { ReadsItem procedure_of max_nesting parser.now.tokens.now at result }
-    ensures waiting { HoldsForEach (IsKeptProcedureInPlace parser.now.tokens.now) waiting.new.items }
+    ensures kept { All (IsKeptTreeInPlace parser.now.tokens.now) kept.new.items }
 {
-    match take_procedure_at(waiting, at) {
-        Some(taken) => Ok(Some(taken)),
-        None => parser.parse_procedure(at, MAX_NESTING),
+    if !has_reserved_word_at(parser, at, ReservedWord::Procedure) {
+        return Ok(None);
+    }
+    let Some((construct, next)) = take_tree_at(parser, kept, at) else {
+        return parser.parse_procedure(at, MAX_NESTING);
+    };
+    match construct {
+        Construct::Procedure(procedure) => Ok(Some((procedure, next))),
+        Construct::Body(_statements) => parser.parse_procedure(at, MAX_NESTING),
     }
 }
 
-/// Returns the body that begins at the token `at`, and the index of the token after it. If the kept
-/// body begins at that token and is followed by END, it is reused. Otherwise the body is parsed.
-/// The returned body is None if that token isn't BEGIN.
+/// Returns the body that begins at the token `at`, and the index of the token after it. If the body
+/// is in `kept`, it is reused, otherwise it is parsed. The returned body is None if the token isn't
+/// BEGIN.
 fn parse_module_body(
     parser: &Parser<'_>,
     at: usize,
-    kept: &mut Option<KeptBody>,
+    kept: &mut Vec<KeptTree>,
 ) -> ConstructResult<Option<Vec<Statement>>>
     requires at { at ≤ length parser.now.tokens.now }
-    requires kept { IsOptionalKeptBodyInPlace parser.now.tokens.now kept.old }
+    requires kept { All (IsKeptTreeInPlace parser.now.tokens.now) kept.old.items }
     ensures read { Reads body_of max_nesting parser.now.tokens.now at result }
-    ensures stay { IsOptionalKeptBodyInPlace parser.now.tokens.now kept.new }
+    ensures kept { All (IsKeptTreeInPlace parser.now.tokens.now) kept.new.items }
 {
-    match take_kept_body(parser, at, kept) {
-        Some((statements, next)) => Ok((Some(statements), next)),
-        None => parser.parse_body(at, MAX_NESTING),
+    let Some((construct, next)) = take_tree_at(parser, kept, at) else {
+        return parser.parse_body(at, MAX_NESTING);
+    };
+    match construct {
+        Construct::Body(statements) => Ok((Some(statements), next)),
+        Construct::Procedure(_procedure) => parser.parse_body(at, MAX_NESTING),
     }
 }
 
-/// If the kept body begins at the token `at` and END follows its statements, removes the body from
-/// `kept`, and returns its statements and the index of that END. Otherwise returns None and leaves
-/// the body in `kept`: the text may have a syntax error before BEGIN or END, and the body can be
-/// reused when the error is fixed.
-fn take_kept_body(
-    parser: &Parser<'_>,
-    at: usize,
-    kept: &mut Option<KeptBody>,
-) -> Option<(Vec<Statement>, usize)>
-    requires kept { IsOptionalKeptBodyInPlace parser.now.tokens.now kept.old }
-    ensures taken { IfSome result (λ x.
-        IsReadTree (body_of (Some x.0)) max_nesting parser.now.tokens.now at x.1) }
-    ensures stay { IsOptionalKeptBodyInPlace parser.now.tokens.now kept.new }
-{
-    let body = kept.take()?;
-    if body.at == at && has_end_word_at(parser, body.next) {
-        return Some(body.move_leaves());
-    }
-    *kept = Some(body);
-    None
-}
-
-/// Returns whether the token at `at` is the reserved word END.
-fn has_end_word_at(parser: &Parser<'_>, at: usize) -> bool
-    requires { at ≤ length parser.now.tokens.now }
-    ensures { TellsIfTokenAt (kind.ReservedWord reserved.End) parser.now.tokens.now at result }
-{
-    parser.expect_word(at, ReservedWord::End).is_ok()
-}
-
-/// Parses all tokens as a module, reusing trees that are in `kept`. Returns the token index of the
-/// module's name, the module's block, and the token index of the closing name.
+/// Parses all tokens as a module, reusing trees that are in `kept`. Stores the procedures in
+/// `procedures`. Returns the token index of the module's name, the other parts of the module's
+/// block, and the token index of the closing name.
 pub(crate) fn parse_module(
     parser: &Parser<'_>,
-    kept: &mut KeptTrees,
-) -> Result<(usize, Block, usize), ParseRefusal>
-    requires { AreKeptTreesInPlace parser.now.tokens.now kept.old }
-    ensures read { ReadsModule parser.now.tokens.now result }
-    ensures stay { AreKeptTreesInPlaceAfterParse parser.now.tokens.now kept.new result }
+    kept: &mut Vec<KeptTree>,
+    procedures: &mut Vec<Procedure>,
+) -> Result<(usize, ModuleBlockWithoutProcedures, usize), ParseRefusal>
+    requires kept { All (IsKeptTreeInPlace parser.now.tokens.now) kept.old.items }
+    requires procedures { AreSpelled parser.now.tokens.now procedures.old.items }
+    ensures read { ReadsModule procedures.new.items parser.now.tokens.now result }
+    ensures kept { All (IsKeptTreeInPlace parser.now.tokens.now) kept.new.items }
+    ensures procedures { AreSpelled parser.now.tokens.now procedures.new.items }
 {
-    let start = parser.expect_word(0, ReservedWord::Module)?;
+    let start = parser.expect_reserved_word(0, ReservedWord::Module)?;
     let (name, next) = parser.expect_identifier(start)?;
     let inside = parser.expect_symbol(next, Symbol::Semicolon)?;
-    let (parts, next) = parse_module_block(parser, inside, kept)?;
-    let last = parser.expect_word(next, ReservedWord::End)?;
+    let (parts, next) = parse_module_block(parser, inside, kept, procedures)?;
+    let last = parser.expect_reserved_word(next, ReservedWord::End)?;
     let (closing, next) = parser.expect_identifier(last)?;
     let end = parser.expect_symbol(next, Symbol::Dot)?;
     match parser.kind(end) {
         Some(_) => syntax_error(end, ExpectedSyntax::EndOfText),
-        None => {
-            let made = mem::replace(&mut kept.made, Vec::new(parser.alloc));
-            Ok((name, parts.into_block_with(made), closing))
-        }
+        None => Ok((name, parts, closing)),
     }
 }
 
 /// The parts of a module's block except its procedures.
 #[derive(Drop)]
-struct ModuleBlockParts {
+pub(crate) struct ModuleBlockWithoutProcedures {
     constants: Option<Vec<Constant>>,
     types: Option<Vec<TypeDeclaration>>,
     variables: Option<Vec<VariableDeclaration>>,
     body: Option<Vec<Statement>>,
 }
 
-impl ModuleBlockParts {
+impl ModuleBlockWithoutProcedures {
     /// Returns the block with these parts and the given procedures.
-    fn into_block_with(self, procedures: Vec<Procedure>) -> Block
+    pub(crate) fn into_block_with_procedures(self, procedures: Vec<Procedure>) -> Block
         ensures { block_of result ≡ block_with_procedures procedures.items self }
     {
         Block {

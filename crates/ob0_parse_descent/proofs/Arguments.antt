@@ -6,8 +6,8 @@ use Rattle.ob0_scan.specs.declared.lexeme.Symbol.TheVariants as symbol
 use Rattle.ob0_scan.specs.declared.lexeme.Token.{Token}
 use Rattle.ob0_tree.specs.Lexeme.{Terminal, Name, Number, WordOrSymbol, EndOfText}
 use Rattle.ob0_tree.specs.Tree.{arguments, further_argument, expression, simple, term, factor, compares, sum, product, designator, integer, parenthesised, negation, no_arguments, some_arguments, item, items, Tree, spell, single_token_list}
-use Rattle.ob0_parse_descent.specs.Follow.{NextHasRank, may_begin_expression}
-use Rattle.ob0_parse_descent.specs.Reading.{rest, terminal_or_end, ProductionPart, token, nonterminal, BeginsWithParts, HaveSameFirstToken, DescentsEndWithSameStop, IsReadTree, FailsToRead, ItemBeginsButCantBeRead, IsReadList}
+use Rattle.ob0_parse_descent.specs.Follow.{NextTokenHasRank, may_begin_expression}
+use Rattle.ob0_parse_descent.specs.Reading.{rest, terminal_or_end, ProductionPart, token, nonterminal, BeginsWithParts, HaveSameFirstToken, DescentsHaveSameEnd, IsReadTree, FailsToRead, ItemBeginsButCantBeRead, IsReadList}
 use Rattle.ob0_parse_descent.specs.Descent.{parts, symbol_part, is_expression_next}
 use Rattle.ob0_parse_descent.proofs.Descent.{both, by, read_mark, read_led}
 use Rattle.ob0_parse_descent.specs.declared.refusal.ParseRefusal.{ParseRefusal}
@@ -65,7 +65,7 @@ true_false p q = let e = sym p ∙ q in cc
 
 -- The token after `(` determines the production of the arguments.
 arguments_read : {room : ℕ} {ts : List Token} {at : ℕ} {b : Bool} → is_expression_next (rest ts (at + 1)) ≡ b → rest ts at ≡ WordOrSymbol (kind.Symbol symbol.LeftParen) ∷ rest ts (at + 1)
-    → DescentsEndWithSameStop (nonterminal (item arguments) room ∷ []) (if b then nonterminal expression room ∷ nonterminal (items further_argument) room ∷ token (kind.Symbol symbol.RightParen) ∷ [] else token (kind.Symbol symbol.RightParen) ∷ []) ts at (at + 1)
+    → DescentsHaveSameEnd (nonterminal (item arguments) room ∷ []) (if b then nonterminal expression room ∷ nonterminal (items further_argument) room ∷ token (kind.Symbol symbol.RightParen) ∷ [] else token (kind.Symbol symbol.RightParen) ∷ []) ts at (at + 1)
 arguments_read {room = room} {ts = ts} {at = at} {b = true} e here = read_led (nonterminal expression room ∷ nonterminal (items further_argument) room ∷ token (kind.Symbol symbol.RightParen) ∷ [])
     (ap (λ b. if b then parts (symbol_part symbol.LeftParen ∷ nonterminal expression room ∷ nonterminal (items further_argument) room ∷ symbol_part symbol.RightParen ∷ []) else parts (symbol_part symbol.LeftParen ∷ symbol_part symbol.RightParen ∷ [])) e) here
 arguments_read {room = room} {ts = ts} {at = at} {b = false} e here = read_led (token (kind.Symbol symbol.RightParen) ∷ [])
@@ -86,7 +86,7 @@ none_parts room i f xs y w closed here h (some_arguments a es, z, e, n, s, b) =
 
 pub arguments_fail_none : {room : ℕ} {ts : List Token} {at : ℕ} {e : ParseRefusal} (f : Option TokenKind) → may_begin_expression f ≡ false → rest ts (at + 1) ≡ terminal_or_end (at + 1) f ∷ rest ts (at + 1 + 1) → rest ts at ≡ WordOrSymbol (kind.Symbol symbol.LeftParen) ∷ rest ts (at + 1) → FailsToRead (token (kind.Symbol symbol.RightParen) ∷ []) ts (at + 1) e → ItemBeginsButCantBeRead arguments room ts at e
 arguments_fail_none {room = room} {ts = ts} {at = at} f closed first here q = record {
-  is_here = subst (λ y. NextHasRank 6 y) (sym here) refl;
+  is_here = subst (λ y. NextTokenHasRank 6 y) (sym here) refl;
   fails = fails_following_alike {qs = token (kind.Symbol symbol.RightParen) ∷ []} (arguments_read (expression_next ts (at + 1) f closed first) here) here (λ w h b. none_parts room (at + 1) f (rest ts (at + 1)) _ w closed first h b) q;
 }
 
@@ -106,7 +106,7 @@ some_parts room i f xs y w opened here h (some_arguments a es, z, e, n, s, b) = 
 
 pub arguments_fail : {room : ℕ} {ts : List Token} {at : ℕ} {e : ParseRefusal} (f : Option TokenKind) → may_begin_expression f ≡ true → rest ts (at + 1) ≡ terminal_or_end (at + 1) f ∷ rest ts (at + 1 + 1) → rest ts at ≡ WordOrSymbol (kind.Symbol symbol.LeftParen) ∷ rest ts (at + 1) → FailsToRead (arguments_following room) ts (at + 1) e → ItemBeginsButCantBeRead arguments room ts at e
 arguments_fail {room = room} {ts = ts} {at = at} f opened first here q = record {
-  is_here = subst (λ y. NextHasRank 6 y) (sym here) refl;
+  is_here = subst (λ y. NextTokenHasRank 6 y) (sym here) refl;
   fails = fails_following_alike {qs = arguments_following room} (arguments_read (expression_next ts (at + 1) f opened first) here) here (λ w h b. some_parts room (at + 1) f (rest ts (at + 1)) _ w opened first h b) q;
 }
 

@@ -7,7 +7,7 @@ use Rattle.ob0_scan.specs.declared.lexeme.Symbol.{Symbol}
 use Rattle.ob0_scan.specs.declared.lexeme.Symbol.TheVariants as symbol
 use Rattle.ob0_tree.specs.Lexeme.{Terminal, Name, Number, WordOrSymbol, EndOfText}
 use Rattle.ob0_tree.specs.Tree.{Sort}
-use Rattle.ob0_parse_descent.specs.Descent.{ProductionPart, token, name, number, nonterminal, text_end, ProductionChoice, parts, missing, too_deep, chosen_production, Stop, Done, Expects, TooDeepAt, Descends, done, taken, other, made, absent, deep}
+use Rattle.ob0_parse_descent.specs.Descent.{ProductionPart, token, name, number, nonterminal, text_end, ProductionChoice, parts, missing, too_deep, chosen_production, DescentEnd, Done, Expects, TooDeepAt, Descends, done, taken, other, made, absent, deep}
 use Rattle.ob0_parse_descent.specs.declared.refusal.ExpectedSyntax.TheVariants as expected
 
 -- Numbers the reserved words and symbols, so that they can be compared.
@@ -158,15 +158,15 @@ abbrev pub is_sign : Symbol → Terminal ℕ → Bool
 is_sign w (WordOrSymbol (kind.Symbol v)) = sign_code w == sign_code v
 is_sign w x = false
 
-abbrev pub stop_of : ℕ → List ProductionPart → ℕ → List (Terminal ℕ) → Option Stop
+abbrev pub stop_of : ℕ → List ProductionPart → ℕ → List (Terminal ℕ) → Option DescentEnd
 stop_of zero ps i tokens = None
 stop_of (suc n) [] i tokens = Some Done
 stop_of (suc n) (nonterminal s room ∷ ps) i tokens =
-    elim (chosen_production s room tokens) as (λ c. Option Stop) [ parts qs ↦ stop_of n (qs ++ ps) i tokens | missing e ↦ Some (Expects i e) | too_deep ↦ Some (TooDeepAt i) ]
+    elim (chosen_production s room tokens) as (λ c. Option DescentEnd) [ parts qs ↦ stop_of n (qs ++ ps) i tokens | missing e ↦ Some (Expects i e) | too_deep ↦ Some (TooDeepAt i) ]
 stop_of (suc n) (token (kind.ReservedWord w) ∷ ps) i (x ∷ tokens) =
-    elim (is_word w x) as (λ b. Option Stop) [ true ↦ stop_of n ps (i + 1) tokens | false ↦ Some (Expects i (expected.Word w)) ]
+    elim (is_word w x) as (λ b. Option DescentEnd) [ true ↦ stop_of n ps (i + 1) tokens | false ↦ Some (Expects i (expected.Word w)) ]
 stop_of (suc n) (token (kind.Symbol w) ∷ ps) i (x ∷ tokens) =
-    elim (is_sign w x) as (λ b. Option Stop) [ true ↦ stop_of n ps (i + 1) tokens | false ↦ Some (Expects i (expected.Symbol w)) ]
+    elim (is_sign w x) as (λ b. Option DescentEnd) [ true ↦ stop_of n ps (i + 1) tokens | false ↦ Some (Expects i (expected.Symbol w)) ]
 stop_of (suc n) (name ∷ ps) i (Name m ∷ tokens) = stop_of n ps (i + 1) tokens
 stop_of (suc n) (name ∷ ps) i (Number m ∷ tokens) = Some (Expects i expected.Identifier)
 stop_of (suc n) (name ∷ ps) i (WordOrSymbol k ∷ tokens) = Some (Expects i expected.Identifier)
@@ -178,10 +178,10 @@ stop_of (suc n) (text_end ∷ ps) i (Number m ∷ tokens) = Some (Expects i expe
 stop_of (suc n) (text_end ∷ ps) i (WordOrSymbol k ∷ tokens) = Some (Expects i expected.EndOfText)
 stop_of (suc n) (p ∷ ps) i tokens = None
 
-none_some : {o : Stop} → ◌≡◌ {A = Option Stop} None (Some o) → ⊥
+none_some : {o : DescentEnd} → ◌≡◌ {A = Option DescentEnd} None (Some o) → ⊥
 none_some e = cc
 
-same_stop : {a b : Stop} → Some a ≡ Some b → a ≡ b
+same_stop : {a b : DescentEnd} → Some a ≡ Some b → a ≡ b
 same_stop e = cc
 
 word_is : (w : ReservedWord) (x : Terminal ℕ) → is_word w x ≡ true → x ≡ WordOrSymbol (kind.ReservedWord w)
@@ -198,38 +198,38 @@ sign_is w x e = absurd (true≢false (sym e))
 sign_isnt : (w : Symbol) (x : Terminal ℕ) → is_sign w x ≡ false → x ≡ WordOrSymbol (kind.Symbol w) → ⊥
 sign_isnt w x e is = true≢false (sym (eq-eqb (sign_code w) (sign_code w) refl) ∙ (ap (is_sign w) (sym is) ∙ e))
 
-module _ (n : ℕ) (further : (ps : List ProductionPart) (i : ℕ) (tokens : List (Terminal ℕ)) (o : Stop) → stop_of n ps i tokens ≡ Some o → Descends ps i tokens o) where
-  by_choice : (s : Sort) (room : ℕ) (ps : List ProductionPart) (i : ℕ) (tokens : List (Terminal ℕ)) (o : Stop) (c : ProductionChoice) → chosen_production s room tokens ≡ c
-      → elim c as (λ c. Option Stop) [ parts qs ↦ stop_of n (qs ++ ps) i tokens | missing e ↦ Some (Expects i e) | too_deep ↦ Some (TooDeepAt i) ] ≡ Some o → Descends (nonterminal s room ∷ ps) i tokens o
+module _ (n : ℕ) (further : (ps : List ProductionPart) (i : ℕ) (tokens : List (Terminal ℕ)) (o : DescentEnd) → stop_of n ps i tokens ≡ Some o → Descends ps i tokens o) where
+  by_choice : (s : Sort) (room : ℕ) (ps : List ProductionPart) (i : ℕ) (tokens : List (Terminal ℕ)) (o : DescentEnd) (c : ProductionChoice) → chosen_production s room tokens ≡ c
+      → elim c as (λ c. Option DescentEnd) [ parts qs ↦ stop_of n (qs ++ ps) i tokens | missing e ↦ Some (Expects i e) | too_deep ↦ Some (TooDeepAt i) ] ≡ Some o → Descends (nonterminal s room ∷ ps) i tokens o
   by_choice s room ps i tokens o (parts qs) c e = made qs c (further (qs ++ ps) i tokens o e)
   by_choice s room ps i tokens o (missing x) c e = subst (λ y. Descends (nonterminal s room ∷ ps) i tokens y) (same_stop e) (absent c)
   by_choice s room ps i tokens o too_deep c e = subst (λ y. Descends (nonterminal s room ∷ ps) i tokens y) (same_stop e) (deep c)
 
-  by_word : (w : ReservedWord) (ps : List ProductionPart) (i : ℕ) (x : Terminal ℕ) (tokens : List (Terminal ℕ)) (o : Stop) (b : Bool) → is_word w x ≡ b
-      → elim b as (λ b. Option Stop) [ true ↦ stop_of n ps (i + 1) tokens | false ↦ Some (Expects i (expected.Word w)) ] ≡ Some o → Descends (token (kind.ReservedWord w) ∷ ps) i (x ∷ tokens) o
+  by_word : (w : ReservedWord) (ps : List ProductionPart) (i : ℕ) (x : Terminal ℕ) (tokens : List (Terminal ℕ)) (o : DescentEnd) (b : Bool) → is_word w x ≡ b
+      → elim b as (λ b. Option DescentEnd) [ true ↦ stop_of n ps (i + 1) tokens | false ↦ Some (Expects i (expected.Word w)) ] ≡ Some o → Descends (token (kind.ReservedWord w) ∷ ps) i (x ∷ tokens) o
   by_word w ps i x tokens o true is e = taken (word_is w x is) (further ps (i + 1) tokens o e)
   by_word w ps i x tokens o false is e = subst (λ y. Descends (token (kind.ReservedWord w) ∷ ps) i (x ∷ tokens) y) (same_stop e) (other (word_isnt w x is) refl)
 
-  by_sign : (w : Symbol) (ps : List ProductionPart) (i : ℕ) (x : Terminal ℕ) (tokens : List (Terminal ℕ)) (o : Stop) (b : Bool) → is_sign w x ≡ b
-      → elim b as (λ b. Option Stop) [ true ↦ stop_of n ps (i + 1) tokens | false ↦ Some (Expects i (expected.Symbol w)) ] ≡ Some o → Descends (token (kind.Symbol w) ∷ ps) i (x ∷ tokens) o
+  by_sign : (w : Symbol) (ps : List ProductionPart) (i : ℕ) (x : Terminal ℕ) (tokens : List (Terminal ℕ)) (o : DescentEnd) (b : Bool) → is_sign w x ≡ b
+      → elim b as (λ b. Option DescentEnd) [ true ↦ stop_of n ps (i + 1) tokens | false ↦ Some (Expects i (expected.Symbol w)) ] ≡ Some o → Descends (token (kind.Symbol w) ∷ ps) i (x ∷ tokens) o
   by_sign w ps i x tokens o true is e = taken (sign_is w x is) (further ps (i + 1) tokens o e)
   by_sign w ps i x tokens o false is e = subst (λ y. Descends (token (kind.Symbol w) ∷ ps) i (x ∷ tokens) y) (same_stop e) (other (sign_isnt w x is) refl)
 
-  by_name : (ps : List ProductionPart) (i : ℕ) (tokens : List (Terminal ℕ)) (o : Stop) → stop_of (suc n) (name ∷ ps) i tokens ≡ Some o → Descends (name ∷ ps) i tokens o
+  by_name : (ps : List ProductionPart) (i : ℕ) (tokens : List (Terminal ℕ)) (o : DescentEnd) → stop_of (suc n) (name ∷ ps) i tokens ≡ Some o → Descends (name ∷ ps) i tokens o
   by_name ps i [] o e = absurd (none_some e)
   by_name ps i (Name m ∷ tokens) o e = taken (m, refl) (further ps (i + 1) tokens o e)
   by_name ps i (x ∷ tokens) o e = subst (λ y. Descends (name ∷ ps) i (x ∷ tokens) y) (same_stop e) (other (λ p. cc (p.1)) refl)
 
-  by_number : (ps : List ProductionPart) (i : ℕ) (tokens : List (Terminal ℕ)) (o : Stop) → stop_of (suc n) (number ∷ ps) i tokens ≡ Some o → Descends (number ∷ ps) i tokens o
+  by_number : (ps : List ProductionPart) (i : ℕ) (tokens : List (Terminal ℕ)) (o : DescentEnd) → stop_of (suc n) (number ∷ ps) i tokens ≡ Some o → Descends (number ∷ ps) i tokens o
   by_number ps i (Number m ∷ tokens) o e = taken (m, refl) (further ps (i + 1) tokens o e)
   by_number ps i tokens o e = absurd (none_some e)
 
-  by_finish : (ps : List ProductionPart) (i : ℕ) (tokens : List (Terminal ℕ)) (o : Stop) → stop_of (suc n) (text_end ∷ ps) i tokens ≡ Some o → Descends (text_end ∷ ps) i tokens o
+  by_finish : (ps : List ProductionPart) (i : ℕ) (tokens : List (Terminal ℕ)) (o : DescentEnd) → stop_of (suc n) (text_end ∷ ps) i tokens ≡ Some o → Descends (text_end ∷ ps) i tokens o
   by_finish ps i [] o e = absurd (none_some e)
   by_finish ps i (EndOfText ∷ tokens) o e = taken refl (further ps (i + 1) tokens o e)
   by_finish ps i (x ∷ tokens) o e = subst (λ y. Descends (text_end ∷ ps) i (x ∷ tokens) y) (same_stop e) (other (λ p. cc p) refl)
 
-pub computed : (n : ℕ) (ps : List ProductionPart) (i : ℕ) (tokens : List (Terminal ℕ)) (o : Stop) → stop_of n ps i tokens ≡ Some o → Descends ps i tokens o
+pub computed : (n : ℕ) (ps : List ProductionPart) (i : ℕ) (tokens : List (Terminal ℕ)) (o : DescentEnd) → stop_of n ps i tokens ≡ Some o → Descends ps i tokens o
 computed zero ps i tokens o e = absurd (none_some e)
 computed (suc n) [] i tokens o e = subst (λ y. Descends [] i tokens y) (same_stop e) done
 computed (suc n) (nonterminal s room ∷ ps) i tokens o e = by_choice n (computed n) s room ps i tokens o (chosen_production s room tokens) refl e

@@ -8,8 +8,8 @@ use Rattle.ob0_scan.specs.declared.lexeme.Token.{Token}
 use Rattle.ob0_tree.specs.Lexeme.{Terminal, Name, WordOrSymbol, EndOfText}
 use Rattle.ob0_tree.specs.Tree.{formals, further_section, constant, constants, type_definition, type_definitions, variable, variables, procedure, body, expression, names, written_type, fields, section, block, module_text, some_fields, listed, no_formals, some_formals, value_section, variable_section, declares_constant, declares_type, declares_variable, declares_procedure, declares, forms_block, is_module, item, items, maybe, Tree, spell, single_token_list}
 use Rattle.ob0_tree.specs.Places.{indexed_terminal}
-use Rattle.ob0_parse_descent.specs.Follow.{rank, EndsConstruct, NextHasRank}
-use Rattle.ob0_parse_descent.specs.Reading.{rest, ProductionPart, token, name, nonterminal, text_end, BeginsWithParts, HaveSameFirstToken, DescentsEndWithSameStop, IsReadTree, FailsToRead, ItemBeginsButCantBeRead, IsTokenOtherThan, IsNotIdentifier, TellsIfTokenAt, TellsIfIdentifierAt, TellsIfParameterSectionMayBegin, IsReadList}
+use Rattle.ob0_parse_descent.specs.Follow.{rank, NextTokenEndsConstruct, NextTokenHasRank}
+use Rattle.ob0_parse_descent.specs.Reading.{rest, ProductionPart, token, name, nonterminal, text_end, BeginsWithParts, HaveSameFirstToken, DescentsHaveSameEnd, IsReadTree, FailsToRead, ItemBeginsButCantBeRead, IsTokenOtherThan, IsNotIdentifier, TellsIfTokenAt, TellsIfIdentifierAt, TellsIfParameterSectionMayBegin, IsReadList}
 use Rattle.ob0_parse_descent.specs.Descent.{parts, symbol_part, is_parameter_section_next, chosen_production, made, deep}
 use Rattle.ob0_parse_descent.specs.declared.refusal.ExpectedSyntax.TheVariants as expected
 use Rattle.ob0_parse_descent.proofs.Descent.{both, by, read_name, read_mark, read_made, read_led, read_opened, read_back, unmade}
@@ -27,7 +27,7 @@ use Rattle.ob0_parse_descent.proofs.Apart.{name_not_mark}
 -- Lemmas on sections of parameters: `[VAR] names ":" type`.
 
 -- If names, a colon and a type were read as a group of fields, the descent reads these three parts.
-typed_read : {room : ℕ} {ts : List Token} {at n : ℕ} (ns : Tree ℕ names) (t : Tree ℕ written_type) → IsReadTree (some_fields ns t) room ts at n → DescentsEndWithSameStop (typed_following room) [] ts at n
+typed_read : {room : ℕ} {ts : List Token} {at n : ℕ} (ns : Tree ℕ names) (t : Tree ℕ written_type) → IsReadTree (some_fields ns t) room ts at n → DescentsHaveSameEnd (typed_following room) [] ts at n
 typed_read {room = room} ns t p = read_back (chosen_fields room ns _ (p.spelled ∙ append_assoc (spell ns) _ _)) p.reads
 
 pub chosen_typed : {xs : List (Terminal ℕ)} (room : ℕ) (ns : Tree ℕ names) (z : List (Terminal ℕ)) → xs ≡ spell ns ++ z → chosen_production section room xs ≡ parts (typed_following room)
@@ -63,7 +63,7 @@ abbrev pub formals_following : ℕ → List ProductionPart
 formals_following room = nonterminal section room ∷ nonterminal (items further_section) room ∷ token (kind.Symbol symbol.RightParen) ∷ []
 
 -- The token after `(` determines the production of formal parameters.
-formals_read : {room : ℕ} {ts : List Token} {at : ℕ} {b : Bool} → is_parameter_section_next (rest ts (at + 1)) ≡ b → rest ts at ≡ WordOrSymbol (kind.Symbol symbol.LeftParen) ∷ rest ts (at + 1) → DescentsEndWithSameStop (nonterminal (item formals) room ∷ []) (if b then formals_following room else token (kind.Symbol symbol.RightParen) ∷ []) ts at (at + 1)
+formals_read : {room : ℕ} {ts : List Token} {at : ℕ} {b : Bool} → is_parameter_section_next (rest ts (at + 1)) ≡ b → rest ts at ≡ WordOrSymbol (kind.Symbol symbol.LeftParen) ∷ rest ts (at + 1) → DescentsHaveSameEnd (nonterminal (item formals) room ∷ []) (if b then formals_following room else token (kind.Symbol symbol.RightParen) ∷ []) ts at (at + 1)
 formals_read {room = room} {b = true} e here = read_led (formals_following room) (ap (λ c. if c then parts (symbol_part symbol.LeftParen ∷ formals_following room) else parts (symbol_part symbol.LeftParen ∷ symbol_part symbol.RightParen ∷ [])) e) here
 formals_read {room = room} {b = false} e here = read_led (token (kind.Symbol symbol.RightParen) ∷ []) (ap (λ c. if c then parts (symbol_part symbol.LeftParen ∷ formals_following room) else parts (symbol_part symbol.LeftParen ∷ symbol_part symbol.RightParen ∷ [])) e) here
 
@@ -92,7 +92,7 @@ no_parts room ts at w unnamed o h (some_formals (variable_section ns t) fs, z, e
 
 pub formals_fail_none : {room : ℕ} {ts : List Token} {at : ℕ} {e : ParseRefusal} → IsNotIdentifier ts (at + 1) → IsTokenOtherThan (WordOrSymbol (kind.ReservedWord reserved.Var)) ts (at + 1) → rest ts at ≡ WordOrSymbol (kind.Symbol symbol.LeftParen) ∷ rest ts (at + 1) → FailsToRead (token (kind.Symbol symbol.RightParen) ∷ []) ts (at + 1) e → ItemBeginsButCantBeRead formals room ts at e
 formals_fail_none {room = room} {ts = ts} {at = at} unnamed o here q = record {
-  is_here = subst (λ y. NextHasRank 6 y) (sym here) refl;
+  is_here = subst (λ y. NextTokenHasRank 6 y) (sym here) refl;
   fails = fails_following_alike {qs = token (kind.Symbol symbol.RightParen) ∷ []} (formals_read (ap is_parameter_section_next unnamed.here ∙ no_section unnamed.fault (rest ts (at + 1 + 1)) unnamed.ranked (λ e. o.differs (head_of (sym o.here ∙ unnamed.here) ∙ e))) here) here (λ w h b. no_parts room ts (at + 1) w unnamed o h b) q;
 }
 
@@ -109,7 +109,7 @@ some_parts room ts at w o h (some_formals a fs, z, e, n, s, b) = (
 
 pub formals_fail : {room : ℕ} {ts : List Token} {at : ℕ} {e : ParseRefusal} → IsTokenOtherThan (WordOrSymbol (kind.Symbol symbol.RightParen)) ts (at + 1) × (is_parameter_section_next (rest ts (at + 1)) ≡ true) → rest ts at ≡ WordOrSymbol (kind.Symbol symbol.LeftParen) ∷ rest ts (at + 1) → FailsToRead (formals_following room) ts (at + 1) e → ItemBeginsButCantBeRead formals room ts at e
 formals_fail {room = room} {ts = ts} {at = at} o here q = record {
-  is_here = subst (λ y. NextHasRank 6 y) (sym here) refl;
+  is_here = subst (λ y. NextTokenHasRank 6 y) (sym here) refl;
   fails = fails_following_alike {qs = formals_following room} (formals_read o.1 here) here (λ w h b. some_parts room ts (at + 1) w o.0 h b) q;
 }
 
@@ -148,7 +148,7 @@ constant_parts : (room : ℕ) (w : List (Terminal ℕ)) → BeginsWithParts (non
 constant_parts room w (declares_constant k a, z, e, n, s, b) = (k, _, e, (_, refl, (a, WordOrSymbol (kind.Symbol symbol.Semicolon) ∷ z, append_assoc (spell a) (single_token_list (kind.Symbol symbol.Semicolon)) z, n, omega arith, (z, refl, tt))))
 
 pub constant_fails : {room : ℕ} {ts : List Token} {at : ℕ} {e : ParseRefusal} → rest ts at ≡ Name at ∷ rest ts (at + 1) → FailsToRead (constant_following room) ts at e → ItemBeginsButCantBeRead constant room ts at e
-constant_fails {room = room} here q = record { is_here = subst (λ y. NextHasRank 7 y) (sym here) refl; fails = fails_weaken {qs = constant_following room} (read_made refl) (λ w h b. constant_parts room w b) q }
+constant_fails {room = room} here q = record { is_here = subst (λ y. NextTokenHasRank 7 y) (sym here) refl; fails = fails_weaken {qs = constant_following room} (read_made refl) (λ w h b. constant_parts room w b) q }
 
 -- Lemmas on declarations of types: `ident "=" type ";"`.
 
@@ -169,7 +169,7 @@ type_name_parts : (room : ℕ) (w : List (Terminal ℕ)) → BeginsWithParts (no
 type_name_parts room w (declares_type k a, z, e, n, s, b) = (k, _, e, (_, refl, (a, WordOrSymbol (kind.Symbol symbol.Semicolon) ∷ z, append_assoc (spell a) (single_token_list (kind.Symbol symbol.Semicolon)) z, n, omega arith, (z, refl, tt))))
 
 pub type_name_fails : {room : ℕ} {ts : List Token} {at : ℕ} {e : ParseRefusal} → rest ts at ≡ Name at ∷ rest ts (at + 1) → FailsToRead (type_name_following room) ts at e → ItemBeginsButCantBeRead type_definition room ts at e
-type_name_fails {room = room} here q = record { is_here = subst (λ y. NextHasRank 7 y) (sym here) refl; fails = fails_weaken {qs = type_name_following room} (read_made refl) (λ w h b. type_name_parts room w b) q }
+type_name_fails {room = room} here q = record { is_here = subst (λ y. NextTokenHasRank 7 y) (sym here) refl; fails = fails_weaken {qs = type_name_following room} (read_made refl) (λ w h b. type_name_parts room w b) q }
 
 -- Lemmas on declarations of variables: `names ":" type ";"`.
 
@@ -195,20 +195,20 @@ variable_closed room w (declares_variable ns t, z, e, n, s, b) =
     (some_fields ns t, WordOrSymbol (kind.Symbol symbol.Semicolon) ∷ z, e ∙ (append_assoc (spell ns) _ z ∙ (ap (λ y. spell ns ++ (WordOrSymbol (kind.Symbol symbol.Colon) ∷ y)) (append_assoc (spell t) (single_token_list (kind.Symbol symbol.Semicolon)) z) ∙ sym (append_assoc (spell ns) _ _))), n, omega arith, (z, refl, tt))
 
 pub variable_fails_typed : {room : ℕ} {ts : List Token} {at : ℕ} {e : ParseRefusal} → rest ts at ≡ Name at ∷ rest ts (at + 1) → FailsToRead (typed_following room) ts at e → ItemBeginsButCantBeRead variable room ts at e
-variable_fails_typed {room = room} here q = record { is_here = subst (λ y. NextHasRank 7 y) (sym here) refl; fails = fails_by (λ o r more. made _ refl (r (token (kind.Symbol symbol.Semicolon) ∷ more))) (λ after r. select (λ w h b. variable_typed room w b) r) q }
+variable_fails_typed {room = room} here q = record { is_here = subst (λ y. NextTokenHasRank 7 y) (sym here) refl; fails = fails_by (λ o r more. made _ refl (r (token (kind.Symbol symbol.Semicolon) ∷ more))) (λ after r. select (λ w h b. variable_typed room w b) r) q }
 
 pub variable_fails : {room : ℕ} {ts : List Token} {at : ℕ} {e : ParseRefusal} → rest ts at ≡ Name at ∷ rest ts (at + 1) → FailsToRead (variable_following room) ts at e → ItemBeginsButCantBeRead variable room ts at e
-variable_fails {room = room} here q = record { is_here = subst (λ y. NextHasRank 7 y) (sym here) refl; fails = fails_weaken {qs = variable_following room} (record { stops_as_following = λ o more r. made _ refl (unmade (ap (λ w. chosen_production fields room w) here) r) }) (λ w h b. variable_closed room w b) q }
+variable_fails {room = room} here q = record { is_here = subst (λ y. NextTokenHasRank 7 y) (sym here) refl; fails = fails_weaken {qs = variable_following room} (record { stops_as_following = λ o more r. made _ refl (unmade (ap (λ w. chosen_production fields room w) here) r) }) (λ w h b. variable_closed room w b) q }
 
 -- Lemmas on blocks: `declarations [BEGIN sequence]`.
 
 abbrev pub block_parts : ℕ → List ProductionPart
 block_parts room = nonterminal (maybe constants) room ∷ nonterminal (maybe type_definitions) room ∷ nonterminal (maybe variables) room ∷ nonterminal (items procedure) room ∷ nonterminal (maybe body) room ∷ []
 
-block_read : {room : ℕ} {ts : List Token} {at : ℕ} → DescentsEndWithSameStop (nonterminal block room ∷ []) (block_parts room) ts at at
+block_read : {room : ℕ} {ts : List Token} {at : ℕ} → DescentsHaveSameEnd (nonterminal block room ∷ []) (block_parts room) ts at at
 block_read = record { stops_as_following = λ o more r. made _ refl (made _ refl r) }
 
-block_only : {room : ℕ} {ts : List Token} {at i j k l n : ℕ} (cs : Tree ℕ (maybe constants)) (ds : Tree ℕ (maybe type_definitions)) (vs : Tree ℕ (maybe variables)) (ps : Tree ℕ (items procedure)) (b : Tree ℕ (maybe body)) → IsReadTree cs room ts at i → IsReadTree ds room ts i j → IsReadTree vs room ts j k → IsReadTree ps room ts k l → IsReadTree b room ts l n → (u : Tree ℕ block) (z w : List (Terminal ℕ)) → HaveSameFirstToken (rest ts n) w → EndsConstruct 16 z → spell u ++ z ≡ ((spell cs ++ (spell ds ++ (spell vs ++ spell ps))) ++ spell b) ++ w → (u ≡ forms_block (declares cs ds vs ps) b) × (z ≡ w)
+block_only : {room : ℕ} {ts : List Token} {at i j k l n : ℕ} (cs : Tree ℕ (maybe constants)) (ds : Tree ℕ (maybe type_definitions)) (vs : Tree ℕ (maybe variables)) (ps : Tree ℕ (items procedure)) (b : Tree ℕ (maybe body)) → IsReadTree cs room ts at i → IsReadTree ds room ts i j → IsReadTree vs room ts j k → IsReadTree ps room ts k l → IsReadTree b room ts l n → (u : Tree ℕ block) (z w : List (Terminal ℕ)) → HaveSameFirstToken (rest ts n) w → NextTokenEndsConstruct 16 z → spell u ++ z ≡ ((spell cs ++ (spell ds ++ (spell vs ++ spell ps))) ++ spell b) ++ w → (u ≡ forms_block (declares cs ds vs ps) b) × (z ≡ w)
 block_only cs ds vs ps b c d v p q (forms_block (declares cs' ds' vs' ps') b') z w h s e =
     let h4 = head_at b q w h in
     let h3 = head_at ps p (spell b ++ w) h4 in
@@ -274,14 +274,14 @@ procedure_parts room inner d w (declares_procedure x fs b y, z, e, n, s, q) =
     (x, _, tail_of e, (fs, _, append_assoc (spell fs) _ z, omega arith, omega arith, (_, refl, (b, WordOrSymbol (kind.ReservedWord reserved.End) ∷ Name y ∷ WordOrSymbol (kind.Symbol symbol.Semicolon) ∷ z, append_assoc (spell b) _ z, omega arith, omega arith, (_, refl, (y, _, refl, (z, refl, tt)))))))
 
 pub procedure_fails : {room inner : ℕ} {ts : List Token} {at : ℕ} {e : ParseRefusal} → room ≡ inner + 1 → rest ts at ≡ WordOrSymbol (kind.ReservedWord reserved.Procedure) ∷ rest ts (at + 1) → FailsToRead (procedure_following inner) ts (at + 1) e → ItemBeginsButCantBeRead procedure room ts at e
-procedure_fails {room = room} {inner = inner} d here q = record { is_here = subst (λ y. NextHasRank 15 y) (sym here) refl; fails = fails_following {qs = procedure_following inner} (read_opened inner procedure_following refl d here) here (procedure_parts room inner d) q }
+procedure_fails {room = room} {inner = inner} d here q = record { is_here = subst (λ y. NextTokenHasRank 15 y) (sym here) refl; fails = fails_following {qs = procedure_following inner} (read_opened inner procedure_following refl d here) here (procedure_parts room inner d) q }
 
 no_procedure : (w : List (Terminal ℕ)) → BeginsWithParts (nonterminal (item procedure) 0 ∷ []) (WordOrSymbol (kind.ReservedWord reserved.Procedure) ∷ w) → ⊥
 no_procedure w (declares_procedure x fs b y, z, e, n, s, q) = omega arith
 
 pub procedure_too_deep : {ts : List Token} {at room : ℕ} {e : ParseRefusal} → at < length ts → (room ≡ 0) × (e ≡ TooDeep at) → rest ts at ≡ WordOrSymbol (kind.ReservedWord reserved.Procedure) ∷ rest ts (at + 1) → ItemBeginsButCantBeRead procedure room ts at e
 procedure_too_deep {ts = ts} {at = at} {e = e} l o here = record {
-  is_here = subst (λ y. NextHasRank 15 y) (sym here) refl;
+  is_here = subst (λ y. NextTokenHasRank 15 y) (sym here) refl;
   fails = subst (λ r. FailsToRead (nonterminal (item procedure) r ∷ []) ts at e) (sym o.0) (too_deep_at_once l o.1 here (λ more. deep (ap (λ w. chosen_production (item procedure) 0 w) here)) no_procedure);
 }
 

@@ -14,10 +14,10 @@ use Rattle.ob0_tree.specs.declared.tree.MultiplyOperator.TheVariants as multiply
 use Rattle.ob0_tree.specs.declared.tree.Relation.TheVariants as relation
 use Rattle.ob0_tree.specs.declared.tree.MultiplyOperator.{MultiplyOperator}
 use Rattle.ob0_tree.specs.Lexeme.{Terminal, Name, Number, WordOrSymbol, EndOfText, relation_token_kind, sign_token_kind, sign_tokens, add_operator_token_kind, multiply_operator_token_kind}
-use Rattle.ob0_tree.specs.Tree.{Item, selector, multiplier, addend, comparison, Sort, item, items, maybe, expression, simple, term, factor, Tree, none, one, compares, relates, sum, adds, product, multiplies, designator, integer, parenthesised, negation, field, index, spell, single_token_list}
+use Rattle.ob0_tree.specs.Tree.{GrammarItem, selector, multiplier, addend, comparison, Sort, item, items, maybe, expression, simple, term, factor, Tree, none, one, compares, relates, sum, adds, product, multiplies, designator, integer, parenthesised, negation, field, index, spell, single_token_list}
 use Rattle.ob0_tree.specs.Places.{indexed_terminal}
-use Rattle.ob0_parse_descent.specs.Follow.{rank, kind_rank, item_rank, item_level, EndsConstruct, NextHasRank}
-use Rattle.ob0_parse_descent.specs.Reading.{rest, terminal_or_end, ProductionPart, token, name, nonterminal, BeginsWithParts, HaveSameFirstToken, CantBeginWithParts, DescentsEndWithSameStop, IsReadTree, DescentStopsWith, FailsToRead, IsSignAt, ItemBeginsButCantBeRead, BeginsWithoutSign, IsTokenOtherThan}
+use Rattle.ob0_parse_descent.specs.Follow.{rank, kind_rank, item_start_rank, item_level, NextTokenEndsConstruct, NextTokenHasRank}
+use Rattle.ob0_parse_descent.specs.Reading.{rest, terminal_or_end, ProductionPart, token, name, nonterminal, BeginsWithParts, HaveSameFirstToken, CantBeginWithParts, DescentsHaveSameEnd, IsReadTree, DescentEndsWith, FailsToRead, IsSignAt, ItemBeginsButCantBeRead, BeginsWithoutSign, IsTokenOtherThan}
 use Rattle.ob0_parse_descent.specs.declared.refusal.ParseRefusal.{ParseRefusal}
 use Rattle.ob0_parse_descent.specs.declared.refusal.ParseRefusal.TheVariants.{Syntax, TooDeep}
 use Rattle.ob0_parse_descent.proofs.Unique.{not_here, starts_item, stops_items, stops_maybe, stops_less, below, regroup, unsigned_term, tail_of, head_of, relation_rank, add_rank, multiply_rank, same_signs, same_relation, same_add, same_multiply, mark_of, name_of}
@@ -25,7 +25,7 @@ use Rattle.ob0_parse_descent.proofs.Unique as unique
 use Rattle.ob0_parse_descent.proofs.Leads.{fails_here}
 use Rattle.ob0_parse_descent.proofs.Refusals.{head_following, starts_back, fails_by, fails_weaken, fails_in, fails_pass, fails_following, fails_maybe, fails_pass_name, at_once, select}
 use Rattle.ob0_parse_descent.proofs.Items.{Taking, taking_fails}
-use Rattle.ob0_parse_descent.specs.Descent.{parts, missing, chosen_production, TooDeepAt, absent, deep, operation_choice}
+use Rattle.ob0_parse_descent.specs.Descent.{parts, missing, chosen_production, TooDeepAt, absent, deep, operator_with_operand_choice}
 use Rattle.ob0_parse_descent.specs.declared.refusal.ExpectedSyntax.TheVariants as expected
 use Rattle.ob0_parse_descent.proofs.Descent.{as_is, both, by, read_token, read_name, read_number, read_mark, read_made, read_led, read_opened, read_one, read_none}
 use Rattle.ob0_parse_descent.proofs.OneToken.{mark_is, name_is, number_is, rank_of}
@@ -36,8 +36,8 @@ pub joined : {A : Type 0} {x y : List A} (z a b : List A) → x ≡ a ++ y → y
 joined z a b p q = p ∙ (ap (λ w. a ++ w) q ∙ sym (append_assoc a b z))
 
 -- If the next token has the rank of an item, that item begins here.
-starts_at : (at : ℕ) (k : TokenKind) {r : ℕ} {xs : List (Terminal ℕ)} (z : List (Terminal ℕ)) → xs ≡ indexed_terminal at k ∷ z → kind_rank k ≡ r → NextHasRank r xs
-starts_at at k {r = r} z here is = subst (λ y. NextHasRank r y) (sym here) (rank_of at k ∙ is)
+starts_at : (at : ℕ) (k : TokenKind) {r : ℕ} {xs : List (Terminal ℕ)} (z : List (Terminal ℕ)) → xs ≡ indexed_terminal at k ∷ z → kind_rank k ≡ r → NextTokenHasRank r xs
+starts_at at k {r = r} z here is = subst (λ y. NextTokenHasRank r y) (sym here) (rank_of at k ∙ is)
 
 -- The token of a relation is the same whatever its index.
 relation_mark_lexeme : (o : Relation) (i : ℕ) (z : List (Terminal ℕ)) → indexed_terminal i (relation_token_kind o) ∷ z ≡ WordOrSymbol (relation_token_kind o) ∷ z
@@ -60,7 +60,7 @@ multiply_mark_lexeme multiply_operator.Modulo i z = refl
 multiply_mark_lexeme multiply_operator.And i z = refl
 
 -- The descent reads an item that is an operator and its right side.
-read_operator : {i : Item} {s : Sort} {room : ℕ} {ts : List Token} {at : ℕ} (j k : TokenKind) → j ≡ k → ((z : List (Terminal ℕ)) → indexed_terminal at k ∷ z ≡ WordOrSymbol k ∷ z) → chosen_production (item i) room (WordOrSymbol k ∷ rest ts (at + 1)) ≡ operation_choice s room (WordOrSymbol k ∷ rest ts (at + 1)) → rest ts at ≡ indexed_terminal at j ∷ rest ts (at + 1) → DescentsEndWithSameStop (nonterminal (item i) room ∷ []) (nonterminal s room ∷ []) ts at (at + 1)
+read_operator : {i : GrammarItem} {s : Sort} {room : ℕ} {ts : List Token} {at : ℕ} (j k : TokenKind) → j ≡ k → ((z : List (Terminal ℕ)) → indexed_terminal at k ∷ z ≡ WordOrSymbol k ∷ z) → chosen_production (item i) room (WordOrSymbol k ∷ rest ts (at + 1)) ≡ operator_with_operand_choice s room (WordOrSymbol k ∷ rest ts (at + 1)) → rest ts at ≡ indexed_terminal at j ∷ rest ts (at + 1) → DescentsHaveSameEnd (nonterminal (item i) room ∷ []) (nonterminal s room ∷ []) ts at (at + 1)
 read_operator {s = s} {room = room} {ts = ts} {at = at} j k is single_token_list c here = read_led (nonterminal s room ∷ []) c (subst (λ y. rest ts at ≡ indexed_terminal at y ∷ rest ts (at + 1)) is here ∙ single_token_list (rest ts (at + 1)))
 
 -- Lemmas on expressions: `simple [relation simple]`.
@@ -70,21 +70,21 @@ read_operator {s = s} {room = room} {ts = ts} {at = at} j k is single_token_list
 pub head_at : {s : Sort} {room : ℕ} {ts : List Token} {m n : ℕ} (c : Tree ℕ s) → IsReadTree c room ts m n → (w : List (Terminal ℕ)) → HaveSameFirstToken (rest ts n) w → HaveSameFirstToken (rest ts m) (spell c ++ w)
 head_at {ts = ts} {n = n} c q w h = subst (λ y. HaveSameFirstToken y (spell c ++ w)) (sym q.spelled) (head_following (spell c) (rest ts n) w h)
 
-no_item_only : {i : Item} (xs : List (Terminal ℕ)) → ¬ NextHasRank (item_rank i) xs → (u : Tree ℕ (maybe i)) (z w : List (Terminal ℕ)) → HaveSameFirstToken xs w → EndsConstruct (item_rank i) z → spell u ++ z ≡ w → (u ≡ none) × (z ≡ w)
+no_item_only : {i : GrammarItem} (xs : List (Terminal ℕ)) → ¬ NextTokenHasRank (item_start_rank i) xs → (u : Tree ℕ (maybe i)) (z w : List (Terminal ℕ)) → HaveSameFirstToken xs w → NextTokenEndsConstruct (item_start_rank i) z → spell u ++ z ≡ w → (u ≡ none) × (z ≡ w)
 no_item_only xs lacks none z w h s e = (refl, e)
-no_item_only {i = i} xs lacks (one t) z w h s e = absurd (lacks (starts_back xs w (item_rank i) h (subst (λ y. NextHasRank (item_rank i) y) e (starts_item t z))))
+no_item_only {i = i} xs lacks (one t) z w h s e = absurd (lacks (starts_back xs w (item_start_rank i) h (subst (λ y. NextTokenHasRank (item_start_rank i) y) e (starts_item t z))))
 
-pub taken_no_item : (i : Item) (room : ℕ) (ts : List Token) (at : ℕ) → at ≤ length ts → ¬ NextHasRank (item_rank i) (rest ts at) → IsReadTree (none {i = i}) room ts at at
+pub taken_no_item : (i : GrammarItem) (room : ℕ) (ts : List Token) (at : ℕ) → at ≤ length ts → ¬ NextTokenHasRank (item_start_rank i) (rest ts at) → IsReadTree (none {i = i}) room ts at at
 taken_no_item i room ts at p lacks = record { spelled = refl; shallow = omega arith; only = no_item_only (rest ts at) lacks; reads = read_none lacks; within = p; forward = omega arith }
 
-item_only : {i : Item} {room : ℕ} {ts : List Token} {at n : ℕ} (t : Tree ℕ (item i)) → IsReadTree t room ts at n → (u : Tree ℕ (maybe i)) (z w : List (Terminal ℕ)) → HaveSameFirstToken (rest ts n) w → EndsConstruct (item_rank i) z → spell u ++ z ≡ spell t ++ w → (u ≡ one t) × (z ≡ w)
+item_only : {i : GrammarItem} {room : ℕ} {ts : List Token} {at n : ℕ} (t : Tree ℕ (item i)) → IsReadTree t room ts at n → (u : Tree ℕ (maybe i)) (z w : List (Terminal ℕ)) → HaveSameFirstToken (rest ts n) w → NextTokenEndsConstruct (item_start_rank i) z → spell u ++ z ≡ spell t ++ w → (u ≡ one t) × (z ≡ w)
 item_only t p none z w h s e = absurd (not_here t z w s e)
-item_only {i = i} t p (one u) z w h s e = let r = p.only u z w h (stops_less z (item_level i) (item_rank i) (omega (arith, below i)) s) e in (ap one r.0, r.1)
+item_only {i = i} t p (one u) z w h s e = let r = p.only u z w h (stops_less z (item_level i) (item_start_rank i) (omega (arith, below i)) s) e in (ap one r.0, r.1)
 
-pub taken_item : {i : Item} {room : ℕ} {ts : List Token} {at n : ℕ} (t : Tree ℕ (item i)) → IsReadTree t room ts at n → IsReadTree (one t) room ts at n
-taken_item {i = i} {ts = ts} {n = n} t p = record { spelled = p.spelled; shallow = p.shallow; only = item_only t p; reads = by (read_one (subst (λ y. NextHasRank (item_rank i) y) (sym p.spelled) (starts_item t (rest ts n)))) p.reads; within = p.within; forward = p.forward }
+pub taken_item : {i : GrammarItem} {room : ℕ} {ts : List Token} {at n : ℕ} (t : Tree ℕ (item i)) → IsReadTree t room ts at n → IsReadTree (one t) room ts at n
+taken_item {i = i} {ts = ts} {n = n} t p = record { spelled = p.spelled; shallow = p.shallow; only = item_only t p; reads = by (read_one (subst (λ y. NextTokenHasRank (item_start_rank i) y) (sym p.spelled) (starts_item t (rest ts n)))) p.reads; within = p.within; forward = p.forward }
 
-compares_only : {room : ℕ} {ts : List Token} {m n : ℕ} {at : ℕ} (a : Tree ℕ simple) (c : Tree ℕ (maybe comparison)) → IsReadTree a room ts at m → IsReadTree c room ts m n → (u : Tree ℕ expression) (z w : List (Terminal ℕ)) → HaveSameFirstToken (rest ts n) w → EndsConstruct 4 z → spell u ++ z ≡ (spell a ++ spell c) ++ w → (u ≡ compares a c) × (z ≡ w)
+compares_only : {room : ℕ} {ts : List Token} {m n : ℕ} {at : ℕ} (a : Tree ℕ simple) (c : Tree ℕ (maybe comparison)) → IsReadTree a room ts at m → IsReadTree c room ts m n → (u : Tree ℕ expression) (z w : List (Terminal ℕ)) → HaveSameFirstToken (rest ts n) w → NextTokenEndsConstruct 4 z → spell u ++ z ≡ (spell a ++ spell c) ++ w → (u ≡ compares a c) × (z ≡ w)
 compares_only a c p q (compares b d) z w h s e =
     let r = p.only b (spell d ++ z) (spell c ++ w) (head_at c q w h) (stops_maybe d z 3 (omega arith) s) (regroup (spell b) (spell d) z (spell a) (spell c) w e) in
     let rs = q.only d z w h s r.1 in
@@ -119,14 +119,14 @@ chosen_unsigned room (WordOrSymbol (kind.Symbol symbol.Plus) ∷ w) u = absurd (
 chosen_unsigned room (WordOrSymbol (kind.Symbol symbol.Minus) ∷ w) u = absurd (u.minus w refl)
 chosen_unsigned room w u = refl
 
-simple_read : {room : ℕ} {ts : List Token} {at start : ℕ} (g : Option Sign) → IsSignAt ts at g start → DescentsEndWithSameStop (nonterminal simple room ∷ []) (nonterminal term room ∷ nonterminal (items addend) room ∷ []) ts at start
+simple_read : {room : ℕ} {ts : List Token} {at start : ℕ} (g : Option Sign) → IsSignAt ts at g start → DescentsHaveSameEnd (nonterminal simple room ∷ []) (nonterminal term room ∷ nonterminal (items addend) room ∷ []) ts at start
 simple_read {room = room} {ts = ts} {at = at} {start = start} None s =
     let none : start ≡ at = omega (arith, s.next_index) in
-    subst (λ j. DescentsEndWithSameStop (nonterminal simple room ∷ []) (nonterminal term room ∷ nonterminal (items addend) room ∷ []) ts at j) (sym none) (read_made (chosen_unsigned room (rest ts at) s.unsigned))
+    subst (λ j. DescentsHaveSameEnd (nonterminal simple room ∷ []) (nonterminal term room ∷ nonterminal (items addend) room ∷ []) ts at j) (sym none) (read_made (chosen_unsigned room (rest ts at) s.unsigned))
 simple_read {room = room} (Some sign.Plus) s = by (read_made (ap (λ w. chosen_production simple room w) s.spelled)) (both (read_token s.spelled s.next_index) as_is)
 simple_read {room = room} (Some sign.Minus) s = by (read_made (ap (λ w. chosen_production simple room w) s.spelled)) (both (read_token s.spelled s.next_index) as_is)
 
-sum_only : {room : ℕ} {ts : List Token} {start m n : ℕ} (g : Option Sign) (a : Tree ℕ term) (c : Tree ℕ (items addend)) → IsReadTree a room ts start m → IsReadTree c room ts m n → (u : Tree ℕ simple) (z w : List (Terminal ℕ)) → HaveSameFirstToken (rest ts n) w → EndsConstruct 3 z → spell u ++ z ≡ (sign_tokens g ++ (spell a ++ spell c)) ++ w → (u ≡ sum g a c) × (z ≡ w)
+sum_only : {room : ℕ} {ts : List Token} {start m n : ℕ} (g : Option Sign) (a : Tree ℕ term) (c : Tree ℕ (items addend)) → IsReadTree a room ts start m → IsReadTree c room ts m n → (u : Tree ℕ simple) (z w : List (Terminal ℕ)) → HaveSameFirstToken (rest ts n) w → NextTokenEndsConstruct 3 z → spell u ++ z ≡ (sign_tokens g ++ (spell a ++ spell c)) ++ w → (u ≡ sum g a c) × (z ≡ w)
 sum_only g a c p q (sum k b d) z w h s e =
     let signs = same_signs k g ((spell b ++ spell d) ++ z) ((spell a ++ spell c) ++ w)
     (subst unique.BeginsWithoutSign (sym (append_assoc (spell b) (spell d) z)) (unsigned_term b (spell d ++ z)))
@@ -171,7 +171,7 @@ addend_fails_term {room = room} {ts = ts} {at = at} k o is here q = record {
 
 -- Lemmas on terms: `factor {operator factor}`.
 
-product_only : {room : ℕ} {ts : List Token} {m n : ℕ} {at : ℕ} (a : Tree ℕ factor) (c : Tree ℕ (items multiplier)) → IsReadTree a room ts at m → IsReadTree c room ts m n → (u : Tree ℕ term) (z w : List (Terminal ℕ)) → HaveSameFirstToken (rest ts n) w → EndsConstruct 2 z → spell u ++ z ≡ (spell a ++ spell c) ++ w → (u ≡ product a c) × (z ≡ w)
+product_only : {room : ℕ} {ts : List Token} {m n : ℕ} {at : ℕ} (a : Tree ℕ factor) (c : Tree ℕ (items multiplier)) → IsReadTree a room ts at m → IsReadTree c room ts m n → (u : Tree ℕ term) (z w : List (Terminal ℕ)) → HaveSameFirstToken (rest ts n) w → NextTokenEndsConstruct 2 z → spell u ++ z ≡ (spell a ++ spell c) ++ w → (u ≡ product a c) × (z ≡ w)
 product_only a c p q (product b d) z w h s e =
     let r = p.only b (spell d ++ z) (spell c ++ w) (head_at c q w h) (stops_items d z 1 (omega arith) s) (regroup (spell b) (spell d) z (spell a) (spell c) w e) in
     let rs = q.only d z w h s r.1 in
@@ -198,7 +198,7 @@ multiplier_fails_factor {room = room} {ts = ts} {at = at} k o is here q = record
   fails = fails_following {qs = nonterminal factor room ∷ []} (read_operator k (multiply_operator_token_kind o) is (multiply_mark_lexeme o at) refl here) here (multiplier_factor room (indexed_terminal at k)) q;
 }
 
-relates_only : {room : ℕ} {ts : List Token} {m n : ℕ} (o : Relation) (a : Tree ℕ simple) → IsReadTree a room ts m n → (u : Tree ℕ (item comparison)) (z w : List (Terminal ℕ)) → HaveSameFirstToken (rest ts n) w → EndsConstruct 3 z → spell u ++ z ≡ WordOrSymbol (relation_token_kind o) ∷ (spell a ++ w) → (u ≡ relates o a) × (z ≡ w)
+relates_only : {room : ℕ} {ts : List Token} {m n : ℕ} (o : Relation) (a : Tree ℕ simple) → IsReadTree a room ts m n → (u : Tree ℕ (item comparison)) (z w : List (Terminal ℕ)) → HaveSameFirstToken (rest ts n) w → NextTokenEndsConstruct 3 z → spell u ++ z ≡ WordOrSymbol (relation_token_kind o) ∷ (spell a ++ w) → (u ≡ relates o a) × (z ≡ w)
 relates_only o a p (relates k b) z w h s e =
     let r = p.only b z w h s (tail_of e) in
     (cc (r.0, same_relation k o (mark_of e)), r.1)
@@ -213,7 +213,7 @@ taken_relates {ts = ts} {at = at} {n = n} k o a is here p = record {
   forward = omega (arith, p.forward);
 }
 
-adds_only : {room : ℕ} {ts : List Token} {m n : ℕ} (o : AddOperator) (a : Tree ℕ term) → IsReadTree a room ts m n → (u : Tree ℕ (item addend)) (z w : List (Terminal ℕ)) → HaveSameFirstToken (rest ts n) w → EndsConstruct 2 z → spell u ++ z ≡ WordOrSymbol (add_operator_token_kind o) ∷ (spell a ++ w) → (u ≡ adds o a) × (z ≡ w)
+adds_only : {room : ℕ} {ts : List Token} {m n : ℕ} (o : AddOperator) (a : Tree ℕ term) → IsReadTree a room ts m n → (u : Tree ℕ (item addend)) (z w : List (Terminal ℕ)) → HaveSameFirstToken (rest ts n) w → NextTokenEndsConstruct 2 z → spell u ++ z ≡ WordOrSymbol (add_operator_token_kind o) ∷ (spell a ++ w) → (u ≡ adds o a) × (z ≡ w)
 adds_only o a p (adds k b) z w h s e =
     let r = p.only b z w h s (tail_of e) in
     (cc (r.0, same_add k o (mark_of e)), r.1)
@@ -228,7 +228,7 @@ taken_adds {ts = ts} {at = at} {n = n} k o a is here p = record {
   forward = omega (arith, p.forward);
 }
 
-multiplies_only : {room : ℕ} {ts : List Token} {m n : ℕ} (o : MultiplyOperator) (a : Tree ℕ factor) → IsReadTree a room ts m n → (u : Tree ℕ (item multiplier)) (z w : List (Terminal ℕ)) → HaveSameFirstToken (rest ts n) w → EndsConstruct 1 z → spell u ++ z ≡ WordOrSymbol (multiply_operator_token_kind o) ∷ (spell a ++ w) → (u ≡ multiplies o a) × (z ≡ w)
+multiplies_only : {room : ℕ} {ts : List Token} {m n : ℕ} (o : MultiplyOperator) (a : Tree ℕ factor) → IsReadTree a room ts m n → (u : Tree ℕ (item multiplier)) (z w : List (Terminal ℕ)) → HaveSameFirstToken (rest ts n) w → NextTokenEndsConstruct 1 z → spell u ++ z ≡ WordOrSymbol (multiply_operator_token_kind o) ∷ (spell a ++ w) → (u ≡ multiplies o a) × (z ≡ w)
 multiplies_only o a p (multiplies k b) z w h s e =
     let r = p.only b z w h s (tail_of e) in
     (cc (r.0, same_multiply k o (mark_of e)), r.1)
@@ -254,7 +254,7 @@ integer_only i (negation f) z w e = absurd (number_not_mark (sym e))
 pub taken_integer : (room : ℕ) (ts : List Token) (at : ℕ) → rest ts at ≡ Number at ∷ rest ts (at + 1) → at < length ts → IsReadTree (integer at) room ts at (at + 1)
 taken_integer room ts at here l = record { spelled = here; shallow = omega arith; only = λ u z w h s e. integer_only at u z w e; reads = by (read_made (ap (λ w. chosen_production factor room w) here)) (read_number here refl); within = omega arith; forward = omega arith }
 
-designator_only : {room : ℕ} {ts : List Token} {m n : ℕ} (i : ℕ) (ss : Tree ℕ (items selector)) → IsReadTree ss room ts m n → (u : Tree ℕ factor) (z w : List (Terminal ℕ)) → HaveSameFirstToken (rest ts n) w → EndsConstruct 1 z → spell u ++ z ≡ Name i ∷ (spell ss ++ w) → (u ≡ designator i ss) × (z ≡ w)
+designator_only : {room : ℕ} {ts : List Token} {m n : ℕ} (i : ℕ) (ss : Tree ℕ (items selector)) → IsReadTree ss room ts m n → (u : Tree ℕ factor) (z w : List (Terminal ℕ)) → HaveSameFirstToken (rest ts n) w → NextTokenEndsConstruct 1 z → spell u ++ z ≡ Name i ∷ (spell ss ++ w) → (u ≡ designator i ss) × (z ≡ w)
 designator_only i ss p (designator k rs) z w h s e =
     let r = p.only rs z w h s (tail_of e) in
     let same : k ≡ i = name_of e in
@@ -266,7 +266,7 @@ designator_only i ss p (negation f) z w h s e = absurd (name_not_mark (sym e))
 pub taken_designator : {room : ℕ} {ts : List Token} {at m n : ℕ} (ss : Tree ℕ (items selector)) → rest ts at ≡ Name at ∷ rest ts m → m ≡ at + 1 → IsReadTree ss room ts m n → IsReadTree (designator at ss) room ts at n
 taken_designator {room = room} {at = at} ss here l p = record { spelled = here ∙ ap (λ y. Name at ∷ y) p.spelled; shallow = p.shallow; only = designator_only at ss p; reads = by (read_made (ap (λ w. chosen_production factor room w) here)) (both (read_name here l) p.reads); within = p.within; forward = omega (arith, p.forward) }
 
-parenthesis_read : {room inner : ℕ} {ts : List Token} {at : ℕ} → room ≡ inner + 1 → rest ts at ≡ WordOrSymbol (kind.Symbol symbol.LeftParen) ∷ rest ts (at + 1) → DescentsEndWithSameStop (nonterminal factor room ∷ []) (nonterminal expression inner ∷ token (kind.Symbol symbol.RightParen) ∷ []) ts at (at + 1)
+parenthesis_read : {room inner : ℕ} {ts : List Token} {at : ℕ} → room ≡ inner + 1 → rest ts at ≡ WordOrSymbol (kind.Symbol symbol.LeftParen) ∷ rest ts (at + 1) → DescentsHaveSameEnd (nonterminal factor room ∷ []) (nonterminal expression inner ∷ token (kind.Symbol symbol.RightParen) ∷ []) ts at (at + 1)
 parenthesis_read {inner = inner} d here = read_opened inner (λ n. nonterminal expression n ∷ token (kind.Symbol symbol.RightParen) ∷ []) refl d here
 
 parenthesised_only : {room : ℕ} {ts : List Token} {m n : ℕ} (a : Tree ℕ expression) → IsReadTree a room ts m n → (last : List (Terminal ℕ)) → rest ts n ≡ WordOrSymbol (kind.Symbol symbol.RightParen) ∷ last → (u : Tree ℕ factor) (z w : List (Terminal ℕ)) → spell u ++ z ≡ WordOrSymbol (kind.Symbol symbol.LeftParen) ∷ ((spell a ++ single_token_list (kind.Symbol symbol.RightParen)) ++ w) → (u ≡ parenthesised a) × (z ≡ w)
@@ -288,10 +288,10 @@ taken_parenthesised {ts = ts} {n = n} a level here p close = record {
   forward = omega (arith, p.forward, close.2);
 }
 
-negation_read : {room inner : ℕ} {ts : List Token} {at : ℕ} → room ≡ inner + 1 → rest ts at ≡ WordOrSymbol (kind.Symbol symbol.Not) ∷ rest ts (at + 1) → DescentsEndWithSameStop (nonterminal factor room ∷ []) (nonterminal factor inner ∷ []) ts at (at + 1)
+negation_read : {room inner : ℕ} {ts : List Token} {at : ℕ} → room ≡ inner + 1 → rest ts at ≡ WordOrSymbol (kind.Symbol symbol.Not) ∷ rest ts (at + 1) → DescentsHaveSameEnd (nonterminal factor room ∷ []) (nonterminal factor inner ∷ []) ts at (at + 1)
 negation_read {inner = inner} d here = read_opened inner (λ n. nonterminal factor n ∷ []) refl d here
 
-negation_only : {room : ℕ} {ts : List Token} {m n : ℕ} (a : Tree ℕ factor) → IsReadTree a room ts m n → (u : Tree ℕ factor) (z w : List (Terminal ℕ)) → HaveSameFirstToken (rest ts n) w → EndsConstruct 1 z → spell u ++ z ≡ WordOrSymbol (kind.Symbol symbol.Not) ∷ (spell a ++ w) → (u ≡ negation a) × (z ≡ w)
+negation_only : {room : ℕ} {ts : List Token} {m n : ℕ} (a : Tree ℕ factor) → IsReadTree a room ts m n → (u : Tree ℕ factor) (z w : List (Terminal ℕ)) → HaveSameFirstToken (rest ts n) w → NextTokenEndsConstruct 1 z → spell u ++ z ≡ WordOrSymbol (kind.Symbol symbol.Not) ∷ (spell a ++ w) → (u ≡ negation a) × (z ≡ w)
 negation_only a p (negation b) z w h s e = let r = p.only b z w h s (tail_of e) in (ap negation r.0, r.1)
 negation_only a p (designator k rs) z w h s e = absurd (name_not_mark e)
 negation_only a p (integer n) z w h s e = absurd (number_not_mark e)
@@ -336,7 +336,7 @@ factor_too_deep_not w (parenthesised t, z, e, l, s, b) = omega arith
 factor_too_deep_not w (negation t, z, e, l, s, b) = omega arith
 
 -- If no level is left for the construct that the next token opens, the refusal `TooDeep` is right.
-pub too_deep_at_once : {ps : List ProductionPart} {ts : List Token} {at : ℕ} {x : Terminal ℕ} {e : ParseRefusal} → at < length ts → e ≡ TooDeep at → rest ts at ≡ x ∷ rest ts (at + 1) → DescentStopsWith ps ts at (TooDeepAt at) → ((w : List (Terminal ℕ)) → BeginsWithParts ps (x ∷ w) → ⊥) → FailsToRead ps ts at e
+pub too_deep_at_once : {ps : List ProductionPart} {ts : List Token} {at : ℕ} {x : Terminal ℕ} {e : ParseRefusal} → at < length ts → e ≡ TooDeep at → rest ts at ≡ x ∷ rest ts (at + 1) → DescentEndsWith ps ts at (TooDeepAt at) → ((w : List (Terminal ℕ)) → BeginsWithParts ps (x ∷ w) → ⊥) → FailsToRead ps ts at e
 too_deep_at_once {ps = ps} {ts = ts} {at = at} l is here reads f = subst (λ y. FailsToRead ps ts at y) (sym is) record { why = (omega arith, at_once here f); reads = reads }
 
 pub factor_fails_open : {room : ℕ} {ts : List Token} {at : ℕ} {e : ParseRefusal} → at < length ts → (room ≡ 0) × (e ≡ TooDeep at) → rest ts at ≡ WordOrSymbol (kind.Symbol symbol.LeftParen) ∷ rest ts (at + 1) → FailsToRead (nonterminal factor room ∷ []) ts at e
@@ -436,12 +436,12 @@ selector_head (WordOrSymbol (kind.Symbol symbol.RightParen)) p q e = omega arith
 selector_head (WordOrSymbol (kind.Symbol symbol.LeftBracket)) p q e = q refl
 selector_head (WordOrSymbol (kind.Symbol symbol.RightBracket)) p q e = omega arith
 
-pub no_selector : {ts : List Token} {at : ℕ} → IsTokenOtherThan (WordOrSymbol (kind.Symbol symbol.Dot)) ts at → IsTokenOtherThan (WordOrSymbol (kind.Symbol symbol.LeftBracket)) ts at → ¬ NextHasRank 1 (rest ts at)
+pub no_selector : {ts : List Token} {at : ℕ} → IsTokenOtherThan (WordOrSymbol (kind.Symbol symbol.Dot)) ts at → IsTokenOtherThan (WordOrSymbol (kind.Symbol symbol.LeftBracket)) ts at → ¬ NextTokenHasRank 1 (rest ts at)
 no_selector {ts = ts} {at = at} o p s =
     let same : o.fault ≡ p.fault = head_of (sym o.here ∙ p.here) in
-    selector_head o.fault o.differs (λ e. p.differs (sym same ∙ e)) (subst (λ y. NextHasRank 1 y) o.here s)
+    selector_head o.fault o.differs (λ e. p.differs (sym same ∙ e)) (subst (λ y. NextTokenHasRank 1 y) o.here s)
 
-field_read : {room : ℕ} {ts : List Token} {at : ℕ} → rest ts at ≡ WordOrSymbol (kind.Symbol symbol.Dot) ∷ rest ts (at + 1) → DescentsEndWithSameStop (nonterminal (item selector) room ∷ []) (name ∷ []) ts at (at + 1)
+field_read : {room : ℕ} {ts : List Token} {at : ℕ} → rest ts at ≡ WordOrSymbol (kind.Symbol symbol.Dot) ∷ rest ts (at + 1) → DescentsHaveSameEnd (nonterminal (item selector) room ∷ []) (name ∷ []) ts at (at + 1)
 field_read here = read_led (name ∷ []) refl here
 
 field_only : (i : ℕ) (u : Tree ℕ (item selector)) (z w : List (Terminal ℕ)) → spell u ++ z ≡ WordOrSymbol (kind.Symbol symbol.Dot) ∷ Name i ∷ w → (u ≡ field i) × (z ≡ w)
@@ -458,7 +458,7 @@ taken_field {room = room} {ts = ts} {at = at} {n = n} x here p = subst (λ y. Is
   forward = omega (arith, p.3);
 }
 
-index_read : {room inner : ℕ} {ts : List Token} {at : ℕ} → room ≡ inner + 1 → rest ts at ≡ WordOrSymbol (kind.Symbol symbol.LeftBracket) ∷ rest ts (at + 1) → DescentsEndWithSameStop (nonterminal (item selector) room ∷ []) (nonterminal expression inner ∷ token (kind.Symbol symbol.RightBracket) ∷ []) ts at (at + 1)
+index_read : {room inner : ℕ} {ts : List Token} {at : ℕ} → room ≡ inner + 1 → rest ts at ≡ WordOrSymbol (kind.Symbol symbol.LeftBracket) ∷ rest ts (at + 1) → DescentsHaveSameEnd (nonterminal (item selector) room ∷ []) (nonterminal expression inner ∷ token (kind.Symbol symbol.RightBracket) ∷ []) ts at (at + 1)
 index_read {inner = inner} d here = read_opened inner (λ n. nonterminal expression n ∷ token (kind.Symbol symbol.RightBracket) ∷ []) refl d here
 
 index_only : {room : ℕ} {ts : List Token} {m n : ℕ} (a : Tree ℕ expression) → IsReadTree a room ts m n → (last : List (Terminal ℕ)) → rest ts n ≡ WordOrSymbol (kind.Symbol symbol.RightBracket) ∷ last → (u : Tree ℕ (item selector)) (z w : List (Terminal ℕ)) → spell u ++ z ≡ WordOrSymbol (kind.Symbol symbol.LeftBracket) ∷ ((spell a ++ single_token_list (kind.Symbol symbol.RightBracket)) ++ w) → (u ≡ index a) × (z ≡ w)
@@ -484,7 +484,7 @@ field_parts room w (index t, z, e, l, s, b) = absurd (dot_not_bracket e)
 
 pub selector_fails_field : {room : ℕ} {ts : List Token} {at : ℕ} {e : ParseRefusal} → rest ts at ≡ WordOrSymbol (kind.Symbol symbol.Dot) ∷ rest ts (at + 1) → FailsToRead (name ∷ []) ts (at + 1) e → ItemBeginsButCantBeRead selector room ts at e
 selector_fails_field {room = room} {ts = ts} {at = at} here q = record {
-  is_here = subst (λ y. NextHasRank 1 y) (sym here) refl;
+  is_here = subst (λ y. NextTokenHasRank 1 y) (sym here) refl;
   fails = fails_following {qs = name ∷ []} (field_read here) here (field_parts room) q;
 }
 
@@ -498,7 +498,7 @@ index_too_deep w (field n, z, e, l, s, b) = dot_not_bracket (sym e)
 index_too_deep w (index t, z, e, l, s, b) = omega arith
 
 pub selector_fails : {room : ℕ} {ts : List Token} {at : ℕ} {e : ParseRefusal} → rest ts at ≡ WordOrSymbol (kind.Symbol symbol.LeftBracket) ∷ rest ts (at + 1) → FailsToRead (nonterminal (item selector) room ∷ []) ts at e → ItemBeginsButCantBeRead selector room ts at e
-selector_fails here q = record { is_here = subst (λ y. NextHasRank 1 y) (sym here) refl; fails = q }
+selector_fails here q = record { is_here = subst (λ y. NextTokenHasRank 1 y) (sym here) refl; fails = q }
 
 pub selector_fails_open : {room : ℕ} {ts : List Token} {at : ℕ} {e : ParseRefusal} → at < length ts → (room ≡ 0) × (e ≡ TooDeep at) → rest ts at ≡ WordOrSymbol (kind.Symbol symbol.LeftBracket) ∷ rest ts (at + 1) → ItemBeginsButCantBeRead selector room ts at e
 selector_fails_open {ts = ts} {at = at} {e = e} l o here =

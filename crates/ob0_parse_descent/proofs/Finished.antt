@@ -6,9 +6,9 @@ use Rattle.ob0_scan.specs.declared.lexeme.ReservedWord.TheVariants as reserved
 use Rattle.ob0_scan.specs.declared.lexeme.Symbol.TheVariants as symbol
 use Rattle.ob0_tree.specs.declared.tree.Sign.TheVariants as signs
 use Rattle.ob0_tree.specs.Lexeme.{Terminal, Name, Number, WordOrSymbol}
-use Rattle.ob0_tree.specs.Tree.{Item, arguments, further_argument, further_section, Sort, item, items, maybe, expression, statement, fields, section, Tree, none, one, end, more, compares, relates, sum, adds, product, multiplies, designator, integer, parenthesised, negation, field, index, empty, assigns, calls, branches, while_loop, repeat_loop, no_arguments, some_arguments, then_argument, runs, then_statement, elsif_branch, else_branch, listed, then_name, named_type, array_type, record_type, no_fields, some_fields, then_fields, no_formals, some_formals, value_section, variable_section, then_section, declares_constant, declares_constants, declares_type, declares_types, declares_variable, declares_variables, declares_procedure, declares, begins, forms_block, is_module, spell, nesting}
-use Rattle.ob0_parse_descent.specs.Follow.{rank, item_rank, item_level, level, EndsConstruct, NextHasRank}
-use Rattle.ob0_parse_descent.specs.Descent.{ProductionPart, token, name, number, nonterminal, parts, symbol_part, is_item_next, is_expression_next, is_parameter_section_next, is_assignment_next, chosen_production, Stop, Descends, taken, made}
+use Rattle.ob0_tree.specs.Tree.{GrammarItem, arguments, further_argument, further_section, Sort, item, items, maybe, expression, statement, fields, section, Tree, none, one, end, more, compares, relates, sum, adds, product, multiplies, designator, integer, parenthesised, negation, field, index, empty, assigns, calls, branches, while_loop, repeat_loop, no_arguments, some_arguments, then_argument, runs, then_statement, elsif_branch, else_branch, listed, then_name, named_type, array_type, record_type, no_fields, some_fields, then_fields, no_formals, some_formals, value_section, variable_section, then_section, declares_constant, declares_constants, declares_type, declares_types, declares_variable, declares_variables, declares_procedure, declares, begins, forms_block, is_module, spell, nesting}
+use Rattle.ob0_parse_descent.specs.Follow.{rank, item_start_rank, item_level, level, NextTokenEndsConstruct, NextTokenHasRank}
+use Rattle.ob0_parse_descent.specs.Descent.{ProductionPart, token, name, number, nonterminal, parts, symbol_part, is_item_next, is_expression_next, is_parameter_section_next, is_assignment_next, chosen_production, DescentEnd, Descends, taken, made}
 use Rattle.ob0_parse_descent.proofs.Unique.{starts_item, stops_less, stops_items, stops_maybe, stops_else, stops_branches, stops_closed, below, unsigned_term}
 use Rattle.ob0_parse_descent.proofs.Refusals.{no_end}
 use Rattle.ob0_parse_descent.proofs.Descent.{next_item, no_next}
@@ -22,56 +22,56 @@ use Rattle.ob0_parse_descent.proofs.DeclarationParts.{chosen_typed, section_next
 
 -- Holds if the descent reads the parts from these tokens and ends with this stop. The last token is
 -- right before index `e`.
-abbrev pub Finishes : ℕ → Stop → List ProductionPart → List (Terminal ℕ) → Type 0
+abbrev pub Finishes : ℕ → DescentEnd → List ProductionPart → List (Terminal ℕ) → Type 0
 Finishes e o ps w = (i : ℕ) → i + length w ≡ e → Descends ps i w o
 
-tok : {e : ℕ} {o : Stop} {k : TokenKind} {ps : List ProductionPart} {z : List (Terminal ℕ)} → Finishes e o ps z → Finishes e o (token k ∷ ps) (WordOrSymbol k ∷ z)
+tok : {e : ℕ} {o : DescentEnd} {k : TokenKind} {ps : List ProductionPart} {z : List (Terminal ℕ)} → Finishes e o ps z → Finishes e o (token k ∷ ps) (WordOrSymbol k ∷ z)
 tok r = λ i h. taken refl (r (i + 1) (omega (arith, h)))
 
-nam : {e : ℕ} {o : Stop} {n : ℕ} {ps : List ProductionPart} {z : List (Terminal ℕ)} → Finishes e o ps z → Finishes e o (name ∷ ps) (Name n ∷ z)
+nam : {e : ℕ} {o : DescentEnd} {n : ℕ} {ps : List ProductionPart} {z : List (Terminal ℕ)} → Finishes e o ps z → Finishes e o (name ∷ ps) (Name n ∷ z)
 nam {n = n} r = λ i h. taken (n, refl) (r (i + 1) (omega (arith, h)))
 
-num : {e : ℕ} {o : Stop} {n : ℕ} {ps : List ProductionPart} {z : List (Terminal ℕ)} → Finishes e o ps z → Finishes e o (number ∷ ps) (Number n ∷ z)
+num : {e : ℕ} {o : DescentEnd} {n : ℕ} {ps : List ProductionPart} {z : List (Terminal ℕ)} → Finishes e o ps z → Finishes e o (number ∷ ps) (Number n ∷ z)
 num {n = n} r = λ i h. taken (n, refl) (r (i + 1) (omega (arith, h)))
 
-prod : {e : ℕ} {o : Stop} {s : Sort} {room : ℕ} {ps qs : List ProductionPart} {w : List (Terminal ℕ)} → chosen_production s room w ≡ parts qs → Finishes e o (qs ++ ps) w → Finishes e o (nonterminal s room ∷ ps) w
+prod : {e : ℕ} {o : DescentEnd} {s : Sort} {room : ℕ} {ps qs : List ProductionPart} {w : List (Terminal ℕ)} → chosen_production s room w ≡ parts qs → Finishes e o (qs ++ ps) w → Finishes e o (nonterminal s room ∷ ps) w
 prod {qs = qs} c r = λ i h. made qs c (r i h)
 
-listed_as : {e : ℕ} {o : Stop} {ps : List ProductionPart} {v w : List (Terminal ℕ)} → w ≡ v → Finishes e o ps v → Finishes e o ps w
+listed_as : {e : ℕ} {o : DescentEnd} {ps : List ProductionPart} {v w : List (Terminal ℕ)} → w ≡ v → Finishes e o ps v → Finishes e o ps w
 listed_as {e = e} {o = o} {ps = ps} is r = subst (λ w. Finishes e o ps w) (sym is) r
 
-assoc : {e : ℕ} {o : Stop} {ps : List ProductionPart} (a b z : List (Terminal ℕ)) → Finishes e o ps (a ++ (b ++ z)) → Finishes e o ps ((a ++ b) ++ z)
+assoc : {e : ℕ} {o : DescentEnd} {ps : List ProductionPart} (a b z : List (Terminal ℕ)) → Finishes e o ps (a ++ (b ++ z)) → Finishes e o ps ((a ++ b) ++ z)
 assoc a b z r = listed_as (append_assoc a b z) r
 
-some : (i : Item) (room : ℕ) (w : List (Terminal ℕ)) → NextHasRank (item_rank i) w → chosen_production (maybe i) room w ≡ parts (nonterminal (item i) room ∷ [])
+some : (i : GrammarItem) (room : ℕ) (w : List (Terminal ℕ)) → NextTokenHasRank (item_start_rank i) w → chosen_production (maybe i) room w ≡ parts (nonterminal (item i) room ∷ [])
 some i room w s = ap (λ b. if b then parts (nonterminal (item i) room ∷ []) else parts []) (next_item i w s)
 
-further : (i : Item) (room : ℕ) (w : List (Terminal ℕ)) → NextHasRank (item_rank i) w → chosen_production (items i) room w ≡ parts (nonterminal (item i) room ∷ nonterminal (items i) room ∷ [])
+further : (i : GrammarItem) (room : ℕ) (w : List (Terminal ℕ)) → NextTokenHasRank (item_start_rank i) w → chosen_production (items i) room w ≡ parts (nonterminal (item i) room ∷ nonterminal (items i) room ∷ [])
 further i room w s = ap (λ b. if b then parts (nonterminal (item i) room ∷ nonterminal (items i) room ∷ []) else parts []) (next_item i w s)
 
-left_out : (i : Item) (w : List (Terminal ℕ)) → EndsConstruct (item_rank i) w → is_item_next i w ≡ false
-left_out i w s = no_next i w (λ p. no_end (item_rank i) w p s) _ refl
+left_out : (i : GrammarItem) (w : List (Terminal ℕ)) → NextTokenEndsConstruct (item_start_rank i) w → is_item_next i w ≡ false
+left_out i w s = no_next i w (λ p. no_end (item_start_rank i) w p s) _ refl
 
-no_statement : (room : ℕ) (z : List (Terminal ℕ)) → EndsConstruct 8 z → chosen_production statement room z ≡ parts []
+no_statement : (room : ℕ) (z : List (Terminal ℕ)) → NextTokenEndsConstruct 8 z → chosen_production statement room z ≡ parts []
 no_statement room [] s = refl
 no_statement room (x ∷ z) s = chosen_empty room x z (λ e. omega (arith, e, s)) (λ e. let r : rank x ≡ 8 = ap rank e in omega (arith, r, s)) (λ e. let r : rank x ≡ 8 = ap rank e in omega (arith, r, s)) (λ e. let r : rank x ≡ 8 = ap rank e in omega (arith, r, s))
 
-no_field : (room : ℕ) (z : List (Terminal ℕ)) → EndsConstruct 7 z → chosen_production fields room z ≡ parts []
+no_field : (room : ℕ) (z : List (Terminal ℕ)) → NextTokenEndsConstruct 7 z → chosen_production fields room z ≡ parts []
 no_field room [] s = refl
 no_field room (x ∷ z) s = chosen_no_fields room x z (λ e. omega (arith, e, s))
 
-call_next : (a : Tree ℕ (maybe arguments)) (z : List (Terminal ℕ)) → EndsConstruct 8 z → is_assignment_next (spell a ++ z) ≡ false
+call_next : (a : Tree ℕ (maybe arguments)) (z : List (Terminal ℕ)) → NextTokenEndsConstruct 8 z → is_assignment_next (spell a ++ z) ≡ false
 call_next none [] s = refl
 call_next none (x ∷ z) s = unassigned x z (λ e. let r : rank x ≡ 8 = ap rank e in omega (arith, r, s)) (λ p. omega (arith, p, s))
 call_next (one no_arguments) z s = refl
 call_next (one (some_arguments e es)) z s = refl
 
-pub finishes : {e : ℕ} {o : Stop} {s : Sort} (t : Tree ℕ s) (room : ℕ) (ps : List ProductionPart) (z : List (Terminal ℕ)) → nesting t ≤ room → EndsConstruct (level s) z → Finishes e o ps z → Finishes e o (nonterminal s room ∷ ps) (spell t ++ z)
+pub finishes : {e : ℕ} {o : DescentEnd} {s : Sort} (t : Tree ℕ s) (room : ℕ) (ps : List ProductionPart) (z : List (Terminal ℕ)) → nesting t ≤ room → NextTokenEndsConstruct (level s) z → Finishes e o ps z → Finishes e o (nonterminal s room ∷ ps) (spell t ++ z)
 finishes (none {i = i}) room ps z n s r = prod {qs = []} (ap (λ b. if b then parts (nonterminal (item i) room ∷ []) else parts []) (left_out i z s)) r
-finishes (one {i = i} t) room ps z n s r = prod (some i room _ (starts_item t z)) (finishes t room ps z n (stops_less z (item_level i) (item_rank i) (omega (arith, below i)) s) r)
+finishes (one {i = i} t) room ps z n s r = prod (some i room _ (starts_item t z)) (finishes t room ps z n (stops_less z (item_level i) (item_start_rank i) (omega (arith, below i)) s) r)
 finishes (end {i = i}) room ps z n s r = prod {qs = []} (ap (λ b. if b then parts (nonterminal (item i) room ∷ nonterminal (items i) room ∷ []) else parts []) (left_out i z s)) r
 finishes (more {i = i} t ts) room ps z n s r =
-    prod (further i room _ (subst (λ w. NextHasRank (item_rank i) w) (sym (append_assoc (spell t) (spell ts) z)) (starts_item t (spell ts ++ z))))
+    prod (further i room _ (subst (λ w. NextTokenHasRank (item_start_rank i) w) (sym (append_assoc (spell t) (spell ts) z)) (starts_item t (spell ts ++ z))))
     (assoc (spell t) (spell ts) z (finishes t room _ _ (omega arith) (stops_items ts z (item_level i) (below i) s) (finishes ts room ps z (omega arith) s r)))
 finishes (compares a c) room ps z n s r = prod refl (assoc (spell a) (spell c) z (finishes a room _ _ (omega arith) (stops_maybe c z 3 (omega arith) s) (finishes c room ps z (omega arith) s r)))
 finishes (relates o a) room ps z n s r = prod refl (tok (finishes a room ps z n s r))

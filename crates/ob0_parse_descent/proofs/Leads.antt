@@ -10,10 +10,10 @@ use Rattle.ob0_parse_descent.specs.declared.refusal.ExpectedSyntax.{ExpectedSynt
 use Rattle.ob0_parse_descent.specs.declared.refusal.ParseRefusal.{ParseRefusal}
 use Rattle.ob0_parse_descent.specs.declared.refusal.ParseRefusal.TheVariants.{Syntax}
 use Rattle.ob0_tree.specs.Tree.{Sort, Tree, spell}
-use Rattle.ob0_parse_descent.specs.Follow.{rank, kind_rank, level, NextHasRank, EndsConstruct}
+use Rattle.ob0_parse_descent.specs.Follow.{rank, kind_rank, level, NextTokenHasRank, NextTokenEndsConstruct}
 use Rattle.ob0_parse_descent.proofs.Unique.{same}
-use Rattle.ob0_parse_descent.specs.Reading.{rest, ProductionPart, token, name, BeginsWithParts, DescentStopsWith, FailsToRead, IsTokenOtherThan, IsNotIdentifier}
-use Rattle.ob0_parse_descent.specs.Descent.{MatchesPart, expected_part, expected_token, Expects, Descends, other}
+use Rattle.ob0_parse_descent.specs.Reading.{rest, ProductionPart, token, name, BeginsWithParts, DescentEndsWith, FailsToRead, IsTokenOtherThan, IsNotIdentifier}
+use Rattle.ob0_parse_descent.specs.Descent.{MatchesPart, syntax_expected_for_part, syntax_expected_for_kind, Expects, Descends, other}
 use Rattle.ob0_parse_descent.specs.declared.refusal.ExpectedSyntax.TheVariants as expected
 use Rattle.ob0_parse_descent.proofs.Refusals.{at_once, fails_by, in_name, in_token}
 
@@ -83,24 +83,24 @@ led (WordOrSymbol k) j e = ap WordOrSymbol (leads k j e)
 led EndOfText j e = cc
 
 -- If the only token with an item's rank isn't here, no such item begins here.
-pub no_item : {k : TokenKind} {ts : List Token} {at : ℕ} (r : ℕ) → leader r ≡ Some k → IsTokenOtherThan (WordOrSymbol k) ts at → ¬ NextHasRank r (rest ts at)
+pub no_item : {k : TokenKind} {ts : List Token} {at : ℕ} (r : ℕ) → leader r ≡ Some k → IsTokenOtherThan (WordOrSymbol k) ts at → ¬ NextTokenHasRank r (rest ts at)
 no_item {k = k} {ts = ts} {at = at} r is o s =
-    let t : rank o.fault ≡ r = subst (λ y. NextHasRank r y) o.here s in
+    let t : rank o.fault ≡ r = subst (λ y. NextTokenHasRank r y) o.here s in
     o.differs (led o.fault k (ap leader t ∙ is))
 
-pub no_named_item : {ts : List Token} {at : ℕ} → IsNotIdentifier ts at → ¬ NextHasRank 7 (rest ts at)
-no_named_item {ts = ts} {at = at} o s = o.ranked (subst (λ y. NextHasRank 7 y) o.here s)
+pub no_named_item : {ts : List Token} {at : ℕ} → IsNotIdentifier ts at → ¬ NextTokenHasRank 7 (rest ts at)
+no_named_item {ts = ts} {at = at} o s = o.ranked (subst (λ y. NextTokenHasRank 7 y) o.here s)
 
 -- If parts can't begin with the next token, and the descent over them stops there, they are refused
 -- at that token.
-pub fails_here : {ps : List ProductionPart} {ts : List Token} {at : ℕ} {e : ExpectedSyntax} (x : Terminal ℕ) → at ≤ length ts → rest ts at ≡ x ∷ rest ts (at + 1) → DescentStopsWith ps ts at (Expects at e) → ((u : List (Terminal ℕ)) → BeginsWithParts ps (x ∷ u) → ⊥) → FailsToRead ps ts at (Syntax at e)
+pub fails_here : {ps : List ProductionPart} {ts : List Token} {at : ℕ} {e : ExpectedSyntax} (x : Terminal ℕ) → at ≤ length ts → rest ts at ≡ x ∷ rest ts (at + 1) → DescentEndsWith ps ts at (Expects at e) → ((u : List (Terminal ℕ)) → BeginsWithParts ps (x ∷ u) → ⊥) → FailsToRead ps ts at (Syntax at e)
 fails_here x l here reads never = record { why = (l, at_once here never); reads = reads }
 
 -- If the next token isn't this part, the descent stops there and expects the part.
-pub stops_here : {p : ProductionPart} {x : Terminal ℕ} {e : ExpectedSyntax} (ts : List Token) (at : ℕ) → rest ts at ≡ x ∷ rest ts (at + 1) → ¬ MatchesPart p x → expected_part p ≡ Some e → DescentStopsWith (p ∷ []) ts at (Expects at e)
+pub stops_here : {p : ProductionPart} {x : Terminal ℕ} {e : ExpectedSyntax} (ts : List Token) (at : ℕ) → rest ts at ≡ x ∷ rest ts (at + 1) → ¬ MatchesPart p x → syntax_expected_for_part p ≡ Some e → DescentEndsWith (p ∷ []) ts at (Expects at e)
 stops_here {p = p} {e = e} ts at here differs is more = subst (λ w. Descends (p ∷ more) at w (Expects at e)) (sym here) (other differs is)
 
-pub fails_token : {k : TokenKind} {ts : List Token} {at : ℕ} {x : ExpectedSyntax} → expected_token k ≡ Some x → IsTokenOtherThan (WordOrSymbol k) ts at → FailsToRead (token k ∷ []) ts at (Syntax at x)
+pub fails_token : {k : TokenKind} {ts : List Token} {at : ℕ} {x : ExpectedSyntax} → syntax_expected_for_kind k ≡ Some x → IsTokenOtherThan (WordOrSymbol k) ts at → FailsToRead (token k ∷ []) ts at (Syntax at x)
 fails_token is o = fails_here o.fault o.within o.here (stops_here _ _ o.here o.differs is) (λ u b. o.differs (cc (b.1)))
 
 pub fails_name : {ts : List Token} {at : ℕ} → IsNotIdentifier ts at → FailsToRead (name ∷ []) ts at (Syntax at expected.Identifier)
@@ -113,10 +113,10 @@ inside : {a b : ParseRefusal} → Some a ≡ Some b → a ≡ b
 inside q = cc
 
 -- If a token is missing, all parts that begin with that token are refused.
-pub fails_in_token : {k : TokenKind} {ps : List ProductionPart} {ts : List Token} {at : ℕ} {e : ParseRefusal} → IsTokenOtherThan (WordOrSymbol k) ts at × (Some e ≡ option_map (Syntax at) (expected_token k)) → FailsToRead (token k ∷ ps) ts at e
-fails_in_token {k = k} {ps = ps} {ts = ts} {at = at} {e = e} q = go (expected_token k) refl q.1
+pub fails_in_token : {k : TokenKind} {ps : List ProductionPart} {ts : List Token} {at : ℕ} {e : ParseRefusal} → IsTokenOtherThan (WordOrSymbol k) ts at × (Some e ≡ option_map (Syntax at) (syntax_expected_for_kind k)) → FailsToRead (token k ∷ ps) ts at e
+fails_in_token {k = k} {ps = ps} {ts = ts} {at = at} {e = e} q = go (syntax_expected_for_kind k) refl q.1
   where
-    go : (x : Option ExpectedSyntax) → expected_token k ≡ x → Some e ≡ option_map (Syntax at) x → FailsToRead (token k ∷ ps) ts at e
+    go : (x : Option ExpectedSyntax) → syntax_expected_for_kind k ≡ x → Some e ≡ option_map (Syntax at) x → FailsToRead (token k ∷ ps) ts at e
     go None is same = absurd (some_none same)
     go (Some x) is same = subst (λ e. FailsToRead (token k ∷ ps) ts at e) (sym (inside same)) (fails_by (λ o r more. r (ps ++ more)) (λ after r. in_token r) (fails_token is q.0))
 
@@ -172,9 +172,9 @@ positive (WordOrSymbol (kind.Symbol symbol.LeftBracket)) = omega arith
 positive (WordOrSymbol (kind.Symbol symbol.RightBracket)) = omega arith
 
 -- A construct of level 0 is never continued.
-pub stops_zero : (x : List (Terminal ℕ)) → EndsConstruct 0 x
+pub stops_zero : (x : List (Terminal ℕ)) → NextTokenEndsConstruct 0 x
 stops_zero [] = tt
 stops_zero (c ∷ x) = positive c
 
-pub only_zero : {s : Sort} (t u : Tree ℕ s) (z w : List (Terminal ℕ)) → level s ≡ 0 → EndsConstruct (level s) z → spell u ++ z ≡ spell t ++ w → (u ≡ t) × (z ≡ w)
-only_zero t u z w is p e = same u t z w p (subst (λ n. EndsConstruct n w) (sym is) (stops_zero w)) e
+pub only_zero : {s : Sort} (t u : Tree ℕ s) (z w : List (Terminal ℕ)) → level s ≡ 0 → NextTokenEndsConstruct (level s) z → spell u ++ z ≡ spell t ++ w → (u ≡ t) × (z ≡ w)
+only_zero t u z w is p e = same u t z w p (subst (λ n. NextTokenEndsConstruct n w) (sym is) (stops_zero w)) e

@@ -6,33 +6,33 @@ use Rattle.ob0_scan.specs.declared.lexeme.ReservedWord.TheVariants as reserved
 use Rattle.ob0_scan.specs.declared.lexeme.Symbol.TheVariants as symbol
 use Rattle.ob0_scan.specs.declared.lexeme.Token.{Token}
 use Rattle.ob0_tree.specs.Lexeme.{Terminal, WordOrSymbol}
-use Rattle.ob0_tree.specs.Tree.{Item, then_argument, then_statement, else_branch, then_fields, then_section, begins, declares_constants, declares_types, declares_variables, further_argument, further_statement, else_part, further_fields, further_section, body, constants, type_definitions, variables, constant, type_definition, variable, expression, statement, sequence, fields, section, Sort, item, items, Tree, spell, nesting}
-use Rattle.ob0_parse_descent.specs.Follow.{kind_rank, item_rank, item_level, level, NextHasRank}
-use Rattle.ob0_parse_descent.specs.Reading.{rest, token, nonterminal, BeginsWithParts, DescentsEndWithSameStop, IsReadTree, FailsToRead, ItemBeginsButCantBeRead}
+use Rattle.ob0_tree.specs.Tree.{GrammarItem, then_argument, then_statement, else_branch, then_fields, then_section, begins, declares_constants, declares_types, declares_variables, further_argument, further_statement, else_part, further_fields, further_section, body, constants, type_definitions, variables, constant, type_definition, variable, expression, statement, sequence, fields, section, Sort, item, items, Tree, spell, nesting}
+use Rattle.ob0_parse_descent.specs.Follow.{kind_rank, item_start_rank, item_level, level, NextTokenHasRank}
+use Rattle.ob0_parse_descent.specs.Reading.{rest, token, nonterminal, BeginsWithParts, DescentsHaveSameEnd, IsReadTree, FailsToRead, ItemBeginsButCantBeRead}
 use Rattle.ob0_parse_descent.specs.Descent.{parts, chosen_item_production}
 use Rattle.ob0_parse_descent.proofs.Descent.{by, read_led}
 use Rattle.ob0_parse_descent.specs.declared.refusal.ParseRefusal.{ParseRefusal}
 use Rattle.ob0_parse_descent.proofs.Unique.{stops_less, tail_of}
 use Rattle.ob0_parse_descent.proofs.Refusals.{fails_following}
 
-pub record Leads {s : Sort} {i : Item} (k : TokenKind) (make : Tree ℕ s → Tree ℕ (item i)) : Type 0 where
+pub record Leads {s : Sort} {i : GrammarItem} (k : TokenKind) (make : Tree ℕ s → Tree ℕ (item i)) : Type 0 where
   pub spelled : (t : Tree ℕ s) → spell (make t) ≡ WordOrSymbol k ∷ spell t
   pub deep : (t : Tree ℕ s) → nesting (make t) ≡ nesting t
   pub back : (u : Tree ℕ (item i)) → (v : Tree ℕ s) × (u ≡ make v)
   pub lower : level s ≤ item_level i
-  pub ranked : kind_rank k ≡ item_rank i
+  pub ranked : kind_rank k ≡ item_start_rank i
   pub chosen_production : (room : ℕ) (w : List (Terminal ℕ)) → chosen_item_production i room (WordOrSymbol k ∷ w) ≡ parts (token k ∷ nonterminal s room ∷ [])
 
-led_back : {s : Sort} {i : Item} {k : TokenKind} {make : Tree ℕ s → Tree ℕ (item i)} → Leads k make → (u : Tree ℕ (item i)) (z w : List (Terminal ℕ)) → spell u ++ z ≡ WordOrSymbol k ∷ w → (v : Tree ℕ s) × (u ≡ make v) × (spell v ++ z ≡ w)
+led_back : {s : Sort} {i : GrammarItem} {k : TokenKind} {make : Tree ℕ s → Tree ℕ (item i)} → Leads k make → (u : Tree ℕ (item i)) (z w : List (Terminal ℕ)) → spell u ++ z ≡ WordOrSymbol k ∷ w → (v : Tree ℕ s) × (u ≡ make v) × (spell v ++ z ≡ w)
 led_back {k = k} l u z w e =
     let b = l.back u in
     let spelled : spell u ≡ WordOrSymbol k ∷ spell b.0 = ap spell b.1 ∙ l.spelled b.0 in
     (b.0, b.1, tail_of (ap (λ x. x ++ z) (sym spelled) ∙ e))
 
-led_read : {s : Sort} {i : Item} {k : TokenKind} {make : Tree ℕ s → Tree ℕ (item i)} {room : ℕ} {ts : List Token} {at : ℕ} → Leads k make → rest ts at ≡ WordOrSymbol k ∷ rest ts (at + 1) → DescentsEndWithSameStop (nonterminal (item i) room ∷ []) (nonterminal s room ∷ []) ts at (at + 1)
+led_read : {s : Sort} {i : GrammarItem} {k : TokenKind} {make : Tree ℕ s → Tree ℕ (item i)} {room : ℕ} {ts : List Token} {at : ℕ} → Leads k make → rest ts at ≡ WordOrSymbol k ∷ rest ts (at + 1) → DescentsHaveSameEnd (nonterminal (item i) room ∷ []) (nonterminal s room ∷ []) ts at (at + 1)
 led_read {s = s} {room = room} {ts = ts} {at = at} l here = read_led (nonterminal s room ∷ []) (l.chosen_production room (rest ts (at + 1))) here
 
-pub taken_led : {s : Sort} {i : Item} {k : TokenKind} {make : Tree ℕ s → Tree ℕ (item i)} {room : ℕ} {ts : List Token} {at n : ℕ} → Leads k make → (t : Tree ℕ s) → rest ts at ≡ WordOrSymbol k ∷ rest ts (at + 1) → IsReadTree t room ts (at + 1) n → IsReadTree (make t) room ts at n
+pub taken_led : {s : Sort} {i : GrammarItem} {k : TokenKind} {make : Tree ℕ s → Tree ℕ (item i)} {room : ℕ} {ts : List Token} {at n : ℕ} → Leads k make → (t : Tree ℕ s) → rest ts at ≡ WordOrSymbol k ∷ rest ts (at + 1) → IsReadTree t room ts (at + 1) n → IsReadTree (make t) room ts at n
 taken_led {s = s} {i = i} {k = k} {make = make} {room = room} {ts = ts} {n = n} l t here p = record {
   spelled = here ∙ (ap (λ y. WordOrSymbol k ∷ y) p.spelled ∙ ap (λ y. y ++ rest ts n) (sym (l.spelled t)));
   shallow = subst (λ y. y ≤ room) (sym (l.deep t)) p.shallow;
@@ -45,14 +45,14 @@ taken_led {s = s} {i = i} {k = k} {make = make} {room = room} {ts = ts} {n = n} 
   forward = omega (arith, p.forward);
 }
 
-led_parts : {s : Sort} {i : Item} {k : TokenKind} {make : Tree ℕ s → Tree ℕ (item i)} (room : ℕ) → Leads k make → (w : List (Terminal ℕ)) → BeginsWithParts (nonterminal (item i) room ∷ []) (WordOrSymbol k ∷ w) → BeginsWithParts (nonterminal s room ∷ []) w
+led_parts : {s : Sort} {i : GrammarItem} {k : TokenKind} {make : Tree ℕ s → Tree ℕ (item i)} (room : ℕ) → Leads k make → (w : List (Terminal ℕ)) → BeginsWithParts (nonterminal (item i) room ∷ []) (WordOrSymbol k ∷ w) → BeginsWithParts (nonterminal s room ∷ []) w
 led_parts {s = s} {i = i} room l w (u, z, e, n, stop, b) =
     let v = led_back l u z w (sym e) in
     (v.0, z, sym v.2, subst (λ y. y ≤ room) (ap nesting v.1 ∙ l.deep v.0) n, stops_less z (level s) (item_level i) l.lower stop, tt)
 
-pub led_fails : {s : Sort} {i : Item} {k : TokenKind} {make : Tree ℕ s → Tree ℕ (item i)} {room : ℕ} {ts : List Token} {at : ℕ} {e : ParseRefusal} → Leads k make → rest ts at ≡ WordOrSymbol k ∷ rest ts (at + 1) → FailsToRead (nonterminal s room ∷ []) ts (at + 1) e → ItemBeginsButCantBeRead i room ts at e
+pub led_fails : {s : Sort} {i : GrammarItem} {k : TokenKind} {make : Tree ℕ s → Tree ℕ (item i)} {room : ℕ} {ts : List Token} {at : ℕ} {e : ParseRefusal} → Leads k make → rest ts at ≡ WordOrSymbol k ∷ rest ts (at + 1) → FailsToRead (nonterminal s room ∷ []) ts (at + 1) e → ItemBeginsButCantBeRead i room ts at e
 led_fails {s = s} {i = i} {k = k} {room = room} l here q = record {
-  is_here = subst (λ y. NextHasRank (item_rank i) y) (sym here) l.ranked;
+  is_here = subst (λ y. NextTokenHasRank (item_start_rank i) y) (sym here) l.ranked;
   fails = fails_following {qs = nonterminal s room ∷ []} (led_read l here) here (led_parts room l) q;
 }
 

@@ -9,7 +9,7 @@ use Rattle.ob0_tree.specs.declared.tree.SimpleExpression.{SimpleExpression, out-
 use Rattle.ob0_tree.specs.declared.tree.Term.{out-Term}
 use Rattle.ob0_tree.specs.View.{items_of, simple_expression_of, addend_of, term_of, multiplier_of, factor_of}
 use Rattle.ob0_tree.proofs.Viewed.{simple_parts, term_parts}
-use Rattle.ob0_parse_descent.specs.Follow.{rank, binding_rank, EndsConstruct, NextHasRank}
+use Rattle.ob0_parse_descent.specs.Follow.{rank, binding_rank, NextTokenEndsConstruct, NextTokenHasRank}
 use Rattle.ob0_parse_descent.specs.Reading.{terminal_or_end, rest, IsReadTree, IsSingleTokenFactor, BeginsWithoutSign, IsSignAt}
 use Rattle.ob0_parse_descent.proofs.NamedStatements.{true_not_false}
 use Rattle.ob0_parse_descent.proofs.Items.{taking_none, taking_done}
@@ -22,22 +22,22 @@ binding_ranked : (next : Option TokenKind) (i : ℕ) → binding_rank next ≤ r
 binding_ranked None i = omega arith
 binding_ranked (Some k) i = omega (arith, rank_of i k)
 
-pub weaker_stops : (ts : List Token) (at level : ℕ) (next : Option TokenKind) → rest ts at ≡ terminal_or_end at next ∷ rest ts (at + 1) → level < binding_rank next → EndsConstruct level (rest ts at)
+pub weaker_stops : (ts : List Token) (at level : ℕ) (next : Option TokenKind) → rest ts at ≡ terminal_or_end at next ∷ rest ts (at + 1) → level < binding_rank next → NextTokenEndsConstruct level (rest ts at)
 weaker_stops ts at level next here weaker =
     let ranked : level < rank (terminal_or_end at next) = omega (arith, binding_ranked next at) in
-    subst (λ y. EndsConstruct level y) (sym here) ranked
+    subst (λ y. NextTokenEndsConstruct level y) (sym here) ranked
 
-no_start : (xs : List (Terminal ℕ)) (n level : ℕ) → n ≤ level → EndsConstruct level xs → ¬ NextHasRank n xs
+no_start : (xs : List (Terminal ℕ)) (n level : ℕ) → n ≤ level → NextTokenEndsConstruct level xs → ¬ NextTokenHasRank n xs
 no_start [] n level l s h = h
 no_start (x ∷ xs) n level l s h = omega arith
 
-pub lone_name : {ts : List Token} {at : ℕ} (level : ℕ) → rest ts at ≡ Name at ∷ rest ts (at + 1) → at < length ts → 1 ≤ level → EndsConstruct level (rest ts (at + 1)) → IsSingleTokenFactor level (designator at end) ts at
+pub lone_name : {ts : List Token} {at : ℕ} (level : ℕ) → rest ts at ≡ Name at ∷ rest ts (at + 1) → at < length ts → 1 ≤ level → NextTokenEndsConstruct level (rest ts (at + 1)) → IsSingleTokenFactor level (designator at end) ts at
 lone_name {ts = ts} {at = at} level here within l s = record {
   taken = λ room. taken_designator end here refl (taking_done end (taking_none selector room ts (at + 1) (omega arith)) (no_start (rest ts (at + 1)) 1 level l s));
   stops = s;
 }
 
-pub lone_number : {ts : List Token} {at : ℕ} (level : ℕ) → rest ts at ≡ Number at ∷ rest ts (at + 1) → at < length ts → EndsConstruct level (rest ts (at + 1)) → IsSingleTokenFactor level (integer at) ts at
+pub lone_number : {ts : List Token} {at : ℕ} (level : ℕ) → rest ts at ≡ Number at ∷ rest ts (at + 1) → at < length ts → NextTokenEndsConstruct level (rest ts (at + 1)) → IsSingleTokenFactor level (integer at) ts at
 lone_number {ts = ts} {at = at} level here within s = record { taken = λ room. taken_integer room ts at here within; stops = s }
 
 pub lone_term : {ts : List Token} {at : ℕ} (f : Tree ℕ factor) (level room : ℕ) → 2 ≤ level → IsSingleTokenFactor level f ts at → IsReadTree (product f end) room ts at (at + 1)

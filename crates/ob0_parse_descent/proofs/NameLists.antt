@@ -5,7 +5,7 @@ use Rattle.ob0_scan.specs.declared.lexeme.Symbol.TheVariants as symbol
 use Rattle.ob0_scan.specs.declared.lexeme.Token.{Token}
 use Rattle.ob0_tree.specs.Lexeme.{Terminal, Name, WordOrSymbol}
 use Rattle.ob0_tree.specs.Tree.{item, items, further_name, names, Tree, end, more, listed, then_name, spell, nesting}
-use Rattle.ob0_parse_descent.specs.Follow.{EndsConstruct, NextHasRank}
+use Rattle.ob0_parse_descent.specs.Follow.{NextTokenEndsConstruct, NextTokenHasRank}
 use Rattle.ob0_parse_descent.specs.Reading.{rest, name, nonterminal, BeginsWithParts, HaveSameFirstToken, IsReadTree, FailsToRead, ItemBeginsButCantBeRead, IsNotIdentifier}
 use Rattle.ob0_parse_descent.proofs.Descent.{both, by, read_name, read_made, read_led}
 use Rattle.ob0_parse_descent.specs.declared.refusal.ExpectedSyntax.TheVariants as expected
@@ -34,11 +34,11 @@ then_name_parts w (then_name n, z, e, l, s, b) = (n, z, tail_of e, tt)
 
 pub then_name_fails : {ts : List Token} {at : ℕ} {e : ParseRefusal} → rest ts at ≡ WordOrSymbol (kind.Symbol symbol.Comma) ∷ rest ts (at + 1) → FailsToRead (name ∷ []) ts (at + 1) e → ItemBeginsButCantBeRead further_name 0 ts at e
 then_name_fails here q = record {
-  is_here = subst (λ y. NextHasRank 5 y) (sym here) refl;
+  is_here = subst (λ y. NextTokenHasRank 5 y) (sym here) refl;
   fails = fails_following {qs = name ∷ []} (read_led (name ∷ []) refl here) here then_name_parts q;
 }
 
-listed_only : {ts : List Token} {m n : ℕ} (i : ℕ) (others : Tree ℕ (items further_name)) → IsReadTree others 0 ts m n → (u : Tree ℕ names) (z w : List (Terminal ℕ)) → HaveSameFirstToken (rest ts n) w → EndsConstruct 5 z → spell u ++ z ≡ Name i ∷ (spell others ++ w) → (u ≡ listed i others) × (z ≡ w)
+listed_only : {ts : List Token} {m n : ℕ} (i : ℕ) (others : Tree ℕ (items further_name)) → IsReadTree others 0 ts m n → (u : Tree ℕ names) (z w : List (Terminal ℕ)) → HaveSameFirstToken (rest ts n) w → NextTokenEndsConstruct 5 z → spell u ++ z ≡ Name i ∷ (spell others ++ w) → (u ≡ listed i others) × (z ≡ w)
 listed_only i others p (listed k us) z w h s e =
     let r = p.only us z w h s (tail_of e) in
     let same : k ≡ i = name_of e in

@@ -6,9 +6,9 @@ use Rattle.ob0_scan.specs.declared.lexeme.Symbol.TheVariants as symbol
 use Rattle.ob0_scan.specs.declared.lexeme.Token.{Token}
 use Rattle.ob0_tree.specs.Lexeme.{Terminal, Name, WordOrSymbol}
 use Rattle.ob0_tree.specs.Tree.{selector, arguments, expression, factor, statement, designator, empty, assigns, calls, branches, while_loop, repeat_loop, no_arguments, some_arguments, Sort, item, items, maybe, Tree, none, one, end, more, spell}
-use Rattle.ob0_parse_descent.specs.Follow.{rank, level, EndsConstruct, NextHasRank}
-use Rattle.ob0_parse_descent.specs.Reading.{rest, ProductionPart, token, name, nonterminal, BeginsWithParts, HaveSameFirstToken, CantBeginWithParts, DescentsEndWithSameStop, IsReadTree, DescentStopsWith, FailsToRead, ItemBeginsButCantBeRead, IsTokenOtherThan}
-use Rattle.ob0_parse_descent.specs.Descent.{parts, symbol_part, is_assignment_next, is_item_next, chosen_production, Stop, Descends, done, taken, made}
+use Rattle.ob0_parse_descent.specs.Follow.{rank, level, NextTokenEndsConstruct, NextTokenHasRank}
+use Rattle.ob0_parse_descent.specs.Reading.{rest, ProductionPart, token, name, nonterminal, BeginsWithParts, HaveSameFirstToken, CantBeginWithParts, DescentsHaveSameEnd, IsReadTree, DescentEndsWith, FailsToRead, ItemBeginsButCantBeRead, IsTokenOtherThan}
+use Rattle.ob0_parse_descent.specs.Descent.{parts, symbol_part, is_assignment_next, is_item_next, chosen_production, DescentEnd, Descends, done, taken, made}
 use Rattle.ob0_parse_descent.specs.declared.refusal.ExpectedSyntax.TheVariants as expected
 use Rattle.ob0_parse_descent.proofs.Descent.{both, by, read_token, read_made, read_back, unmade, past_name, next_item, no_next}
 use Rattle.ob0_parse_descent.specs.declared.refusal.ParseRefusal.{ParseRefusal}
@@ -28,7 +28,7 @@ record After {s : Sort} (t : Tree ℕ s) (w : List (Terminal ℕ)) (ps : List Pr
   other : Tree ℕ s
   left : List (Terminal ℕ)
   is : spell other ++ left ≡ spell t ++ w
-  stops : EndsConstruct (level s) left
+  stops : NextTokenEndsConstruct (level s) left
   begins : other ≡ t → left ≡ w → BeginsWithParts ps w
 
 known : {s : Sort} {room : ℕ} {ps qs : List ProductionPart} {ts : List Token} {at next : ℕ} {after : List (Terminal ℕ)} (t : Tree ℕ s) → IsReadTree t room ts at next → ((w : List (Terminal ℕ)) → HaveSameFirstToken (rest ts next) w → BeginsWithParts ps (spell t ++ w) → After t w qs) → CantBeginWithParts qs (rest ts next) after → CantBeginWithParts ps (rest ts at) after
@@ -44,7 +44,7 @@ known {ps = ps} {qs = qs} {ts = ts} {next = next} {after = after} t p f r = reco
       r.cant_begin unseen (k.begins same.0 same.1);
 }
 
-fails_known : {s : Sort} {room : ℕ} {ps : List ProductionPart} {ts : List Token} {at next : ℕ} {e : ParseRefusal} (qs : List ProductionPart) → ((o : Stop) → DescentStopsWith qs ts next o → DescentStopsWith ps ts at o) → (t : Tree ℕ s) → IsReadTree t room ts at next → ((w : List (Terminal ℕ)) → HaveSameFirstToken (rest ts next) w → BeginsWithParts ps (spell t ++ w) → After t w qs) → FailsToRead qs ts next e → FailsToRead ps ts at e
+fails_known : {s : Sort} {room : ℕ} {ps : List ProductionPart} {ts : List Token} {at next : ℕ} {e : ParseRefusal} (qs : List ProductionPart) → ((o : DescentEnd) → DescentEndsWith qs ts next o → DescentEndsWith ps ts at o) → (t : Tree ℕ s) → IsReadTree t room ts at next → ((w : List (Terminal ℕ)) → HaveSameFirstToken (rest ts next) w → BeginsWithParts ps (spell t ++ w) → After t w qs) → FailsToRead qs ts next e → FailsToRead ps ts at e
 fails_known qs g t p f q = fails_by g (λ after r. known t p f r) q
 
 -- Proves that the descent reads the parts of an assignment or a call after the name.
@@ -56,13 +56,13 @@ pub chosen_named : (room : ℕ) {n : ℕ} {xs w : List (Terminal ℕ)} (b : Bool
 chosen_named room true e is = ap (λ y. chosen_production statement room y) e ∙ ap (λ c. if c then parts (named_statement room true) else parts (named_statement room false)) is
 chosen_named room false e is = ap (λ y. chosen_production statement room y) e ∙ ap (λ c. if c then parts (named_statement room true) else parts (named_statement room false)) is
 
-selected : (w : List (Terminal ℕ)) → NextHasRank 1 w → is_assignment_next w ≡ true
+selected : (w : List (Terminal ℕ)) → NextTokenHasRank 1 w → is_assignment_next w ≡ true
 selected [] s = absurd s
 selected (WordOrSymbol (kind.Symbol symbol.Becomes) ∷ w) s = refl
 selected (x ∷ w) s = next_item selector (x ∷ w) s
 
 selector_next : (f : Tree ℕ (item selector)) (fs : Tree ℕ (items selector)) (z : List (Terminal ℕ)) → is_assignment_next ((spell f ++ spell fs) ++ z) ≡ true
-selector_next f fs z = selected _ (subst (λ w. NextHasRank 1 w) (sym (append_assoc (spell f) (spell fs) z)) (starts_item f (spell fs ++ z)))
+selector_next f fs z = selected _ (subst (λ w. NextTokenHasRank 1 w) (sym (append_assoc (spell f) (spell fs) z)) (starts_item f (spell fs ++ z)))
 
 pub assigned_next : (ss : Tree ℕ (items selector)) (z y : List (Terminal ℕ)) → z ≡ WordOrSymbol (kind.Symbol symbol.Becomes) ∷ y → is_assignment_next (spell ss ++ z) ≡ true
 assigned_next end z y e = ap is_assignment_next e
@@ -70,25 +70,25 @@ assigned_next (more f fs) z y e = selector_next f fs z
 
 -- If a designator was read and the statement is an assignment, the descent reads the statement as
 -- `:=` and an expression after that designator.
-target_read : {room : ℕ} {ts : List Token} {at m : ℕ} (ss : Tree ℕ (items selector)) (x : ℕ) → IsReadTree (designator x ss) room ts at m → is_assignment_next (spell ss ++ rest ts m) ≡ true → DescentsEndWithSameStop (nonterminal statement room ∷ []) (token (kind.Symbol symbol.Becomes) ∷ nonterminal expression room ∷ []) ts at m
+target_read : {room : ℕ} {ts : List Token} {at m : ℕ} (ss : Tree ℕ (items selector)) (x : ℕ) → IsReadTree (designator x ss) room ts at m → is_assignment_next (spell ss ++ rest ts m) ≡ true → DescentsHaveSameEnd (nonterminal statement room ∷ []) (token (kind.Symbol symbol.Becomes) ∷ nonterminal expression room ∷ []) ts at m
 target_read {room = room} ss x p is = by (read_made (chosen_named room true p.spelled is)) (record {
   stops_as_following = λ o more r.
       let q = read_back {qs = name ∷ nonterminal (items selector) room ∷ []} (ap (λ w. chosen_production factor room w) p.spelled) p.reads in
       q.stops_as_following o (token (kind.Symbol symbol.Becomes) ∷ nonterminal expression room ∷ more) r;
 })
 
-pub unassigned : (x : Terminal ℕ) (w : List (Terminal ℕ)) → x ≢ WordOrSymbol (kind.Symbol symbol.Becomes) → ¬ NextHasRank 1 (x ∷ w) → is_assignment_next (x ∷ w) ≡ false
+pub unassigned : (x : Terminal ℕ) (w : List (Terminal ℕ)) → x ≢ WordOrSymbol (kind.Symbol symbol.Becomes) → ¬ NextTokenHasRank 1 (x ∷ w) → is_assignment_next (x ∷ w) ≡ false
 unassigned (WordOrSymbol (kind.Symbol symbol.Becomes)) w differs lacks = absurd (differs refl)
 unassigned x w differs lacks = no_next selector (x ∷ w) lacks _ refl
 
-no_selector_next : (room : ℕ) (w : List (Terminal ℕ)) → ¬ NextHasRank 1 w → chosen_production (items selector) room w ≡ parts []
+no_selector_next : (room : ℕ) (w : List (Terminal ℕ)) → ¬ NextTokenHasRank 1 w → chosen_production (items selector) room w ≡ parts []
 no_selector_next room w lacks = ap (λ b. if b then parts (nonterminal (item selector) room ∷ nonterminal (items selector) room ∷ []) else parts []) (no_next selector w lacks _ refl)
 
 -- If a name was read and neither `:=` nor a selector follows, the descent reads the statement as
 -- optional arguments after that name.
-call_read : {room : ℕ} {ts : List Token} {at m : ℕ} (x : ℕ) → IsReadTree (designator x end) room ts at m → IsTokenOtherThan (WordOrSymbol (kind.Symbol symbol.Becomes)) ts m → ¬ NextHasRank 1 (rest ts m) → DescentsEndWithSameStop (nonterminal statement room ∷ []) (nonterminal (maybe arguments) room ∷ []) ts at m
+call_read : {room : ℕ} {ts : List Token} {at m : ℕ} (x : ℕ) → IsReadTree (designator x end) room ts at m → IsTokenOtherThan (WordOrSymbol (kind.Symbol symbol.Becomes)) ts m → ¬ NextTokenHasRank 1 (rest ts m) → DescentsHaveSameEnd (nonterminal statement room ∷ []) (nonterminal (maybe arguments) room ∷ []) ts at m
 call_read {room = room} {ts = ts} {at = at} {m = m} x p o lacks =
-    let is : is_assignment_next (rest ts m) ≡ false = ap is_assignment_next o.here ∙ unassigned o.fault (rest ts (m + 1)) o.differs (λ s. lacks (subst (λ y. NextHasRank 1 y) (sym o.here) s)) in
+    let is : is_assignment_next (rest ts m) ≡ false = ap is_assignment_next o.here ∙ unassigned o.fault (rest ts (m + 1)) o.differs (λ s. lacks (subst (λ y. NextTokenHasRank 1 y) (sym o.here) s)) in
     by (read_made (chosen_named room false p.spelled is)) (record {
       stops_as_following = λ s more r.
           let whole = unmade {qs = name ∷ nonterminal (items selector) room ∷ []} (ap (λ w. chosen_production factor room w) p.spelled) (p.reads.stops_as_following s (nonterminal (maybe arguments) room ∷ more) r) in
@@ -115,7 +115,7 @@ assigned x k ss rs v z w e = sym (e ∙ ap (λ y. Name k ∷ y) (append_assoc (s
 abbrev pub value_parts : ℕ → List ProductionPart
 value_parts room = token (kind.Symbol symbol.Becomes) ∷ nonterminal expression room ∷ []
 
-not_becomes : {xs y : List (Terminal ℕ)} (w : List (Terminal ℕ)) (a : Tree ℕ (maybe arguments)) (z : List (Terminal ℕ)) → xs ≡ WordOrSymbol (kind.Symbol symbol.Becomes) ∷ y → HaveSameFirstToken xs w → EndsConstruct 8 z → spell a ++ z ≡ w → ⊥
+not_becomes : {xs y : List (Terminal ℕ)} (w : List (Terminal ℕ)) (a : Tree ℕ (maybe arguments)) (z : List (Terminal ℕ)) → xs ≡ WordOrSymbol (kind.Symbol symbol.Becomes) ∷ y → HaveSameFirstToken xs w → NextTokenEndsConstruct 8 z → spell a ++ z ≡ w → ⊥
 not_becomes w none z here h s e = not_at z h.head h.other 8 (e ∙ h.alike) (omega (arith, ap rank (head_of (sym here ∙ h.is)))) s
 not_becomes w (one no_arguments) z here h s e = omega (arith, ap rank (head_of (sym here ∙ h.is) ∙ head_of (sym h.alike ∙ sym e)))
 not_becomes w (one (some_arguments c cs)) z here h s e = omega (arith, ap rank (head_of (sym here ∙ h.is) ∙ head_of (sym h.alike ∙ sym e)))
@@ -190,7 +190,7 @@ following_call room x ss ts m o w h (calls k a, z, e, n, s, b) = record {
   begins = λ same is. (a, z, sym is, n, stops_less z 6 8 (omega arith) s, tt);
 }
 
-pub call_fails : {room : ℕ} {ts : List Token} {at m : ℕ} {e : ParseRefusal} (x : ℕ) (ss : List Selector) → length ss ≡ 0 → IsReadTree (designator x (items_of selector_of ss)) room ts at m × ¬ NextHasRank 1 (rest ts m) → IsTokenOtherThan (WordOrSymbol (kind.Symbol symbol.Becomes)) ts m → ItemBeginsButCantBeRead arguments room ts m e → FailsToRead (nonterminal statement room ∷ []) ts at e
+pub call_fails : {room : ℕ} {ts : List Token} {at m : ℕ} {e : ParseRefusal} (x : ℕ) (ss : List Selector) → length ss ≡ 0 → IsReadTree (designator x (items_of selector_of ss)) room ts at m × ¬ NextTokenHasRank 1 (rest ts m) → IsTokenOtherThan (WordOrSymbol (kind.Symbol symbol.Becomes)) ts m → ItemBeginsButCantBeRead arguments room ts m e → FailsToRead (nonterminal statement room ∷ []) ts at e
 call_fails {room = room} {ts = ts} {m = m} x [] l p o q = fails_known (nonterminal (maybe arguments) room ∷ []) (λ s r following. (call_read x p.0 o p.1).stops_as_following s following (r following)) (designator x end) p.0 (λ w h b. following_call room x end ts m o w h b) (fails_maybe q)
 call_fails x (s ∷ ss) l p o q = absurd (omega arith)
 
@@ -207,19 +207,19 @@ target_parts room i xs w y here h (calls k a, z, e, n, s, b) = (k, _, e, (end, s
 pub true_not_false : true ≡ false → ⊥
 true_not_false e = cc
 
-starts_next : (w : List (Terminal ℕ)) → is_item_next selector w ≡ true → NextHasRank 1 w
+starts_next : (w : List (Terminal ℕ)) → is_item_next selector w ≡ true → NextTokenHasRank 1 w
 starts_next [] e = true_not_false (sym e)
 starts_next (x ∷ w) e = eqb-true (rank x) 1 e
 
 -- If the descent stops in selectors, a selector begins here.
-no_selector_stops : {i : ℕ} {w : List (Terminal ℕ)} {o : Stop} → Descends [] i w o → Descends (token (kind.Symbol symbol.Dot) ∷ []) i w o → ¬ NextHasRank 1 w → ⊥
+no_selector_stops : {i : ℕ} {w : List (Terminal ℕ)} {o : DescentEnd} → Descends [] i w o → Descends (token (kind.Symbol symbol.Dot) ∷ []) i w o → ¬ NextTokenHasRank 1 w → ⊥
 no_selector_stops done (taken is r) lacks = lacks (ap rank is)
 
-named_reads : (room : ℕ) (ts : List Token) (at : ℕ) → rest ts at ≡ Name at ∷ rest ts (at + 1) → (o : Stop) → DescentStopsWith (name ∷ nonterminal (items selector) room ∷ []) ts at o → (b : Bool) → is_item_next selector (rest ts (at + 1)) ≡ b → DescentStopsWith (nonterminal statement room ∷ []) ts at o
+named_reads : (room : ℕ) (ts : List Token) (at : ℕ) → rest ts at ≡ Name at ∷ rest ts (at + 1) → (o : DescentEnd) → DescentEndsWith (name ∷ nonterminal (items selector) room ∷ []) ts at o → (b : Bool) → is_item_next selector (rest ts (at + 1)) ≡ b → DescentEndsWith (nonterminal statement room ∷ []) ts at o
 named_reads room ts at here o r true is =
     λ following. made _ (chosen_named room true here (selected (rest ts (at + 1)) (starts_next (rest ts (at + 1)) is))) (r (token (kind.Symbol symbol.Becomes) ∷ nonterminal expression room ∷ following))
 named_reads room ts at here o r false is =
-    let lacks : ¬ NextHasRank 1 (rest ts (at + 1)) = λ s. true_not_false (sym (next_item selector (rest ts (at + 1)) s) ∙ is) in
+    let lacks : ¬ NextTokenHasRank 1 (rest ts (at + 1)) = λ s. true_not_false (sym (next_item selector (rest ts (at + 1)) s) ∙ is) in
     let past : (ps : List ProductionPart) → Descends ps (at + 1) (rest ts (at + 1)) o = λ ps. unmade (no_selector_next room (rest ts (at + 1)) lacks) (past_name here (r ps)) in
     absurd (no_selector_stops (past []) (past (token (kind.Symbol symbol.Dot) ∷ [])) lacks)
 
@@ -229,7 +229,7 @@ named_fails {room = room} {ts = ts} {at = at} here q =
 
 -- Proves that assignments and calls are read correctly.
 
-calls_only : {room : ℕ} {ts : List Token} {at m n : ℕ} (i : ℕ) (a : Tree ℕ (maybe arguments)) → IsReadTree (designator i end) room ts at m → IsTokenOtherThan (WordOrSymbol (kind.Symbol symbol.Becomes)) ts m → IsReadTree a room ts m n → (u : Tree ℕ statement) (z w : List (Terminal ℕ)) → HaveSameFirstToken (rest ts n) w → EndsConstruct 8 z → spell u ++ z ≡ Name i ∷ (spell a ++ w) → (u ≡ calls i a) × (z ≡ w)
+calls_only : {room : ℕ} {ts : List Token} {at m n : ℕ} (i : ℕ) (a : Tree ℕ (maybe arguments)) → IsReadTree (designator i end) room ts at m → IsTokenOtherThan (WordOrSymbol (kind.Symbol symbol.Becomes)) ts m → IsReadTree a room ts m n → (u : Tree ℕ statement) (z w : List (Terminal ℕ)) → HaveSameFirstToken (rest ts n) w → NextTokenEndsConstruct 8 z → spell u ++ z ≡ Name i ∷ (spell a ++ w) → (u ≡ calls i a) × (z ≡ w)
 calls_only i a p o q empty z w h s e = absurd (not_at z _ _ 8 e (omega arith) s)
 calls_only i a p o q (branches c t es l) z w h s e = absurd (name_not_mark (sym e))
 calls_only i a p o q (while_loop c t) z w h s e = absurd (name_not_mark (sym e))
@@ -243,10 +243,10 @@ calls_only i a p o q (assigns k ss v) z w h s e =
     let r = p.only (designator k ss) (WordOrSymbol (kind.Symbol symbol.Becomes) ∷ (spell v ++ z)) (spell a ++ w) h1 (omega arith) (sym (ap (λ y. Name k ∷ y) (append_assoc (spell ss) _ z)) ∙ e) in
     absurd (o.differs (alike h1 o.here (sym r.1)))
 
-pub taken_call : {room : ℕ} {ts : List Token} {at m n : ℕ} (a : Tree ℕ (maybe arguments)) (x : ℕ) → IsReadTree (designator x end) room ts at m → ¬ NextHasRank 1 (rest ts m) → IsTokenOtherThan (WordOrSymbol (kind.Symbol symbol.Becomes)) ts m → IsReadTree a room ts m n → IsReadTree (calls x a) room ts at n
+pub taken_call : {room : ℕ} {ts : List Token} {at m n : ℕ} (a : Tree ℕ (maybe arguments)) (x : ℕ) → IsReadTree (designator x end) room ts at m → ¬ NextTokenHasRank 1 (rest ts m) → IsTokenOtherThan (WordOrSymbol (kind.Symbol symbol.Becomes)) ts m → IsReadTree a room ts m n → IsReadTree (calls x a) room ts at n
 taken_call a x p lacks o q = record { spelled = p.spelled ∙ ap (λ y. Name x ∷ y) q.spelled; shallow = q.shallow; only = calls_only x a p o q; reads = by (call_read x p o lacks) q.reads; within = q.within; forward = omega (arith, p.forward, q.forward) }
 
-pub call_made : {room : ℕ} {ts : List Token} {at m n : ℕ} {a : Tree ℕ (maybe arguments)} (x : ℕ) (ss : List Selector) → length ss ≡ 0 → IsReadTree (designator x (items_of selector_of ss)) room ts at m × ¬ NextHasRank 1 (rest ts m) → IsTokenOtherThan (WordOrSymbol (kind.Symbol symbol.Becomes)) ts m → IsReadTree a room ts m n → IsReadTree (calls x a) room ts at n
+pub call_made : {room : ℕ} {ts : List Token} {at m n : ℕ} {a : Tree ℕ (maybe arguments)} (x : ℕ) (ss : List Selector) → length ss ≡ 0 → IsReadTree (designator x (items_of selector_of ss)) room ts at m × ¬ NextTokenHasRank 1 (rest ts m) → IsTokenOtherThan (WordOrSymbol (kind.Symbol symbol.Becomes)) ts m → IsReadTree a room ts m n → IsReadTree (calls x a) room ts at n
 call_made {a = a} x [] l p o q = taken_call a x p.0 p.1 o q
 call_made x (s ∷ ss) l p o q = absurd (omega arith)
 
@@ -254,7 +254,7 @@ pub becomes_missing_listed : {room : ℕ} {ts : List Token} {at m : ℕ} (x : �
 becomes_missing_listed x [] l p o = absurd (l refl)
 becomes_missing_listed x (s ∷ ss) l p o = becomes_missing x (selector_of s) (items_of selector_of ss) p o
 
-assigns_only : {room : ℕ} {ts : List Token} {m n : ℕ} (i : ℕ) (ss : Tree ℕ (items selector)) (v : Tree ℕ expression) → IsReadTree v room ts m n → (u : Tree ℕ statement) (z w : List (Terminal ℕ)) → HaveSameFirstToken (rest ts n) w → EndsConstruct 8 z → spell u ++ z ≡ Name i ∷ ((spell ss ++ (WordOrSymbol (kind.Symbol symbol.Becomes) ∷ spell v)) ++ w) → (u ≡ assigns i ss v) × (z ≡ w)
+assigns_only : {room : ℕ} {ts : List Token} {m n : ℕ} (i : ℕ) (ss : Tree ℕ (items selector)) (v : Tree ℕ expression) → IsReadTree v room ts m n → (u : Tree ℕ statement) (z w : List (Terminal ℕ)) → HaveSameFirstToken (rest ts n) w → NextTokenEndsConstruct 8 z → spell u ++ z ≡ Name i ∷ ((spell ss ++ (WordOrSymbol (kind.Symbol symbol.Becomes) ∷ spell v)) ++ w) → (u ≡ assigns i ss v) × (z ≡ w)
 assigns_only i ss v q empty z w h s e = absurd (not_at z _ _ 8 e (omega arith) s)
 assigns_only i ss v q (branches c t es l) z w h s e = absurd (name_not_mark (sym e))
 assigns_only i ss v q (while_loop c t) z w h s e = absurd (name_not_mark (sym e))

@@ -3,10 +3,10 @@ use Rattle.std.proofs.Common.{◌≡◌, ℕ, ◌+◌, List, [], ◌∷◌, ◌+
 use Rattle.ob0_scan.specs.declared.lexeme.TokenKind.{TokenKind}
 use Rattle.ob0_scan.specs.declared.lexeme.Token.{Token}
 use Rattle.ob0_tree.specs.Lexeme.{Terminal, Name, WordOrSymbol}
-use Rattle.ob0_tree.specs.Tree.{Item, Sort, item, maybe, Tree, none, one, spell}
-use Rattle.ob0_parse_descent.specs.Follow.{item_rank, item_level, EndsConstruct, NextHasRank}
-use Rattle.ob0_parse_descent.specs.Reading.{rest, ProductionPart, token, name, nonterminal, BeginsWithParts, HaveSameFirstToken, CantBeginWithParts, IsReadTree, IsRightRefusalOfParts, DescentStopsWith, DescentStopsAsRefusalSays, DescentsEndWithSameStop, FailsToRead, ItemBeginsButCantBeRead}
-use Rattle.ob0_parse_descent.specs.Descent.{Stop, Expects, TooDeepAt}
+use Rattle.ob0_tree.specs.Tree.{GrammarItem, Sort, item, maybe, Tree, none, one, spell}
+use Rattle.ob0_parse_descent.specs.Follow.{item_start_rank, item_level, NextTokenEndsConstruct, NextTokenHasRank}
+use Rattle.ob0_parse_descent.specs.Reading.{rest, ProductionPart, token, name, nonterminal, BeginsWithParts, HaveSameFirstToken, CantBeginWithParts, IsReadTree, IsRightRefusalOfParts, DescentEndsWith, DescentEndsAsRefusalSays, DescentsHaveSameEnd, FailsToRead, ItemBeginsButCantBeRead}
+use Rattle.ob0_parse_descent.specs.Descent.{DescentEnd, Expects, TooDeepAt}
 use Rattle.ob0_parse_descent.proofs.Descent.{read_token, read_name, read_one}
 use Rattle.ob0_parse_descent.specs.declared.refusal.ParseRefusal.{ParseRefusal}
 use Rattle.ob0_parse_descent.specs.declared.refusal.ParseRefusal.TheVariants.{Syntax, TooDeep, Memory}
@@ -16,16 +16,16 @@ passed_head : (passed after unseen : List (Terminal ℕ)) (fault : Terminal ℕ)
 passed_head [] after unseen fault = record { head = fault; following = after; other = unseen; is = refl; alike = refl }
 passed_head (x ∷ passed) after unseen fault = record { head = x; following = passed ++ (fault ∷ after); other = passed ++ (fault ∷ unseen); is = refl; alike = refl }
 
-pub starts_alike : (xs w : List (Terminal ℕ)) (n : ℕ) → HaveSameFirstToken xs w → NextHasRank n xs → NextHasRank n w
+pub starts_alike : (xs w : List (Terminal ℕ)) (n : ℕ) → HaveSameFirstToken xs w → NextTokenHasRank n xs → NextTokenHasRank n w
 starts_alike xs w n h p =
-    let s : NextHasRank n (h.head ∷ h.following) = subst (λ z. NextHasRank n z) h.is p in
-    subst (λ z. NextHasRank n z) (sym h.alike) s
+    let s : NextTokenHasRank n (h.head ∷ h.following) = subst (λ z. NextTokenHasRank n z) h.is p in
+    subst (λ z. NextTokenHasRank n z) (sym h.alike) s
 
-pub starts_back : (xs w : List (Terminal ℕ)) (n : ℕ) → HaveSameFirstToken xs w → NextHasRank n w → NextHasRank n xs
+pub starts_back : (xs w : List (Terminal ℕ)) (n : ℕ) → HaveSameFirstToken xs w → NextTokenHasRank n w → NextTokenHasRank n xs
 starts_back xs w n h p = starts_alike w xs n record { head = h.head; following = h.other; other = h.following; is = h.alike; alike = h.is } p
 
 -- A token that begins an item doesn't end it.
-pub no_end : {N : Type 0} (n : ℕ) (x : List (Terminal N)) → NextHasRank n x → EndsConstruct n x → ⊥
+pub no_end : {N : Type 0} (n : ℕ) (x : List (Terminal N)) → NextTokenHasRank n x → NextTokenEndsConstruct n x → ⊥
 no_end n [] p q = p
 no_end n (c ∷ x) p q = omega arith
 
@@ -96,17 +96,17 @@ why_by ts a b (Syntax i expected) f r = (r.why.0, f _ r.why.1)
 why_by ts a b (TooDeep i) f r = (r.why.0, f _ r.why.1)
 why_by ts a b Memory f r = tt
 
-stops_by : (ps qs : List ProductionPart) (ts : List Token) (a b : ℕ) (e : ParseRefusal) → ((o : Stop) → DescentStopsWith ps ts a o → DescentStopsWith qs ts b o) → DescentStopsAsRefusalSays ps ts a e → DescentStopsAsRefusalSays qs ts b e
+stops_by : (ps qs : List ProductionPart) (ts : List Token) (a b : ℕ) (e : ParseRefusal) → ((o : DescentEnd) → DescentEndsWith ps ts a o → DescentEndsWith qs ts b o) → DescentEndsAsRefusalSays ps ts a e → DescentEndsAsRefusalSays qs ts b e
 stops_by ps qs ts a b (Syntax i expected) g r = g (Expects i expected) r
 stops_by ps qs ts a b (TooDeep i) g r = g (TooDeepAt i) r
 stops_by ps qs ts a b Memory g r = tt
 
-pub fails_by : {ps qs : List ProductionPart} {ts : List Token} {a b : ℕ} {e : ParseRefusal} → ((o : Stop) → DescentStopsWith ps ts a o → DescentStopsWith qs ts b o) → ((after : List (Terminal ℕ)) → CantBeginWithParts ps (rest ts a) after → CantBeginWithParts qs (rest ts b) after) → FailsToRead ps ts a e → FailsToRead qs ts b e
+pub fails_by : {ps qs : List ProductionPart} {ts : List Token} {a b : ℕ} {e : ParseRefusal} → ((o : DescentEnd) → DescentEndsWith ps ts a o → DescentEndsWith qs ts b o) → ((after : List (Terminal ℕ)) → CantBeginWithParts ps (rest ts a) after → CantBeginWithParts qs (rest ts b) after) → FailsToRead ps ts a e → FailsToRead qs ts b e
 fails_by {ps = ps} {qs = qs} {ts = ts} {a = a} {b = b} {e = e} g f r = record { why = why_by ts a b e f r; reads = stops_by ps qs ts a b e g r.reads }
 
 -- Proves that the results of parser functions are refused in the same way.
 
-pub fails_weaken : {ps qs : List ProductionPart} {ts : List Token} {at : ℕ} {e : ParseRefusal} → DescentsEndWithSameStop ps qs ts at at → ((w : List (Terminal ℕ)) → HaveSameFirstToken (rest ts at) w → BeginsWithParts ps w → BeginsWithParts qs w) → FailsToRead qs ts at e → FailsToRead ps ts at e
+pub fails_weaken : {ps qs : List ProductionPart} {ts : List Token} {at : ℕ} {e : ParseRefusal} → DescentsHaveSameEnd ps qs ts at at → ((w : List (Terminal ℕ)) → HaveSameFirstToken (rest ts at) w → BeginsWithParts ps w → BeginsWithParts qs w) → FailsToRead qs ts at e → FailsToRead ps ts at e
 fails_weaken g f q = fails_by (λ o r more. g.stops_as_following o more (r more)) (λ after r. select f r) q
 
 pub fails_in : {s : Sort} {room : ℕ} {ps : List ProductionPart} {ts : List Token} {at : ℕ} {e : ParseRefusal} → FailsToRead (nonterminal s room ∷ []) ts at e → FailsToRead (nonterminal s room ∷ ps) ts at e
@@ -131,19 +131,19 @@ following x e f r = record {
 
 -- If the first token is read and determines the parts after it, a refusal of these parts is a
 -- refusal of the whole.
-pub fails_following : {ps qs : List ProductionPart} {x : Terminal ℕ} {ts : List Token} {at next : ℕ} {e : ParseRefusal} → DescentsEndWithSameStop ps qs ts at next → rest ts at ≡ x ∷ rest ts next → ((w : List (Terminal ℕ)) → BeginsWithParts ps (x ∷ w) → BeginsWithParts qs w) → FailsToRead qs ts next e → FailsToRead ps ts at e
+pub fails_following : {ps qs : List ProductionPart} {x : Terminal ℕ} {ts : List Token} {at next : ℕ} {e : ParseRefusal} → DescentsHaveSameEnd ps qs ts at next → rest ts at ≡ x ∷ rest ts next → ((w : List (Terminal ℕ)) → BeginsWithParts ps (x ∷ w) → BeginsWithParts qs w) → FailsToRead qs ts next e → FailsToRead ps ts at e
 fails_following {x = x} g h f q = fails_by (λ o r more. g.stops_as_following o more (r more)) (λ after r. following x h f r) q
 
 -- If the next token begins an optional item, the parts that begin with the optional item begin with
 -- that item.
-maybe_only : {i : Item} (room : ℕ) (ps : List ProductionPart) (w : List (Terminal ℕ)) → NextHasRank (item_rank i) w → BeginsWithParts (nonterminal (maybe i) room ∷ ps) w → BeginsWithParts (nonterminal (item i) room ∷ []) w
-maybe_only {i = i} room ps w h (none, z, e, n, p, b) = absurd (no_end (item_rank i) w h (subst (λ y. EndsConstruct (item_rank i) y) (sym e) p))
+maybe_only : {i : GrammarItem} (room : ℕ) (ps : List ProductionPart) (w : List (Terminal ℕ)) → NextTokenHasRank (item_start_rank i) w → BeginsWithParts (nonterminal (maybe i) room ∷ ps) w → BeginsWithParts (nonterminal (item i) room ∷ []) w
+maybe_only {i = i} room ps w h (none, z, e, n, p, b) = absurd (no_end (item_start_rank i) w h (subst (λ y. NextTokenEndsConstruct (item_start_rank i) y) (sym e) p))
 maybe_only {i = i} room ps w h (one t, z, e, n, p, b) =
-    (t, z, e, n, stops_less z (item_level i) (item_rank i) (omega (arith, below i)) p, tt)
+    (t, z, e, n, stops_less z (item_level i) (item_start_rank i) (omega (arith, below i)) p, tt)
 
-pub fails_maybe : {i : Item} {room : ℕ} {ps : List ProductionPart} {ts : List Token} {at : ℕ} {e : ParseRefusal} → ItemBeginsButCantBeRead i room ts at e → FailsToRead (nonterminal (maybe i) room ∷ ps) ts at e
+pub fails_maybe : {i : GrammarItem} {room : ℕ} {ps : List ProductionPart} {ts : List Token} {at : ℕ} {e : ParseRefusal} → ItemBeginsButCantBeRead i room ts at e → FailsToRead (nonterminal (maybe i) room ∷ ps) ts at e
 fails_maybe {i = i} {room = room} {ps = ps} {ts = ts} {at = at} q =
-    fails_by (λ o r more. (read_one q.is_here).stops_as_following o (ps ++ more) (r (ps ++ more))) (λ after r. select (λ w a b. maybe_only room ps w (starts_alike (rest ts at) w (item_rank i) a q.is_here) b) r) q.fails
+    fails_by (λ o r more. (read_one q.is_here).stops_as_following o (ps ++ more) (r (ps ++ more))) (λ after r. select (λ w a b. maybe_only room ps w (starts_alike (rest ts at) w (item_start_rank i) a q.is_here) b) r) q.fails
 
 following_alike : {ps qs : List ProductionPart} (x : Terminal ℕ) {xs z after : List (Terminal ℕ)} → xs ≡ x ∷ z → ((w : List (Terminal ℕ)) → HaveSameFirstToken z w → BeginsWithParts ps (x ∷ w) → BeginsWithParts qs w) → CantBeginWithParts qs z after → CantBeginWithParts ps xs after
 following_alike {qs = qs} x {xs} {z} {after} e f r = record {
@@ -155,7 +155,7 @@ following_alike {qs = qs} x {xs} {z} {after} e f r = record {
 
 -- If the first token and the next one determine the parts after the first token, a refusal of these
 -- parts is a refusal of the whole.
-pub fails_following_alike : {ps qs : List ProductionPart} {x : Terminal ℕ} {ts : List Token} {at next : ℕ} {e : ParseRefusal} → DescentsEndWithSameStop ps qs ts at next → rest ts at ≡ x ∷ rest ts next → ((w : List (Terminal ℕ)) → HaveSameFirstToken (rest ts next) w → BeginsWithParts ps (x ∷ w) → BeginsWithParts qs w) → FailsToRead qs ts next e → FailsToRead ps ts at e
+pub fails_following_alike : {ps qs : List ProductionPart} {x : Terminal ℕ} {ts : List Token} {at next : ℕ} {e : ParseRefusal} → DescentsHaveSameEnd ps qs ts at next → rest ts at ≡ x ∷ rest ts next → ((w : List (Terminal ℕ)) → HaveSameFirstToken (rest ts next) w → BeginsWithParts ps (x ∷ w) → BeginsWithParts qs w) → FailsToRead qs ts next e → FailsToRead ps ts at e
 fails_following_alike {x = x} g h f q = fails_by (λ o r more. g.stops_as_following o more (r more)) (λ after r. following_alike x h f r) q
 
 -- If two constructs are refused, they are refused together with the parts after them.

@@ -6,7 +6,7 @@ use Rattle.ob0_scan.specs.declared.lexeme.ReservedWord.TheVariants as reserved
 use Rattle.ob0_scan.specs.declared.lexeme.Token.{Token}
 use Rattle.ob0_tree.specs.Lexeme.{Terminal, Name, WordOrSymbol}
 use Rattle.ob0_tree.specs.Tree.{further_statement, elsif_part, else_part, expression, statement, sequence, empty, assigns, calls, branches, while_loop, repeat_loop, runs, elsif_branch, item, items, maybe, Tree, spell, single_token_list}
-use Rattle.ob0_parse_descent.specs.Follow.{rank, EndsConstruct, NextHasRank}
+use Rattle.ob0_parse_descent.specs.Follow.{rank, NextTokenEndsConstruct, NextTokenHasRank}
 use Rattle.ob0_parse_descent.specs.Reading.{rest, ProductionPart, token, nonterminal, BeginsWithParts, HaveSameFirstToken, IsReadTree, FailsToRead, ItemBeginsButCantBeRead, IsTokenOtherThan, IsNotIdentifier}
 use Rattle.ob0_parse_descent.specs.Descent as descent
 use Rattle.ob0_parse_descent.specs.Descent.{parts, chosen_production}
@@ -24,7 +24,7 @@ alike h p q = head_of (sym p ∙ h.is) ∙ head_of (sym h.alike ∙ q)
 
 -- Lemmas on sequences: `statement {";" statement}`.
 
-runs_only : {room : ℕ} {ts : List Token} {at m n : ℕ} (a : Tree ℕ statement) (c : Tree ℕ (items further_statement)) → IsReadTree a room ts at m → IsReadTree c room ts m n → (u : Tree ℕ sequence) (z w : List (Terminal ℕ)) → HaveSameFirstToken (rest ts n) w → EndsConstruct 9 z → spell u ++ z ≡ (spell a ++ spell c) ++ w → (u ≡ runs a c) × (z ≡ w)
+runs_only : {room : ℕ} {ts : List Token} {at m n : ℕ} (a : Tree ℕ statement) (c : Tree ℕ (items further_statement)) → IsReadTree a room ts at m → IsReadTree c room ts m n → (u : Tree ℕ sequence) (z w : List (Terminal ℕ)) → HaveSameFirstToken (rest ts n) w → NextTokenEndsConstruct 9 z → spell u ++ z ≡ (spell a ++ spell c) ++ w → (u ≡ runs a c) × (z ≡ w)
 runs_only a c p q (runs b d) z w h s e =
     let r = p.only b (spell d ++ z) (spell c ++ w) (head_at c q w h) (stops_items d z 8 (omega arith) s) (regroup (spell b) (spell d) z (spell a) (spell c) w e) in
     let rs = q.only d z w h s r.1 in
@@ -41,7 +41,7 @@ sequence_fails {room = room} q = fails_weaken {qs = nonterminal statement room �
 
 -- Lemmas on the empty statement.
 
-empty_only : {ts : List Token} {at : ℕ} → IsNotIdentifier ts at → IsTokenOtherThan (WordOrSymbol (kind.ReservedWord reserved.If)) ts at → IsTokenOtherThan (WordOrSymbol (kind.ReservedWord reserved.While)) ts at → IsTokenOtherThan (WordOrSymbol (kind.ReservedWord reserved.Repeat)) ts at → (u : Tree ℕ statement) (z w : List (Terminal ℕ)) → HaveSameFirstToken (rest ts at) w → EndsConstruct 8 z → spell u ++ z ≡ w → (u ≡ empty) × (z ≡ w)
+empty_only : {ts : List Token} {at : ℕ} → IsNotIdentifier ts at → IsTokenOtherThan (WordOrSymbol (kind.ReservedWord reserved.If)) ts at → IsTokenOtherThan (WordOrSymbol (kind.ReservedWord reserved.While)) ts at → IsTokenOtherThan (WordOrSymbol (kind.ReservedWord reserved.Repeat)) ts at → (u : Tree ℕ statement) (z w : List (Terminal ℕ)) → HaveSameFirstToken (rest ts at) w → NextTokenEndsConstruct 8 z → spell u ++ z ≡ w → (u ≡ empty) × (z ≡ w)
 empty_only unnamed i l r empty z w h s e = (refl, e)
 empty_only unnamed i l r (assigns n ss a) z w h s e = absurd (unnamed.ranked (ap rank (alike h unnamed.here (sym e))))
 empty_only unnamed i l r (calls n a) z w h s e = absurd (unnamed.ranked (ap rank (alike h unnamed.here (sym e))))
@@ -122,7 +122,7 @@ branches_fail {room = room} {inner = inner} d here q = fails_following {qs = bra
 
 -- Lemmas on ELSIF parts: `ELSIF expression THEN sequence`.
 
-elsif_only : {room : ℕ} {ts : List Token} {n k : ℕ} (c : Tree ℕ expression) (t : Tree ℕ sequence) → IsReadTree t room ts n k → (u : Tree ℕ (item elsif_part)) (z w : List (Terminal ℕ)) → HaveSameFirstToken (rest ts k) w → EndsConstruct 9 z → spell u ++ z ≡ WordOrSymbol (kind.ReservedWord reserved.Elsif) ∷ ((spell c ++ (WordOrSymbol (kind.ReservedWord reserved.Then) ∷ spell t)) ++ w) → (u ≡ elsif_branch c t) × (z ≡ w)
+elsif_only : {room : ℕ} {ts : List Token} {n k : ℕ} (c : Tree ℕ expression) (t : Tree ℕ sequence) → IsReadTree t room ts n k → (u : Tree ℕ (item elsif_part)) (z w : List (Terminal ℕ)) → HaveSameFirstToken (rest ts k) w → NextTokenEndsConstruct 9 z → spell u ++ z ≡ WordOrSymbol (kind.ReservedWord reserved.Elsif) ∷ ((spell c ++ (WordOrSymbol (kind.ReservedWord reserved.Then) ∷ spell t)) ++ w) → (u ≡ elsif_branch c t) × (z ≡ w)
 elsif_only c t q (elsif_branch d v) z w h s e =
     let r = same d c (WordOrSymbol (kind.ReservedWord reserved.Then) ∷ (spell v ++ z)) (WordOrSymbol (kind.ReservedWord reserved.Then) ∷ (spell t ++ w)) (omega arith) (omega arith) (regroup (spell d) _ z (spell c) _ w (tail_of e)) in
     let rs = q.only v z w h s (tail_of r.1) in
@@ -146,7 +146,7 @@ elsif_parts room w (elsif_branch c t, z, e, n, s, b) = (c, _, tail_of e ∙ appe
 
 pub elsif_fails : {room : ℕ} {ts : List Token} {at : ℕ} {e : ParseRefusal} → rest ts at ≡ WordOrSymbol (kind.ReservedWord reserved.Elsif) ∷ rest ts (at + 1) → FailsToRead (elsif_following room) ts (at + 1) e → ItemBeginsButCantBeRead elsif_part room ts at e
 elsif_fails {room = room} here q = record {
-  is_here = subst (λ y. NextHasRank 10 y) (sym here) refl;
+  is_here = subst (λ y. NextTokenHasRank 10 y) (sym here) refl;
   fails = fails_following {qs = elsif_following room} (read_led (elsif_following room) refl here) here (elsif_parts room) q;
 }
 
@@ -185,7 +185,7 @@ while_fails {room = room} {inner = inner} d here q = fails_following {qs = while
 
 -- Lemmas on REPEAT statements: `REPEAT sequence UNTIL expression`.
 
-repeat_only : {room : ℕ} {ts : List Token} {n k : ℕ} (t : Tree ℕ sequence) (c : Tree ℕ expression) → IsReadTree c room ts n k → (u : Tree ℕ statement) (z w : List (Terminal ℕ)) → HaveSameFirstToken (rest ts k) w → EndsConstruct 8 z → spell u ++ z ≡ WordOrSymbol (kind.ReservedWord reserved.Repeat) ∷ ((spell t ++ (WordOrSymbol (kind.ReservedWord reserved.Until) ∷ spell c)) ++ w) → (u ≡ repeat_loop t c) × (z ≡ w)
+repeat_only : {room : ℕ} {ts : List Token} {n k : ℕ} (t : Tree ℕ sequence) (c : Tree ℕ expression) → IsReadTree c room ts n k → (u : Tree ℕ statement) (z w : List (Terminal ℕ)) → HaveSameFirstToken (rest ts k) w → NextTokenEndsConstruct 8 z → spell u ++ z ≡ WordOrSymbol (kind.ReservedWord reserved.Repeat) ∷ ((spell t ++ (WordOrSymbol (kind.ReservedWord reserved.Until) ∷ spell c)) ++ w) → (u ≡ repeat_loop t c) × (z ≡ w)
 repeat_only t c q empty z w h s e = absurd (not_at z _ _ 8 e (omega arith) s)
 repeat_only t c q (assigns k ss a) z w h s e = absurd (name_not_mark e)
 repeat_only t c q (calls k a) z w h s e = absurd (name_not_mark e)

@@ -6,7 +6,7 @@ use Rattle.ob0_scan.specs.declared.lexeme.Symbol.TheVariants as symbol
 use Rattle.ob0_scan.specs.declared.lexeme.Token.{Token}
 use Rattle.ob0_tree.specs.Lexeme.{Terminal, Name, WordOrSymbol}
 use Rattle.ob0_tree.specs.Tree.{further_fields, expression, names, written_type, fields, named_type, array_type, record_type, no_fields, some_fields, listed, items, Tree, spell, nesting, single_token_list}
-use Rattle.ob0_parse_descent.specs.Follow.{rank, EndsConstruct}
+use Rattle.ob0_parse_descent.specs.Follow.{rank, NextTokenEndsConstruct}
 use Rattle.ob0_parse_descent.specs.Reading.{rest, ProductionPart, token, nonterminal, BeginsWithParts, HaveSameFirstToken, IsReadTree, FailsToRead, IsTokenOtherThan, IsNotIdentifier, IsReadList}
 use Rattle.ob0_parse_descent.specs.Descent.{parts, missing, chosen_production, absent, deep}
 use Rattle.ob0_parse_descent.specs.declared.refusal.ExpectedSyntax.TheVariants as expected
@@ -115,7 +115,7 @@ record_too_deep {ts = ts} {at = at} {e = e} l o here = subst (λ r. FailsToRead 
 
 -- Lemmas on groups of fields: `[names ":" type]`.
 
-no_fields_only : {ts : List Token} {at : ℕ} → IsNotIdentifier ts at → (u : Tree ℕ fields) (z w : List (Terminal ℕ)) → HaveSameFirstToken (rest ts at) w → EndsConstruct 7 z → spell u ++ z ≡ w → (u ≡ no_fields) × (z ≡ w)
+no_fields_only : {ts : List Token} {at : ℕ} → IsNotIdentifier ts at → (u : Tree ℕ fields) (z w : List (Terminal ℕ)) → HaveSameFirstToken (rest ts at) w → NextTokenEndsConstruct 7 z → spell u ++ z ≡ w → (u ≡ no_fields) × (z ≡ w)
 no_fields_only unnamed no_fields z w h s e = (refl, e)
 no_fields_only unnamed (some_fields (listed k ns) t) z w h s e = absurd (unnamed.ranked (ap rank (head_of (sym unnamed.here ∙ h.is) ∙ head_of (sym h.alike ∙ sym e))))
 
@@ -126,7 +126,7 @@ chosen_no_fields room x w p = refl
 pub taken_no_fields : {room : ℕ} {ts : List Token} {at : ℕ} → IsNotIdentifier ts at → IsReadTree no_fields room ts at at
 taken_no_fields {room = room} {ts = ts} {at = at} unnamed = record { spelled = refl; shallow = omega arith; only = no_fields_only unnamed; reads = read_made (ap (λ w. chosen_production fields room w) unnamed.here ∙ chosen_no_fields room unnamed.fault (rest ts (at + 1)) unnamed.ranked); within = unnamed.within; forward = omega arith }
 
-fields_only : (ns : Tree ℕ names) (t : Tree ℕ written_type) (u : Tree ℕ fields) (z w : List (Terminal ℕ)) → EndsConstruct 7 z → spell u ++ z ≡ spell (some_fields ns t) ++ w → (u ≡ some_fields ns t) × (z ≡ w)
+fields_only : (ns : Tree ℕ names) (t : Tree ℕ written_type) (u : Tree ℕ fields) (z w : List (Terminal ℕ)) → NextTokenEndsConstruct 7 z → spell u ++ z ≡ spell (some_fields ns t) ++ w → (u ≡ some_fields ns t) × (z ≡ w)
 fields_only (listed k ns) t no_fields z w s e = absurd (not_at z _ _ 7 e (omega arith) s)
 fields_only ns t (some_fields ms v) z w s e =
     let r = same ms ns (WordOrSymbol (kind.Symbol symbol.Colon) ∷ (spell v ++ z)) (WordOrSymbol (kind.Symbol symbol.Colon) ∷ (spell t ++ w)) (omega arith) (omega arith) (regroup (spell ms) _ z (spell ns) _ w e) in

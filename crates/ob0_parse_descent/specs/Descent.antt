@@ -12,8 +12,8 @@ use Rattle.ob0_scan.specs.declared.lexeme.Symbol.{Symbol}
 use Rattle.ob0_scan.specs.declared.lexeme.Symbol.TheVariants as symbol
 use Rattle.ob0_tree.specs.Lexeme.{Terminal, Name, Number, WordOrSymbol, EndOfText}
 use Rattle.ob0_tree.specs.Module.{max_nesting}
-use Rattle.ob0_tree.specs.Tree.{Item, selector, multiplier, addend, comparison, arguments, further_argument, further_statement, elsif_part, else_part, further_name, further_fields, formals, further_section, constant, constants, type_definition, type_definitions, variable, variables, procedure, body, Sort, item, items, maybe, expression, simple, term, factor, statement, sequence, names, written_type, fields, section, declarations, block, module_text}
-use Rattle.ob0_parse_descent.specs.Follow.{rank, item_rank, may_begin_expression}
+use Rattle.ob0_tree.specs.Tree.{GrammarItem, selector, multiplier, addend, comparison, arguments, further_argument, further_statement, elsif_part, else_part, further_name, further_fields, formals, further_section, constant, constants, type_definition, type_definitions, variable, variables, procedure, body, Sort, item, items, maybe, expression, simple, term, factor, statement, sequence, names, written_type, fields, section, declarations, block, module_text}
+use Rattle.ob0_parse_descent.specs.Follow.{rank, item_start_rank, may_begin_expression}
 use Rattle.ob0_parse_descent.specs.declared.refusal.ExpectedSyntax.{ExpectedSyntax}
 use Rattle.ob0_parse_descent.specs.declared.refusal.ExpectedSyntax.TheVariants as expected
 
@@ -47,14 +47,14 @@ symbol_part s = token (kind.Symbol s)
 -- Returns the choice for a construct that opens a level of nesting, given the number of levels
 -- left. `inside` returns the construct's parts, given the levels left inside the construct, which
 -- are one less. If no level is left, the construct is too deep (LANGUAGE.md, Nesting and limits).
-abbrev pub nested_choice : ℕ → (ℕ → List ProductionPart) → ProductionChoice
-nested_choice zero inside = too_deep
-nested_choice (suc room) inside = parts (inside room)
+abbrev pub nested_construct_choice : ℕ → (ℕ → List ProductionPart) → ProductionChoice
+nested_construct_choice zero inside = too_deep
+nested_construct_choice (suc room) inside = parts (inside room)
 
 -- Returns whether the next token begins the item `i`. If no token is left, the result is false.
-abbrev pub is_item_next : Item → List (Terminal ℕ) → Bool
+abbrev pub is_item_next : GrammarItem → List (Terminal ℕ) → Bool
 is_item_next i [] = false
-is_item_next i (x ∷ tokens) = rank x == item_rank i
+is_item_next i (x ∷ tokens) = rank x == item_start_rank i
 
 -- Returns whether the next token begins an expression.
 abbrev pub is_expression_next : List (Terminal ℕ) → Bool
@@ -78,25 +78,25 @@ is_assignment_next tokens = is_item_next selector tokens
 -- Returns the production of an item that consists of an operator and a construct of the sort `s`.
 -- This function is used only if the next token is the operator, so its value for any other token
 -- doesn't matter.
-abbrev pub operation_choice : Sort → ℕ → List (Terminal ℕ) → ProductionChoice
-operation_choice s room (WordOrSymbol k ∷ tokens) = parts (token k ∷ nonterminal s room ∷ [])
-operation_choice s room tokens = missing expected.Expression
+abbrev pub operator_with_operand_choice : Sort → ℕ → List (Terminal ℕ) → ProductionChoice
+operator_with_operand_choice s room (WordOrSymbol k ∷ tokens) = parts (token k ∷ nonterminal s room ∷ [])
+operator_with_operand_choice s room tokens = missing expected.Expression
 
 -- Returns the production of an item that the next tokens determine, with `room` levels of nesting
 -- left. This function is used only if the next token begins the item, so its value for any other
 -- token doesn't matter.
-abbrev pub chosen_item_production : Item → (room : ℕ) → List (Terminal ℕ) → ProductionChoice
+abbrev pub chosen_item_production : GrammarItem → (room : ℕ) → List (Terminal ℕ) → ProductionChoice
 -- selector = "[" expression "]" | "." ident
 chosen_item_production selector room (WordOrSymbol (kind.Symbol symbol.LeftBracket) ∷ tokens) =
-    nested_choice room
+    nested_construct_choice room
     (λ inner. symbol_part symbol.LeftBracket ∷ nonterminal expression inner ∷ symbol_part symbol.RightBracket ∷ [])
 chosen_item_production selector room tokens = parts (symbol_part symbol.Dot ∷ name ∷ [])
 -- multiplier = ("*" | DIV | MOD | "&") factor
-chosen_item_production multiplier room tokens = operation_choice factor room tokens
+chosen_item_production multiplier room tokens = operator_with_operand_choice factor room tokens
 -- addend = ("+" | "-" | OR) term
-chosen_item_production addend room tokens = operation_choice term room tokens
+chosen_item_production addend room tokens = operator_with_operand_choice term room tokens
 -- comparison = ("=" | "#" | "<" | "<=" | ">" | ">=") simple
-chosen_item_production comparison room tokens = operation_choice simple room tokens
+chosen_item_production comparison room tokens = operator_with_operand_choice simple room tokens
 -- arguments = "(" [expression {further_argument}] ")"
 chosen_item_production arguments room tokens =
     if is_expression_next (drop 1 tokens)
@@ -148,7 +148,7 @@ chosen_item_production variable room tokens =
 chosen_item_production variables room tokens = parts (reserved_word_part reserved.Var ∷ nonterminal (items variable) room ∷ [])
 -- procedure = PROCEDURE ident [formals] ";" block END ident ";"
 chosen_item_production procedure room tokens =
-    nested_choice room (λ inner. reserved_word_part reserved.Procedure
+    nested_construct_choice room (λ inner. reserved_word_part reserved.Procedure
     ∷ name
     ∷ nonterminal (maybe formals) inner
     ∷ symbol_part symbol.Semicolon
@@ -183,10 +183,10 @@ chosen_production term room tokens = parts (nonterminal factor room ∷ nontermi
 chosen_production factor room (Name n ∷ tokens) = parts (name ∷ nonterminal (items selector) room ∷ [])
 chosen_production factor room (Number n ∷ tokens) = parts (number ∷ [])
 chosen_production factor room (WordOrSymbol (kind.Symbol symbol.LeftParen) ∷ tokens) =
-    nested_choice room
+    nested_construct_choice room
     (λ inner. symbol_part symbol.LeftParen ∷ nonterminal expression inner ∷ symbol_part symbol.RightParen ∷ [])
 chosen_production factor room (WordOrSymbol (kind.Symbol symbol.Not) ∷ tokens) =
-    nested_choice room (λ inner. symbol_part symbol.Not ∷ nonterminal factor inner ∷ [])
+    nested_construct_choice room (λ inner. symbol_part symbol.Not ∷ nonterminal factor inner ∷ [])
 chosen_production factor room tokens = missing expected.Expression
 -- statement = [assignment | call | if | while | repeat]
 -- assignment = ident {selector} ":=" expression, call = ident [arguments]: if a selector follows the
@@ -197,7 +197,7 @@ chosen_production statement room (Name n ∷ tokens) =
     else parts (name ∷ nonterminal (maybe arguments) room ∷ [])
 -- if = IF expression THEN sequence {elsif_part} [else_part] END
 chosen_production statement room (WordOrSymbol (kind.ReservedWord reserved.If) ∷ tokens) =
-    nested_choice room (λ inner. reserved_word_part reserved.If
+    nested_construct_choice room (λ inner. reserved_word_part reserved.If
     ∷ nonterminal expression inner
     ∷ reserved_word_part reserved.Then
     ∷ nonterminal sequence inner
@@ -207,7 +207,7 @@ chosen_production statement room (WordOrSymbol (kind.ReservedWord reserved.If) �
     ∷ [])
 -- while = WHILE expression DO sequence END
 chosen_production statement room (WordOrSymbol (kind.ReservedWord reserved.While) ∷ tokens) =
-    nested_choice room (λ inner. reserved_word_part reserved.While
+    nested_construct_choice room (λ inner. reserved_word_part reserved.While
     ∷ nonterminal expression inner
     ∷ reserved_word_part reserved.Do
     ∷ nonterminal sequence inner
@@ -215,7 +215,7 @@ chosen_production statement room (WordOrSymbol (kind.ReservedWord reserved.While
     ∷ [])
 -- repeat = REPEAT sequence UNTIL expression
 chosen_production statement room (WordOrSymbol (kind.ReservedWord reserved.Repeat) ∷ tokens) =
-    nested_choice room (λ inner. reserved_word_part reserved.Repeat
+    nested_construct_choice room (λ inner. reserved_word_part reserved.Repeat
     ∷ nonterminal sequence inner
     ∷ reserved_word_part reserved.Until
     ∷ nonterminal expression inner
@@ -228,13 +228,13 @@ chosen_production names room tokens = parts (name ∷ nonterminal (items further
 -- type = ident | ARRAY expression OF type | RECORD fields {further_fields} END
 chosen_production written_type room (Name n ∷ tokens) = parts (name ∷ [])
 chosen_production written_type room (WordOrSymbol (kind.ReservedWord reserved.Array) ∷ tokens) =
-    nested_choice room (λ inner. reserved_word_part reserved.Array
+    nested_construct_choice room (λ inner. reserved_word_part reserved.Array
     ∷ nonterminal expression inner
     ∷ reserved_word_part reserved.Of
     ∷ nonterminal written_type inner
     ∷ [])
 chosen_production written_type room (WordOrSymbol (kind.ReservedWord reserved.Record) ∷ tokens) =
-    nested_choice room (λ inner. reserved_word_part reserved.Record
+    nested_construct_choice room (λ inner. reserved_word_part reserved.Record
     ∷ nonterminal fields inner
     ∷ nonterminal (items further_fields) inner
     ∷ reserved_word_part reserved.End
@@ -268,7 +268,7 @@ chosen_production module_text room tokens =
     ∷ symbol_part symbol.Dot
     ∷ [])
 
--- ---- the stop: where and why the descent ends
+-- ---- the end: where and why the descent ends
 
 -- States that a token matches a part of a production. No token matches a part that is a construct,
 -- because the descent first replaces a construct by the parts of its production.
@@ -281,47 +281,47 @@ MatchesPart text_end x = x ≡ EndOfText
 
 -- Returns the reserved word or symbol of the given kind as an expected token. Returns None for the
 -- kind of an identifier or an integer.
-abbrev pub expected_token : TokenKind → Option ExpectedSyntax
-expected_token (kind.ReservedWord reserved_word_part) = Some (expected.Word reserved_word_part)
-expected_token (kind.Symbol symbol) = Some (expected.Symbol symbol)
-expected_token kind.Identifier = None
-expected_token (kind.Integer value) = None
+abbrev pub syntax_expected_for_kind : TokenKind → Option ExpectedSyntax
+syntax_expected_for_kind (kind.ReservedWord reserved_word_part) = Some (expected.Word reserved_word_part)
+syntax_expected_for_kind (kind.Symbol symbol) = Some (expected.Symbol symbol)
+syntax_expected_for_kind kind.Identifier = None
+syntax_expected_for_kind (kind.Integer value) = None
 
 -- Returns the token that a syntax error reports as expected if a part of a production is missing.
 -- The result is None for an integer, because an integer is a part only if the next token is an
 -- integer. The result is also None for a construct, because the descent reads the parts of its
 -- production instead.
-abbrev pub expected_part : ProductionPart → Option ExpectedSyntax
-expected_part (token k) = expected_token k
-expected_part name = Some expected.Identifier
-expected_part number = None
-expected_part (nonterminal s room) = None
-expected_part text_end = Some expected.EndOfText
+abbrev pub syntax_expected_for_part : ProductionPart → Option ExpectedSyntax
+syntax_expected_for_part (token k) = syntax_expected_for_kind k
+syntax_expected_for_part name = Some expected.Identifier
+syntax_expected_for_part number = None
+syntax_expected_for_part (nonterminal s room) = None
+syntax_expected_for_part text_end = Some expected.EndOfText
 
 -- The way in which the descent ends. `Done`: everything was read. `Expects`: another token or
 -- construct is expected at the token with this index. `TooDeepAt`: the token with this index opens
 -- a construct that is nested too deep.
-pub data Stop : Type 0 where
-  Done : Stop
-  Expects : ℕ → ExpectedSyntax → Stop
-  TooDeepAt : ℕ → Stop
+pub data DescentEnd : Type 0 where
+  Done : DescentEnd
+  Expects : ℕ → ExpectedSyntax → DescentEnd
+  TooDeepAt : ℕ → DescentEnd
 
--- States that the descent over a list of parts, reading from a list of tokens, ends with a given
--- stop. The number (ℕ) is the index in the text of the first token in the list.
-pub data Descends : List ProductionPart → ℕ → List (Terminal ℕ) → Stop → Type 0 where
+-- States that the descent over a list of parts, reading from a list of tokens, has a given end. The
+-- number (ℕ) is the index in the text of the first token in the list.
+pub data Descends : List ProductionPart → ℕ → List (Terminal ℕ) → DescentEnd → Type 0 where
   -- No part is left: the descent is done.
   done : {i : ℕ} {tokens : List (Terminal ℕ)} → Descends [] i tokens Done
   -- The next token matches the next part: the descent continues after this token and this part.
   taken : {p : ProductionPart} {ps : List ProductionPart} {i : ℕ} {x : Terminal ℕ} {tokens : List (Terminal ℕ)}
-      {o : Stop}
+      {o : DescentEnd}
       → MatchesPart p x → Descends ps (i + 1) tokens o → Descends (p ∷ ps) i (x ∷ tokens) o
   -- The next token doesn't match the next part: the descent stops, because that part is expected.
   other : {p : ProductionPart} {ps : List ProductionPart} {i : ℕ} {x : Terminal ℕ} {tokens : List (Terminal ℕ)}
       {e : ExpectedSyntax}
-      → ¬ MatchesPart p x → expected_part p ≡ Some e → Descends (p ∷ ps) i (x ∷ tokens) (Expects i e)
+      → ¬ MatchesPart p x → syntax_expected_for_part p ≡ Some e → Descends (p ∷ ps) i (x ∷ tokens) (Expects i e)
   -- The next part is a construct: the descent continues with the parts of its production (`qs`)
   -- instead.
-  made : {s : Sort} {room : ℕ} {ps : List ProductionPart} {i : ℕ} {tokens : List (Terminal ℕ)} {o : Stop}
+  made : {s : Sort} {room : ℕ} {ps : List ProductionPart} {i : ℕ} {tokens : List (Terminal ℕ)} {o : DescentEnd}
       (qs : List ProductionPart)
       → chosen_production s room tokens ≡ parts qs
       → Descends (qs ++ ps) i tokens o
@@ -335,15 +335,15 @@ pub data Descends : List ProductionPart → ℕ → List (Terminal ℕ) → Stop
   deep : {s : Sort} {room : ℕ} {ps : List ProductionPart} {i : ℕ} {tokens : List (Terminal ℕ)}
       → chosen_production s room tokens ≡ too_deep → Descends (nonterminal s room ∷ ps) i tokens (TooDeepAt i)
 
--- States that the descent over the same parts and tokens always ends with the same stop.
-abbrev pub StopIsUnique : Type 0
-StopIsUnique =
-    (ps : List ProductionPart) (i : ℕ) (tokens : List (Terminal ℕ)) (a b : Stop)
+-- States that the descent over the same parts and tokens always has the same end.
+abbrev pub DescentEndIsUnique : Type 0
+DescentEndIsUnique =
+    (ps : List ProductionPart) (i : ℕ) (tokens : List (Terminal ℕ)) (a b : DescentEnd)
     → Descends ps i tokens a
     → Descends ps i tokens b
     → a ≡ b
 
--- States that the descent through a whole text, read as a module, ends with the stop `o`. The end
--- of the text is the last of `tokens`. At most 100 levels of nesting are allowed.
-abbrev pub DescendsText : List (Terminal ℕ) → Stop → Type 0
-DescendsText tokens o = Descends (nonterminal module_text max_nesting ∷ text_end ∷ []) 0 tokens o
+-- States that the descent through a whole text, read as a module, has the end `o`. The last of
+-- `tokens` is the end of the text. At most 100 levels of nesting are allowed.
+abbrev pub TextDescentEndsWith : List (Terminal ℕ) → DescentEnd → Type 0
+TextDescentEndsWith tokens o = Descends (nonterminal module_text max_nesting ∷ text_end ∷ []) 0 tokens o

@@ -1,7 +1,7 @@
 -- Defines the text that follows `expected` in the message of a syntax error.
 -- Rule: docs/LANGUAGE.md, Syntax faults 2.
 use Rattle.std.specs.Prelude.{ℕ, List, codes}
-use Rattle.ob0_scan.specs.Classes.{reserved_text, symbol_text}
+use Rattle.ob0_scan.specs.Classes.{reserved_word_text, symbol_text}
 use Rattle.ob0_parse_descent.specs.declared.refusal.ExpectedSyntax.{ExpectedSyntax}
 use Rattle.ob0_parse_descent.specs.declared.refusal.ExpectedSyntax.TheVariants as expected
 
@@ -11,5 +11,5 @@ expected_text expected.Type = codes "type"
 expected_text expected.Expression = codes "expression"
 expected_text expected.Identifier = codes "identifier"
 expected_text expected.EndOfText = codes "end of text"
-expected_text (expected.Word word) = reserved_text word
+expected_text (expected.Word word) = reserved_word_text word
 expected_text (expected.Symbol symbol) = symbol_text symbol

@@ -14,12 +14,12 @@ use Rattle.ob0_tree.specs.declared.tree.Designator.{Designator}
 use Rattle.ob0_tree.specs.declared.tree.Names.{Names}
 use Rattle.ob0_tree.specs.declared.tree.WrittenType.{WrittenType}
 use Rattle.ob0_scan.specs.declared.lexeme.ReservedWord.TheVariants as reserved
-use Rattle.ob0_tree.specs.Tree.{Item, Sort, item, items, selector, factor, names, written_type, Tree, designator, some_fields, spell, nesting}
+use Rattle.ob0_tree.specs.Tree.{GrammarItem, Sort, item, items, selector, factor, names, written_type, Tree, designator, some_fields, spell, nesting}
 use Rattle.ob0_tree.specs.Places.{indexed_terminal, indexed_terminals}
 use Rattle.ob0_tree.specs.View.{items_of, selector_of, names_of, type_of}
 pub use Rattle.ob0_parse_descent.specs.Descent.{ProductionPart, token, name, number, nonterminal, text_end}
-use Rattle.ob0_parse_descent.specs.Descent.{Stop, Expects, TooDeepAt, Descends, expected_token, is_parameter_section_next}
-use Rattle.ob0_parse_descent.specs.Follow.{rank, kind_rank, item_rank, level, EndsConstruct, NextHasRank}
+use Rattle.ob0_parse_descent.specs.Descent.{DescentEnd, Expects, TooDeepAt, Descends, syntax_expected_for_kind, is_parameter_section_next}
+use Rattle.ob0_parse_descent.specs.Follow.{rank, kind_rank, item_start_rank, level, NextTokenEndsConstruct, NextTokenHasRank}
 use Rattle.ob0_parse_descent.specs.declared.refusal.ExpectedSyntax.TheVariants as expected
 use Rattle.ob0_parse_descent.specs.declared.refusal.ParseRefusal.{ParseRefusal}
 use Rattle.ob0_parse_descent.specs.declared.refusal.ParseRefusal.TheVariants.{Syntax, TooDeep, Memory}
@@ -48,7 +48,7 @@ BeginsWithParts (nonterminal s room ∷ ps) w =
     × (z : List (Terminal ℕ))
     × (w ≡ spell t ++ z)
     × (nesting t ≤ room)
-    × EndsConstruct (level s) z
+    × NextTokenEndsConstruct (level s) z
     × BeginsWithParts ps z
 BeginsWithParts (text_end ∷ ps) w = (z : List (Terminal ℕ)) × (w ≡ EndOfText ∷ z) × BeginsWithParts ps z
 
@@ -69,11 +69,11 @@ pub record HaveSameFirstToken (xs w : List (Terminal ℕ)) : Type 0 where
   pub is : xs ≡ head ∷ following
   pub alike : w ≡ head ∷ other
 
--- States that if the descent over the parts `following`, starting at the token `next`, ends with
--- some stop, then the descent over the parts `ps`, starting at the token `at`, ends with the same
--- stop. This also holds if further parts `more` follow in both lists.
-pub record DescentsEndWithSameStop (ps following : List ProductionPart) (ts : List Token) (at next : ℕ) : Type 0 where
-  pub stops_as_following : (o : Stop) (more : List ProductionPart)
+-- States that if the descent over the parts `following`, starting at the token `next`, has some
+-- end, then the descent over the parts `ps`, starting at the token `at`, has the same end. This
+-- also holds if further parts `more` follow in both lists.
+pub record DescentsHaveSameEnd (ps following : List ProductionPart) (ts : List Token) (at next : ℕ) : Type 0 where
+  pub stops_as_following : (o : DescentEnd) (more : List ProductionPart)
       → Descends (following ++ more) next (rest ts next) o
       → Descends (ps ++ more) at (rest ts at) o
 
@@ -81,16 +81,16 @@ pub record DescentsEndWithSameStop (ps following : List ProductionPart) (ts : Li
 -- `t` has at most `room` levels of nesting. The field `only` states that `t` is the only such tree.
 -- Take any list of tokens that begins with the tokens of `t` and the token at `next`. If a tree `u`
 -- of the same sort spells the beginning of this list, and the token after `u` can't continue `u`
--- (`EndsConstruct`), then `u` is `t`.
+-- (`NextTokenEndsConstruct`), then `u` is `t`.
 pub record IsReadTree {s : Sort} (t : Tree ℕ s) (room : ℕ) (ts : List Token) (at next : ℕ) : Type 0 where
   pub spelled : rest ts at ≡ spell t ++ rest ts next
   pub shallow : nesting t ≤ room
   pub only : (u : Tree ℕ s) (z w : List (Terminal ℕ))
       → HaveSameFirstToken (rest ts next) w
-      → EndsConstruct (level s) z
+      → NextTokenEndsConstruct (level s) z
       → spell u ++ z ≡ spell t ++ w
       → (u ≡ t) × (z ≡ w)
-  pub reads : DescentsEndWithSameStop (nonterminal s room ∷ []) [] ts at next
+  pub reads : DescentsHaveSameEnd (nonterminal s room ∷ []) [] ts at next
   pub within : next ≤ length ts
   pub forward : at ≤ next
 
@@ -103,17 +103,17 @@ IsRightRefusalOfParts parts ts at (Syntax i expected) = (i ≤ length ts) × Can
 IsRightRefusalOfParts parts ts at (TooDeep i) = (i ≤ length ts) × CantBeginWithParts parts (rest ts at) (rest ts (i + 1))
 IsRightRefusalOfParts parts ts at Memory = Unit {0}
 
--- States that the descent over the parts `parts`, starting at the token `at`, ends with the stop
--- `o`, whatever parts follow `parts`.
-abbrev pub DescentStopsWith : List ProductionPart → List Token → ℕ → Stop → Type 0
-DescentStopsWith parts ts at o = (more : List ProductionPart) → Descends (parts ++ more) at (rest ts at) o
+-- States that the descent over the parts `parts`, starting at the token `at`, has the end `o`,
+-- whatever parts follow `parts`.
+abbrev pub DescentEndsWith : List ProductionPart → List Token → ℕ → DescentEnd → Type 0
+DescentEndsWith parts ts at o = (more : List ProductionPart) → Descends (parts ++ more) at (rest ts at) o
 
 -- States that the descent over the parts `parts`, starting at the token `at`, stops at the token
 -- and for the reason that the refusal gives. For a failed allocation it states nothing.
-abbrev pub DescentStopsAsRefusalSays : List ProductionPart → List Token → ℕ → ParseRefusal → Type 0
-DescentStopsAsRefusalSays parts ts at (Syntax i expected) = DescentStopsWith parts ts at (Expects i expected)
-DescentStopsAsRefusalSays parts ts at (TooDeep i) = DescentStopsWith parts ts at (TooDeepAt i)
-DescentStopsAsRefusalSays parts ts at Memory = Unit {0}
+abbrev pub DescentEndsAsRefusalSays : List ProductionPart → List Token → ℕ → ParseRefusal → Type 0
+DescentEndsAsRefusalSays parts ts at (Syntax i expected) = DescentEndsWith parts ts at (Expects i expected)
+DescentEndsAsRefusalSays parts ts at (TooDeep i) = DescentEndsWith parts ts at (TooDeepAt i)
+DescentEndsAsRefusalSays parts ts at Memory = Unit {0}
 
 -- States that the refusal `e` is right: the parts `parts` can't be read starting at the token `at`,
 -- and the descent over these parts stops at the token and for the reason that `e` gives. The
@@ -121,7 +121,7 @@ DescentStopsAsRefusalSays parts ts at Memory = Unit {0}
 pub record FailsToRead
     (parts : List ProductionPart) (ts : List Token) (at : ℕ) (e : ParseRefusal) : Type 0 where
   pub why : IsRightRefusalOfParts parts ts at e
-  pub reads : DescentStopsAsRefusalSays parts ts at e
+  pub reads : DescentEndsAsRefusalSays parts ts at e
 
 -- States that the result of parsing a construct at the token `at` is right. The tree of a parsed
 -- construct begins at that token and ends before the returned index. If the result is a refusal, no
@@ -170,7 +170,7 @@ abbrev pub ReadsToken : TokenKind → List Token → ℕ → Result ℕ ParseRef
 ReadsToken k ts at (Ok next) =
     (rest ts at ≡ WordOrSymbol k ∷ rest ts next) × (at < length ts) × (next ≡ at + 1)
 ReadsToken k ts at (Err e) =
-    IsTokenOtherThan (WordOrSymbol k) ts at × (Some e ≡ option_map (Syntax at) (expected_token k))
+    IsTokenOtherThan (WordOrSymbol k) ts at × (Some e ≡ option_map (Syntax at) (syntax_expected_for_kind k))
 
 -- States that the result of reading an identifier at the index `at` is right. If the result is a
 -- pair, an identifier is at `at`, and the pair is `at` and `at + 1`. If the result is a refusal,
@@ -188,30 +188,30 @@ OpensLevel at room (Ok inner) = room ≡ inner + 1
 OpensLevel at room (Err e) = (room ≡ 0) × (e ≡ TooDeep at)
 
 -- States that the token at the index `at` is the whole factor `f`, and that the next token can't
--- continue a construct of the level `level` (see `EndsConstruct`).
+-- continue a construct of the level `level` (see `NextTokenEndsConstruct`).
 pub record IsSingleTokenFactor (level : ℕ) (f : Tree ℕ factor) (ts : List Token) (at : ℕ) : Type 0 where
   pub taken : (room : ℕ) → IsReadTree f room ts at (at + 1)
-  pub stops : EndsConstruct level (rest ts (at + 1))
+  pub stops : NextTokenEndsConstruct level (rest ts (at + 1))
 
 -- States that the token at the index `at` begins the item `i`, but that the item can't be read, for
 -- the reason that the refusal `e` gives.
 pub record ItemBeginsButCantBeRead
-    (i : Item) (room : ℕ) (ts : List Token) (at : ℕ) (e : ParseRefusal) : Type 0 where
-  pub is_here : NextHasRank (item_rank i) (rest ts at)
+    (i : GrammarItem) (room : ℕ) (ts : List Token) (at : ℕ) (e : ParseRefusal) : Type 0 where
+  pub is_here : NextTokenHasRank (item_start_rank i) (rest ts at)
   pub fails : FailsToRead (nonterminal (item i) room ∷ []) ts at e
 
 -- States that the result of parsing an optional item at the token `at` is right. The tree of a
 -- parsed item begins at that token and ends before the returned index. If the result is None, no
 -- such item begins there. If the result is a refusal, an item begins there but can't be read, for
 -- the reason that the refusal gives.
-abbrev pub ReadsItem : {A : Type 0} {i : Item}
+abbrev pub ReadsItem : {A : Type 0} {i : GrammarItem}
     → (A → Tree ℕ (item i))
     → ℕ
     → List Token
     → ℕ
     → Result (Option (A × ℕ)) ParseRefusal
     → Type 0
-ReadsItem {i = i} view room ts at (Ok None) = ¬ NextHasRank (item_rank i) (rest ts at)
+ReadsItem {i = i} view room ts at (Ok None) = ¬ NextTokenHasRank (item_start_rank i) (rest ts at)
 ReadsItem view room ts at (Ok (Some x)) = IsReadTree (view x.0) room ts at x.1 × (at < x.1)
 ReadsItem {i = i} view room ts at (Err e) = ItemBeginsButCantBeRead i room ts at e
 
@@ -236,7 +236,7 @@ pub record IsSignAt (ts : List Token) (at : ℕ) (sign : Option Sign) (next : �
 abbrev pub ReadsDesignator : ℕ → List Token → ℕ → Result (Designator × ℕ) ParseRefusal → Type 0
 ReadsDesignator room ts at (Ok x) =
     IsReadTree (designator x.0.name (items_of selector_of x.0.selectors.items)) room ts at x.1
-    × ¬ NextHasRank 1 (rest ts x.1)
+    × ¬ NextTokenHasRank 1 (rest ts x.1)
 ReadsDesignator room ts at (Err e) = FailsToRead (name ∷ nonterminal (items selector) room ∷ []) ts at e
 
 -- States that the operator found for a token of the kind `k` is right. `mark` returns the kind of
@@ -250,7 +250,7 @@ IsOperatorOfKind mark r k None = kind_rank k ≢ r
 -- elements, each with the separator before it. `view` returns the tree of the first element, and
 -- `further` returns the tree of a further element.
 pub record IsReadList
-    {A : Type 0} {s : Sort} {i : Item} (view : A → Tree ℕ s) (further : A → Tree ℕ (item i))
+    {A : Type 0} {s : Sort} {i : GrammarItem} (view : A → Tree ℕ s) (further : A → Tree ℕ (item i))
     (xs : List A) (room : ℕ) (ts : List Token) (at next : ℕ) : Type 0 where
   pub first : A
   pub others : List A
@@ -262,7 +262,7 @@ pub record IsReadList
 -- States that the result of parsing a list of one or more elements at the token `at` is right. A
 -- parsed list begins at that token and ends before the returned index. If the result is a refusal,
 -- no list of such elements can be read there, for the reason that the refusal gives.
-abbrev pub ReadsList : {A : Type 0} {s : Sort} {i : Item}
+abbrev pub ReadsList : {A : Type 0} {s : Sort} {i : GrammarItem}
     → (A → Tree ℕ s)
     → (A → Tree ℕ (item i))
     → ℕ

@@ -1,7 +1,7 @@
 //! Parses declarations and blocks. The parameters `at` and `room` are described in `parser.rt`.
 
 ghost use Rattle.std.specs.Prelude.{◌≤◌, length};
-ghost use Rattle.ob0_tree.specs.View.{parameter_section_of, further_parameter_section_of, formals_of, constant_of, constants_of, constants_of_vec, type_declaration_of, types_of, types_of_vec, variable_of, variables_of, variables_of_vec, body_of, block_of, procedure_of, procedures_of_vec};
+ghost use Rattle.ob0_tree.specs.View.{parameter_section_of, further_parameter_section_of, formals_of, constant_of, constant_section_of, constant_declarations_of_vec, type_declaration_of, type_section_of, type_declarations_of_vec, variable_of, variable_section_of, variable_declarations_of_vec, body_of, block_of, procedure_of, procedures_of_vec};
 ghost use Rattle.ob0_parse_descent.specs.Reading.{Reads, ReadsList, ReadsItem, ReadsTypedNames, TellsIfParameterSectionMayBegin};
 
 use crate::growth::push_with_doubling;
@@ -29,7 +29,7 @@ impl<'t> Parser<'t> {
         requires { at ≤ length self.now.tokens.now }
         ensures { Reads parameter_section_of room self.now.tokens.now at result }
     {
-        if self.has_word_at(at, ReservedWord::Var) {
+        if self.has_reserved_word_at(at, ReservedWord::Var) {
             let ((names, written), end) = self.parse_typed_names(at + 1, room)?;
             let by_reference = true;
             return Ok((
@@ -61,7 +61,7 @@ impl<'t> Parser<'t> {
         if self.has_identifier_at(at) {
             return true;
         }
-        self.has_word_at(at, ReservedWord::Var)
+        self.has_reserved_word_at(at, ReservedWord::Var)
     }
 
     /// Parses a further section of formal parameters, `";" section`. Returns None if the token at
@@ -116,25 +116,29 @@ impl<'t> Parser<'t> {
 
     /// Parses an optional CONST section, `[CONST {ident "=" expression ";"}]`. The list is None if
     /// the token at `at` isn't CONST.
-    pub fn parse_constants(&self, at: usize, room: u32) -> ConstructResult<Option<Vec<Constant>>>
+    pub fn parse_constant_section(
+        &self,
+        at: usize,
+        room: u32,
+    ) -> ConstructResult<Option<Vec<Constant>>>
         requires { at ≤ length self.now.tokens.now }
-        ensures { Reads constants_of room self.now.tokens.now at result }
+        ensures { Reads constant_section_of room self.now.tokens.now at result }
     {
-        if !self.has_word_at(at, ReservedWord::Const) {
+        if !self.has_reserved_word_at(at, ReservedWord::Const) {
             return Ok((None, at));
         }
-        let (constants, next) = self.parse_constant_list(at + 1, room)?;
+        let (constants, next) = self.parse_constant_declarations(at + 1, room)?;
         Ok((Some(constants), next))
     }
 
     /// Parses the declarations of a CONST section, `{ident "=" expression ";"}`.
-    fn parse_constant_list(&self, at: usize, room: u32) -> ConstructResult<Vec<Constant>>
+    fn parse_constant_declarations(&self, at: usize, room: u32) -> ConstructResult<Vec<Constant>>
         requires { at ≤ length self.now.tokens.now }
-        ensures { Reads constants_of_vec room self.now.tokens.now at result }
+        ensures { Reads constant_declarations_of_vec room self.now.tokens.now at result }
     {
         let mut constants = Vec::new(self.alloc);
         let mut next = at;
-        while let Some((constant, end)) = self.parse_constant(next, room)? {
+        while let Some((constant, end)) = self.parse_constant_declaration(next, room)? {
             push_with_doubling(&mut constants, constant)?;
             next = end;
         }
@@ -143,7 +147,7 @@ impl<'t> Parser<'t> {
 
     /// Parses the declaration of a constant, `ident "=" expression ";"`. Returns None if the token
     /// at `at` isn't an identifier.
-    fn parse_constant(&self, at: usize, room: u32) -> ItemResult<Constant>
+    fn parse_constant_declaration(&self, at: usize, room: u32) -> ItemResult<Constant>
         requires { at ≤ length self.now.tokens.now }
         ensures { ReadsItem constant_of room self.now.tokens.now at result }
     {
@@ -158,21 +162,25 @@ impl<'t> Parser<'t> {
 
     /// Parses an optional TYPE section, `[TYPE {ident "=" type ";"}]`. The list is None if the
     /// token at `at` isn't TYPE.
-    pub fn parse_types(&self, at: usize, room: u32) -> ConstructResult<Option<Vec<TypeDeclaration>>>
+    pub fn parse_type_section(
+        &self,
+        at: usize,
+        room: u32,
+    ) -> ConstructResult<Option<Vec<TypeDeclaration>>>
         requires { at ≤ length self.now.tokens.now }
-        ensures { Reads types_of room self.now.tokens.now at result }
+        ensures { Reads type_section_of room self.now.tokens.now at result }
     {
-        if !self.has_word_at(at, ReservedWord::Type) {
+        if !self.has_reserved_word_at(at, ReservedWord::Type) {
             return Ok((None, at));
         }
-        let (types, next) = self.parse_type_list(at + 1, room)?;
+        let (types, next) = self.parse_type_declarations(at + 1, room)?;
         Ok((Some(types), next))
     }
 
     /// Parses the declarations of a TYPE section, `{ident "=" type ";"}`.
-    fn parse_type_list(&self, at: usize, room: u32) -> ConstructResult<Vec<TypeDeclaration>>
+    fn parse_type_declarations(&self, at: usize, room: u32) -> ConstructResult<Vec<TypeDeclaration>>
         requires { at ≤ length self.now.tokens.now }
-        ensures { Reads types_of_vec room self.now.tokens.now at result }
+        ensures { Reads type_declarations_of_vec room self.now.tokens.now at result }
     {
         let mut types = Vec::new(self.alloc);
         let mut next = at;
@@ -200,29 +208,33 @@ impl<'t> Parser<'t> {
 
     /// Parses an optional VAR section, `[VAR {names ":" type ";"}]`. The list is None if the token
     /// at `at` isn't VAR.
-    pub fn parse_variables(
+    pub fn parse_variable_section(
         &self,
         at: usize,
         room: u32,
     ) -> ConstructResult<Option<Vec<VariableDeclaration>>>
         requires { at ≤ length self.now.tokens.now }
-        ensures { Reads variables_of room self.now.tokens.now at result }
+        ensures { Reads variable_section_of room self.now.tokens.now at result }
     {
-        if !self.has_word_at(at, ReservedWord::Var) {
+        if !self.has_reserved_word_at(at, ReservedWord::Var) {
             return Ok((None, at));
         }
-        let (variables, next) = self.parse_variable_list(at + 1, room)?;
+        let (variables, next) = self.parse_variable_declarations(at + 1, room)?;
         Ok((Some(variables), next))
     }
 
     /// Parses the declarations of a VAR section, `{names ":" type ";"}`.
-    fn parse_variable_list(&self, at: usize, room: u32) -> ConstructResult<Vec<VariableDeclaration>>
+    fn parse_variable_declarations(
+        &self,
+        at: usize,
+        room: u32,
+    ) -> ConstructResult<Vec<VariableDeclaration>>
         requires { at ≤ length self.now.tokens.now }
-        ensures { Reads variables_of_vec room self.now.tokens.now at result }
+        ensures { Reads variable_declarations_of_vec room self.now.tokens.now at result }
     {
         let mut variables = Vec::new(self.alloc);
         let mut next = at;
-        while let Some((declared, end)) = self.parse_variable(next, room)? {
+        while let Some((declared, end)) = self.parse_variable_declaration(next, room)? {
             push_with_doubling(&mut variables, declared)?;
             next = end;
         }
@@ -231,7 +243,7 @@ impl<'t> Parser<'t> {
 
     /// Parses a declaration of variables, `names ":" type ";"`. Returns None if the token at `at`
     /// isn't an identifier.
-    fn parse_variable(&self, at: usize, room: u32) -> ItemResult<VariableDeclaration>
+    fn parse_variable_declaration(&self, at: usize, room: u32) -> ItemResult<VariableDeclaration>
         requires { at ≤ length self.now.tokens.now }
         ensures { ReadsItem variable_of room self.now.tokens.now at result }
     {
@@ -249,7 +261,7 @@ impl<'t> Parser<'t> {
         requires { at ≤ length self.now.tokens.now }
         ensures { Reads body_of room self.now.tokens.now at result }
     {
-        if !self.has_word_at(at, ReservedWord::Begin) {
+        if !self.has_reserved_word_at(at, ReservedWord::Begin) {
             return Ok((None, at));
         }
         let (statements, next) = self.parse_sequence(at + 1, room)?;
@@ -262,9 +274,9 @@ impl<'t> Parser<'t> {
         requires { at ≤ length self.now.tokens.now }
         ensures { Reads block_of room self.now.tokens.now at result }
     {
-        let (constants, next) = self.parse_constants(at, room)?;
-        let (types, next) = self.parse_types(next, room)?;
-        let (variables, next) = self.parse_variables(next, room)?;
+        let (constants, next) = self.parse_constant_section(at, room)?;
+        let (types, next) = self.parse_type_section(next, room)?;
+        let (variables, next) = self.parse_variable_section(next, room)?;
         let (procedures, next) = self.parse_procedures(next, room)?;
         let (body, next) = self.parse_body(next, room)?;
         Ok((
@@ -301,7 +313,7 @@ impl<'t> Parser<'t> {
         requires { at ≤ length self.now.tokens.now }
         ensures { ReadsItem procedure_of room self.now.tokens.now at result }
     {
-        if !self.has_word_at(at, ReservedWord::Procedure) {
+        if !self.has_reserved_word_at(at, ReservedWord::Procedure) {
             return Ok(None);
         }
         let inner = levels_left_inside(at, room)?;
@@ -309,7 +321,7 @@ impl<'t> Parser<'t> {
         let (formals, next) = self.parse_formals(next, inner)?;
         let start = self.expect_symbol(next, Symbol::Semicolon)?;
         let (block, next) = self.parse_block(start, inner)?;
-        let last = self.expect_word(next, ReservedWord::End)?;
+        let last = self.expect_reserved_word(next, ReservedWord::End)?;
         let (closing, next) = self.expect_identifier(last)?;
         let end = self.expect_symbol(next, Symbol::Semicolon)?;
         Ok(Some((

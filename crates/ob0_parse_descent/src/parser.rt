@@ -73,7 +73,7 @@ impl<'t> Parser<'t> {
     }
 
     /// Returns whether the token at `at` is the reserved word `word`.
-    pub(crate) fn has_word_at(&self, at: usize, word: ReservedWord) -> bool
+    pub(crate) fn has_reserved_word_at(&self, at: usize, word: ReservedWord) -> bool
         requires { at ≤ length self.now.tokens.now }
         ensures { TellsIfTokenAt (kind.ReservedWord word) self.now.tokens.now at result }
     {
@@ -90,11 +90,11 @@ impl<'t> Parser<'t> {
 
     /// Returns `at + 1` if the token at `at` is the reserved word `word`. Otherwise returns a
     /// syntax error: `word` is expected at `at`.
-    pub fn expect_word(&self, at: usize, word: ReservedWord) -> Result<usize, ParseRefusal>
+    pub fn expect_reserved_word(&self, at: usize, word: ReservedWord) -> Result<usize, ParseRefusal>
         requires { at ≤ length self.now.tokens.now }
         ensures { ReadsToken (kind.ReservedWord word) self.now.tokens.now at result }
     {
-        if self.has_word_at(at, word) {
+        if self.has_reserved_word_at(at, word) {
             Ok(at + 1)
         } else {
             syntax_error(at, ExpectedSyntax::Word(word))

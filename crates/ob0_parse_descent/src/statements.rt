@@ -25,13 +25,13 @@ impl<'t> Parser<'t> {
         if self.has_identifier_at(at) {
             return self.parse_assignment_or_call(at, room);
         }
-        if self.has_word_at(at, ReservedWord::If) {
+        if self.has_reserved_word_at(at, ReservedWord::If) {
             return self.parse_if(at, room);
         }
-        if self.has_word_at(at, ReservedWord::While) {
+        if self.has_reserved_word_at(at, ReservedWord::While) {
             return self.parse_while(at, room);
         }
-        if self.has_word_at(at, ReservedWord::Repeat) {
+        if self.has_reserved_word_at(at, ReservedWord::Repeat) {
             return self.parse_repeat(at, room);
         }
         Ok((Statement::Empty, at))
@@ -157,11 +157,11 @@ impl<'t> Parser<'t> {
     {
         let inner = levels_left_inside(at, room)?;
         let (condition, next) = self.parse_expression(at + 1, inner)?;
-        let start = self.expect_word(next, ReservedWord::Then)?;
+        let start = self.expect_reserved_word(next, ReservedWord::Then)?;
         let (then, next) = self.parse_sequence(start, inner)?;
-        let (elsifs, next) = self.parse_elsifs(next, inner)?;
-        let (otherwise, next) = self.parse_else(next, inner)?;
-        let end = self.expect_word(next, ReservedWord::End)?;
+        let (elsifs, next) = self.parse_elsif_parts(next, inner)?;
+        let (otherwise, next) = self.parse_else_part(next, inner)?;
+        let end = self.expect_reserved_word(next, ReservedWord::End)?;
         let boxed = Box::new(
             self.alloc,
             If {
@@ -176,7 +176,7 @@ impl<'t> Parser<'t> {
 
     /// Parses the ELSIF parts of an IF statement, `{ELSIF expression THEN sequence}`.
     #[cycle(statements)]
-    fn parse_elsifs(&self, at: usize, room: u32) -> ConstructResult<Vec<Elsif>>
+    fn parse_elsif_parts(&self, at: usize, room: u32) -> ConstructResult<Vec<Elsif>>
         requires { at ≤ length self.now.tokens.now }
         ensures { Reads elsifs_of_vec room self.now.tokens.now at result }
     {
@@ -196,11 +196,11 @@ impl<'t> Parser<'t> {
         requires { at ≤ length self.now.tokens.now }
         ensures { ReadsItem elsif_of room self.now.tokens.now at result }
     {
-        if !self.has_word_at(at, ReservedWord::Elsif) {
+        if !self.has_reserved_word_at(at, ReservedWord::Elsif) {
             return Ok(None);
         }
         let (condition, next) = self.parse_expression(at + 1, room)?;
-        let start = self.expect_word(next, ReservedWord::Then)?;
+        let start = self.expect_reserved_word(next, ReservedWord::Then)?;
         let (then, end) = self.parse_sequence(start, room)?;
         Ok(Some((Elsif { condition, then }, end)))
     }
@@ -208,11 +208,11 @@ impl<'t> Parser<'t> {
     /// Parses the ELSE part of an IF statement, `[ELSE sequence]`. The statements are None if the
     /// token at `at` isn't ELSE.
     #[cycle(statements)]
-    fn parse_else(&self, at: usize, room: u32) -> ConstructResult<Option<Vec<Statement>>>
+    fn parse_else_part(&self, at: usize, room: u32) -> ConstructResult<Option<Vec<Statement>>>
         requires { at ≤ length self.now.tokens.now }
         ensures { Reads else_part_of room self.now.tokens.now at result }
     {
-        if !self.has_word_at(at, ReservedWord::Else) {
+        if !self.has_reserved_word_at(at, ReservedWord::Else) {
             return Ok((None, at));
         }
         let (statements, end) = self.parse_sequence(at + 1, room)?;
@@ -227,9 +227,9 @@ impl<'t> Parser<'t> {
     {
         let inner = levels_left_inside(at, room)?;
         let (condition, next) = self.parse_expression(at + 1, inner)?;
-        let start = self.expect_word(next, ReservedWord::Do)?;
+        let start = self.expect_reserved_word(next, ReservedWord::Do)?;
         let (body, next) = self.parse_sequence(start, inner)?;
-        let end = self.expect_word(next, ReservedWord::End)?;
+        let end = self.expect_reserved_word(next, ReservedWord::End)?;
         let boxed = Box::new(self.alloc, While { condition, body })?;
         Ok((Statement::While(boxed), end))
     }
@@ -242,7 +242,7 @@ impl<'t> Parser<'t> {
     {
         let inner = levels_left_inside(at, room)?;
         let (body, next) = self.parse_sequence(at + 1, inner)?;
-        let start = self.expect_word(next, ReservedWord::Until)?;
+        let start = self.expect_reserved_word(next, ReservedWord::Until)?;
         let (condition, end) = self.parse_expression(start, inner)?;
         let boxed = Box::new(self.alloc, Repeat { body, condition })?;
         Ok((Statement::Repeat(boxed), end))

@@ -23,10 +23,10 @@ impl<'t> Parser<'t> {
         if self.has_identifier_at(at) {
             return Ok((WrittenType::Named(at), at + 1));
         }
-        if self.has_word_at(at, ReservedWord::Array) {
+        if self.has_reserved_word_at(at, ReservedWord::Array) {
             return self.parse_array_type(at, room);
         }
-        if self.has_word_at(at, ReservedWord::Record) {
+        if self.has_reserved_word_at(at, ReservedWord::Record) {
             return self.parse_record_type(at, room);
         }
         syntax_error(at, ExpectedSyntax::Type)
@@ -40,7 +40,7 @@ impl<'t> Parser<'t> {
     {
         let inner = levels_left_inside(at, room)?;
         let (size, next) = self.parse_expression(at + 1, inner)?;
-        let start = self.expect_word(next, ReservedWord::Of)?;
+        let start = self.expect_reserved_word(next, ReservedWord::Of)?;
         let (element, end) = self.parse_type(start, inner)?;
         let element = Box::new(self.alloc, element)?;
         Ok((WrittenType::Array(ArrayType { size, element }), end))
@@ -60,7 +60,7 @@ impl<'t> Parser<'t> {
             push_with_doubling(&mut groups, fields)?;
             next = end;
         }
-        let end = self.expect_word(next, ReservedWord::End)?;
+        let end = self.expect_reserved_word(next, ReservedWord::End)?;
         Ok((WrittenType::Record(RecordType { groups }), end))
     }
 

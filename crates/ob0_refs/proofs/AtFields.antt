@@ -7,7 +7,7 @@ use Rattle.ob0_scan.specs.declared.lexeme.Span.{Span}
 use Rattle.ob0_tree.specs.ParsedModule.{ParsedModule}
 use Rattle.ob0_tree.specs.Places.{token_text_at}
 use Rattle.ob0_scope_table.specs.Resolution.{Resolution, span_at}
-use Rattle.ob0_scope_table.specs.Spans.{is_on_span}
+use Rattle.ob0_scope_table.specs.Spans.{is_in_span_or_at_end}
 use Rattle.ob0_scope.specs.NamesAtPlaces.{name_at_offset}
 use Rattle.ob0_scope.specs.declared.naming.BoundName as named
 use Rattle.ob0_types.specs.IdentifierMeanings.{meaning_of_name_or_field}
@@ -65,7 +65,7 @@ on_field r offset k index span h = go (name_at_offset r.module_read offset) refl
 module _ (source : TextWithTokens) (offset : ℕ) (x : FieldName) where
   found_holds : (P : FieldName → Type 0) (xs : List FieldName) → All P xs → field_at_offset source offset xs ≡ Some x → P x
   found_holds P [] all h = absurd (cc)
-  found_holds P (y ∷ ys) all h = one (is_on_span offset (span_at source y.token)) h (found_holds P ys (All-tail P y ys all))
+  found_holds P (y ∷ ys) all h = one (is_in_span_or_at_end offset (span_at source y.token)) h (found_holds P ys (All-tail P y ys all))
     where
       one : (b : Bool) → (if b then Some y else field_at_offset source offset ys) ≡ Some x → (field_at_offset source offset ys ≡ Some x → P x) → P x
       one true e later = subst P (some_inverse e) (All-head P y ys all)
@@ -74,7 +74,7 @@ module _ (source : TextWithTokens) (offset : ℕ) (x : FieldName) where
   -- The span of the identifier at a place is among the spans of its field's tokens.
   found_named : (xs : List FieldName) → field_at_offset source offset xs ≡ Some x → Contains (map (span_at source) (tokens_of_field source x.owner (token_text_at source x.token) xs)) (span_at source x.token)
   found_named [] h = absurd (cc)
-  found_named (y ∷ ys) h = one (is_on_span offset (span_at source y.token)) h (found_named ys)
+  found_named (y ∷ ys) h = one (is_in_span_or_at_end offset (span_at source y.token)) h (found_named ys)
     where
       following : (b : Bool) → Contains (map (span_at source) (tokens_of_field source x.owner (token_text_at source x.token) ys)) (span_at source x.token)
           → Contains (map (span_at source) (if b then y.token ∷ tokens_of_field source x.owner (token_text_at source x.token) ys else tokens_of_field source x.owner (token_text_at source x.token) ys)) (span_at source x.token)

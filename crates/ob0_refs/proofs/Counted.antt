@@ -1,7 +1,7 @@
 -- The number of fields of a record in the table is the number of fields of its shape.
 use Rattle.std.proofs.Common.{◌≡◌, List, [], ◌∷◌, length, refl, arith}
 use Rattle.ob0_refs.specs.Hovers.{field_count}
-use Rattle.ob0_types_table.specs.Tables.{field_shapes}
+use Rattle.ob0_types_table.specs.DeclarationTableView.{field_shapes}
 use Rattle.ob0_types_table.specs.declared.known.Field.{Field}
 use Rattle.ob0_language_values.specs.Values.{Shape}
 

@@ -16,7 +16,7 @@ ghost use Rattle.ob0_refs.specs.Declarations.{hover_text_of_declaration, hover_t
 ghost use Rattle.ob0_refs.specs.Hovers.{field_text, type_declaration_text, procedure_text, type_text, variable_text};
 ghost use Rattle.ob0_refs.specs.Parameters.{parameter_view};
 ghost use Rattle.ob0_types_table.specs.KnownTables.{declared_object_in, shapes_of};
-ghost use Rattle.ob0_types_table.specs.Tables.{formal_view, type_shape};
+ghost use Rattle.ob0_types_table.specs.DeclarationTableView.{formal_view, type_shape};
 ghost use Rattle.ob0_language_names.specs.Scopes.{predeclared_count};
 
 use crate::hovers::{

@@ -6,7 +6,7 @@ ghost use Rattle.ob0_refs.specs.Parts.{hover_view};
 ghost use Rattle.ob0_refs.specs.Questions.{hover_of_field, hover_at_offset, hover_of_identifier, hover_of_field_with_type};
 ghost use Rattle.ob0_refs.specs.NameHovers.{hover_of_name};
 ghost use Rattle.ob0_types_table.specs.KnownTables.{shapes_of};
-ghost use Rattle.ob0_types_table.specs.Tables.{type_shape};
+ghost use Rattle.ob0_types_table.specs.DeclarationTableView.{type_shape};
 
 use crate::answers::Hover;
 use crate::declaration_texts::{field_hover_text, name_hover_text};

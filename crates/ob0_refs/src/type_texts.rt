@@ -6,11 +6,11 @@
 ghost use Rattle.std.specs.Prelude.{◌≡◌, IfOk, string_bytes};
 ghost use Rattle.ob0_refs.specs.Hovers.{type_text};
 ghost use Rattle.ob0_types_table.specs.KnownTables.{shapes_of};
-ghost use Rattle.ob0_types_table.specs.Tables.{type_shape};
+ghost use Rattle.ob0_types_table.specs.DeclarationTableView.{type_shape};
 ghost use Rattle.ob0_language_values.specs.Values.{array_shape};
 
 use crate::hovers::{array_text_from_element_text, record_text};
-use ob0_types_table::{ArrayShape, DeclarationTable, Parts, TypeId};
+use ob0_types_table::{ArrayShape, DeclarationTable, TypeId, TypeWithParts};
 use std::alloc::{AllocError, Global};
 
 /// Returns the text of a type. The text of an array shows the type of its elements, and the text of
@@ -26,11 +26,11 @@ pub(crate) fn type_text(
         (λ text. string_bytes text ≡ type_text (type_shape (shapes_of known.now) of)) }
 {
     match known.parts(of) {
-        Parts::Integer => String::from_str(alloc, "INTEGER"),
-        Parts::Boolean => String::from_str(alloc, "BOOLEAN"),
-        Parts::Array(array) => array_type_text(alloc, known, array),
-        Parts::Record(record) => record_text(alloc, record.fields.as_slice().len()),
-        Parts::Faulty => record_text(alloc, 0),
+        TypeWithParts::Integer => String::from_str(alloc, "INTEGER"),
+        TypeWithParts::Boolean => String::from_str(alloc, "BOOLEAN"),
+        TypeWithParts::Array(array) => array_type_text(alloc, known, array),
+        TypeWithParts::Record(record) => record_text(alloc, record.fields.as_slice().len()),
+        TypeWithParts::Faulty => record_text(alloc, 0),
     }
 }
 

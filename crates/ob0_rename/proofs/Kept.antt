@@ -7,7 +7,7 @@ use Rattle.ob0_language_names.specs.ConsistentNames.{are_distinct, block_names, 
 use Rattle.ob0_language_names.specs.Mapping.{map_names}
 use Rattle.ob0_language_names.specs.Names.{Name, naming_by_spelling, same_name}
 use Rattle.ob0_language_names.specs.Parts.{constant_names, formal_names, formal_sections, further_names, module_block, declared_type_names, names_in_list, procedure_name, section_constants, parameter_section_names, section_types, section_variables, variable_names}
-use Rattle.ob0_language_names.specs.Scopes.{Labelling, Scope, ordinal_after_names, ordinal_after_procedure, declare_names, declare_procedure_names, first_procedure_ordinal, first_type_ordinal, first_variable_ordinal, ordinal_of, predeclared_scope, scope_before_procedures, relabel_block, relabel_constant_section, relabel_constants, relabel_formals, relabel_further_names, relabel_names, relabel_procedure, relabel_procedures, relabel_section, relabel_sections, relabel_type_section, relabel_types, relabel_uses, relabel_variable_section, relabel_variables, renamed, scope_before_types, scope_before_variables, body_scope}
+use Rattle.ob0_language_names.specs.Scopes.{Labelling, Scope, ordinal_after_names, ordinal_after_procedure, declare_names, declare_procedure_names, first_procedure_ordinal, first_type_ordinal, first_variable_ordinal, ordinal_in_scope, predeclared_scope, scope_before_procedures, relabel_block, relabel_constant_section, relabel_constants, relabel_formals, relabel_further_names, relabel_names, relabel_procedure, relabel_procedures, relabel_parameter_section, relabel_parameter_sections, relabel_type_section, relabel_types, relabel_uses, relabel_variable_section, relabel_variables, renamed, scope_before_types, scope_before_variables, body_scope}
 use Rattle.ob0_language_names.proofs.DistinctNames.{new_name}
 use Rattle.ob0_language_names.proofs.SameNames.{map_names-id}
 use Rattle.ob0_scope_table.proofs.Declared.{after_names_in_procedure, names_in, names_in_procedure, names_in_procedures}
@@ -43,11 +43,11 @@ module _ (d : ℕ) (new : Name) where
       one true h = sym (h refl)
       one false h = refl
 
-  looked_up-kept : (scope : Scope Name) (x : Name) → InScope scope → ren (ordinal_of naming_by_spelling scope x) x ≡ x
+  looked_up-kept : (scope : Scope Name) (x : Name) → InScope scope → ren (ordinal_in_scope naming_by_spelling scope x) x ≡ x
   looked_up-kept [] x s = refl
   looked_up-kept (b ∷ scope) x s = one (same_name x b.0) refl (looked_up-kept scope x s.1)
     where
-      one : (same : Bool) → same_name x b.0 ≡ same → ren (ordinal_of naming_by_spelling scope x) x ≡ x → ren (elim same [ true ↦ Some b.1 | false ↦ ordinal_of naming_by_spelling scope x ]) x ≡ x
+      one : (same : Bool) → same_name x b.0 ≡ same → ren (ordinal_in_scope naming_by_spelling scope x) x ≡ x → ren (elim same [ true ↦ Some b.1 | false ↦ ordinal_in_scope naming_by_spelling scope x ]) x ≡ x
       one true e later = declared-kept b.1 x (λ h. (bytes_eq-Decides x b.0).0 e ∙ s.0 h)
       one false e later = later
 
@@ -90,11 +90,11 @@ module _ (d : ℕ) (new : Name) where
   variable_section-kept scope k none s h = refl
   variable_section-kept scope k (one (declares_variables vs)) s h = λ i. one (declares_variables (variables-kept scope k vs s h i))
 
-  section-kept : (scope : Scope Name) (k : ℕ) (f : Tree Name section) → InScope scope → AreSo k (parameter_section_names f) → relabel_section naming_by_spelling ren scope k f ≡ f
+  section-kept : (scope : Scope Name) (k : ℕ) (f : Tree Name section) → InScope scope → AreSo k (parameter_section_names f) → relabel_parameter_section naming_by_spelling ren scope k f ≡ f
   section-kept scope k (value_section ns t) s h = λ i. value_section (listed-kept k ns h i) (uses-kept scope t s i)
   section-kept scope k (variable_section ns t) s h = λ i. variable_section (listed-kept k ns h i) (uses-kept scope t s i)
 
-  sections-kept : (scope : Scope Name) (k : ℕ) (fs : Tree Name (items further_section)) → InScope scope → AreSo k (formal_names fs) → relabel_sections naming_by_spelling ren scope k fs ≡ fs
+  sections-kept : (scope : Scope Name) (k : ℕ) (fs : Tree Name (items further_section)) → InScope scope → AreSo k (formal_names fs) → relabel_parameter_sections naming_by_spelling ren scope k fs ≡ fs
   sections-kept scope k end s h = refl
   sections-kept scope k (more (then_section f) fs) s h =
       let parts = so-append k (parameter_section_names f) (formal_names fs) h in

@@ -1,17 +1,16 @@
 -- Proves that the places of names are identifiers in ascending order.
-use Rattle.std.proofs.Common.{◌≡◌, ℕ, suc, ◌+◌, ◌==◌, ◌||◌, Result, Ok, Err, Vec, List, [], ◌∷◌, length, refl, ap, arith}
+use Rattle.std.proofs.Common.{◌≡◌, ℕ, suc, ◌+◌, ◌==◌, ◌||◌, Result, Ok, Err, Vec, List, [], ◌∷◌, length, refl, ap, add-one, subst}
 use Rattle.std.specs.Prelude.{IfOk}
 use Rattle.std.specs.declared.alloc.Global.{Global}
 use Rattle.ob0_scan.specs.declared.lexeme.Token.{Token}
 use Rattle.ob0_tree.specs.Order.{AreIdentifierTokens, AreAscendingWithin}
 use Rattle.ob0_edits_tokens.specs.Changed as changed
 use Rattle.ob0_edits_tokens.specs.Replaced.{AreIdentifierIndexes}
-use Rattle.ob0_edits_tokens.proofs.MadeWithout.{lower}
 use Rattle.ob0_scope.specs.NamesAtPlaces as names_at
 
 pub are_names : (tokens : List Token) (low : ℕ) (places : List ℕ) (high : ℕ) → AreAscendingWithin low places high → AreIdentifierTokens tokens places → AreIdentifierIndexes tokens low places
 are_names tokens low [] high up are = tt
-are_names tokens low (p ∷ ps) high up are = (up.0, are.0.0, are.0.1 _, lower tokens (p + 1) (suc p) ps (omega arith) (are_names tokens (p + 1) ps high up.1 are.1))
+are_names tokens low (p ∷ ps) high up are = (up.0, are.0.0, are.0.1 _, subst (λ n. AreIdentifierIndexes tokens n ps) (add-one p) (are_names tokens (p + 1) ps high up.1 are.1))
 
 pub among_same : (k : ℕ) (places : List ℕ) → changed.is_in_list k places ≡ names_at.is_among k places
 among_same k [] = refl

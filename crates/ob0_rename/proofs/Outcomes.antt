@@ -15,7 +15,7 @@ use Rattle.ob0_tree.specs.ParsedModule.{ParsedModule, named_tree_of, tree_of}
 use Rattle.ob0_tree.specs.Tree.{Tree, module_text, occurrences}
 use Rattle.ob0_language_names.specs.ConsistentNames.{has_consistent_names}
 use Rattle.ob0_language_names.specs.Names.{Name}
-use Rattle.ob0_language_names.specs.Occurrences.{IsFreeName, at_declaration, at_occurrence, bindings, first_name_conflict, first_difference, is_duplicate_name}
+use Rattle.ob0_language_names.specs.Occurrences.{IsFreeName, at_declaration, at_occurrence, bindings, first_name_conflict, first_binding_difference, is_duplicate_name}
 use Rattle.ob0_scope.specs.Renames.{namesake, other_declaration_in_conflict, conflict_of}
 use Rattle.ob0_scope_table.specs.Resolution.{IsResolution, Resolution}
 use Rattle.ob0_language_names.specs.Scopes.{renamed}
@@ -38,7 +38,7 @@ use Rattle.ob0_scope.specs.declared.naming.BoundName as named
 use Rattle.ob0_types_fields.specs.declared.field_name.FieldName.{FieldName}
 use Rattle.ob0_types_fields.specs.Identifiers.{field_at}
 use Rattle.ob0_scope.proofs.Written.{renamed_there}
-use Rattle.ob0_tree.specs.Module.{ModuleOf}
+use Rattle.ob0_tree.specs.Module.{IsModuleWithTree}
 use Rattle.ob0_rename.specs.Answers.{RenameAnswers, AnswersRenamingOfDeclaration, IsRenameRefusal, IsFirstRefusalForDeclaration, FailsOnlyForMemory, AcceptsPresentName, WritesNewName}
 use Rattle.ob0_rename.specs.Renaming.{TargetsField, TargetsDeclaration, Renaming, RenameTarget, target_of_ordinal, declaration, field_of, renaming_target, rename_target_at, target_of_name_or_field, module_of, nothing, declaring_token, is_declared_as, predeclared, token_range, tokens_to_rename}
 use Rattle.ob0_rename.proofs.Owned.{other_is_declared}
@@ -78,14 +78,14 @@ module _ (unit : counting.Unit) (text : List ℕ) (place : Position) (new : Name
   captured r is id (reports.Occurrence k) why first named duplicate occurrence =
       let m = r.module_read in
       let bound = bindings (renamed (named_tree_of m) d new) in
-      let found = difference_of (is_duplicate_name (named_tree_of m) d new) (first_difference bound (bindings (named_tree_of m))) k (sym first) in
+      let found = difference_of (is_duplicate_name (named_tree_of m) d new) (first_binding_difference bound (bindings (named_tree_of m))) k (sym first) in
       let is_there = occurrence_is_there r bound k is found in
       subst (IsFirstRefusalForDeclaration (requested r) d) (sym (occurrence k is_there.0 refl is_there.1)) (id, (k, sym first, ap (option_map (token_range (requested r))) is_there.1))
 
   -- Edits at some places leave a text of a tree that has the new name there. The tree must be
   -- well-typed and run like the module.
   pub written : (r : Resolution) (tree : Tree Name module_text) (places : List ℕ) → IsIdentifier new → ((name : List ℕ) → IsIdentifier name → MayReplaceIdentifier name (name_word name ∷ []))
-      → ((after : TextWithTokens) → IsScan after → words_of after ≡ changed_words (changes_at places (name_word new ∷ [])) 0 (words_of r.module_read.source) → ModuleOf after tree)
+      → ((after : TextWithTokens) → IsScan after → words_of after ≡ changed_words (changes_at places (name_word new ∷ [])) 0 (words_of r.module_read.source) → IsModuleWithTree after tree)
       → WellTyped tree × HaveSameRuns tree (named_tree_of r.module_read)
       → (edits : Vec Edit Global) → Edited unit text new r.module_read.source places (Ok edits) → WritesNewName (requested r) places tree edits.items
   written r tree places id resolved_identifier_at leaves kept edits made =

@@ -7,7 +7,7 @@ use Rattle.ob0_scan.specs.declared.lexeme.Token.{Token}
 use Rattle.ob0_scan.specs.TextWithTokens.{IsScan, TextWithTokens, word_of_token}
 use Rattle.ob0_tree.proofs.Mapped.{nesting_mapped}
 use Rattle.ob0_tree.specs.Lexeme.{EndOfText}
-use Rattle.ob0_tree.specs.Module.{ModuleOf, terminal_of_token}
+use Rattle.ob0_tree.specs.Module.{IsModuleWithTree, terminal_of_token}
 use Rattle.ob0_tree.specs.ParsedModule.{IsParsed, ParsedModule, named_tree_of, tree_of}
 use Rattle.ob0_tree.specs.Places as place
 use Rattle.ob0_tree.specs.Tree.{Tree, mapped_tree, module_text, nesting, spell}
@@ -76,7 +76,7 @@ renamed_module m d new once there = renamed_there m d new (is_declared_as m d ne
 -- there.
 pub of_rewritten : (m : ParsedModule) (t : Tree Name module_text) (places : List ℕ) (new : Name) → IsParsed m → RenamingKeepsSpelling → AreIdentifierIndexes m.source.tokens 0 places
     → mapped_tree (renamed_word_text (words_of m.source) places new) (number_at (words_of m.source)) (tree_of m) ≡ t
-    → (after : TextWithTokens) → IsScan after → words_of after ≡ changed_words (changes_at places (name_word new ∷ [])) 0 (words_of m.source) → ModuleOf after t
+    → (after : TextWithTokens) → IsScan after → words_of after ≡ changed_words (changes_at places (name_word new ∷ [])) 0 (words_of m.source) → IsModuleWithTree after t
 of_rewritten m t places new is spells names there after scan words =
     record {
       spelled =
@@ -93,6 +93,6 @@ of_rewritten m t places new is spells names there after scan words =
 pub of_renamed : (m : ParsedModule) (d : ℕ) (new : Name) → IsParsed m → has_consistent_names (named_tree_of m) ≡ true → RenamingKeepsSpelling → RenamingChangesExactlyTokens m d (tokens_bound_to m d true)
     → AreIdentifierIndexes m.source.tokens 0 (tokens_to_rename m d new)
     → (after : TextWithTokens) → IsScan after → words_of after ≡ changed_words (changes_at (tokens_to_rename m d new) (name_word new ∷ [])) 0 (words_of m.source)
-    → ModuleOf after (renamed (named_tree_of m) d new)
+    → IsModuleWithTree after (renamed (named_tree_of m) d new)
 of_renamed m d new is once spells there names =
     of_rewritten m (renamed (named_tree_of m) d new) (tokens_to_rename m d new) new is spells names (renamed_module m d new once there)

@@ -10,7 +10,7 @@ use Rattle.ob0_text.specs.Units.{width_of}
 use Rattle.ob0_text.specs.declared.edits.Edit.{Edit}
 use Rattle.ob0_text.specs.declared.refusals.EditRefusal.{EditRefusal}
 use Rattle.ob0_text.specs.declared.refusals.EditRefusal.TheVariants as refusal
-use Rattle.ob0_tree.specs.Module.{ModuleOf}
+use Rattle.ob0_tree.specs.Module.{IsModuleWithTree}
 use Rattle.ob0_tree.specs.Tree.{Tree, module_text}
 use Rattle.ob0_language_names.specs.Names.{Name}
 use Rattle.ob0_language_names.specs.Occurrences.{IsFreeName, at_declaration, at_occurrence, first_name_conflict}
@@ -32,7 +32,7 @@ pub record WritesNewName (r : Renaming) (tokens : List ℕ) (tree : Tree Name mo
   pub after : TextWithTokens
   pub scan : IsScan after
   pub made : patched_text (width_of r.unit) r.text edits ≡ Some (chars after.text)
-  pub of_module : ModuleOf after tree
+  pub of_module : IsModuleWithTree after tree
   pub well_typed : WellTyped tree
   pub same_runs : HaveSameRuns tree (named_tree_of_renaming r)
 

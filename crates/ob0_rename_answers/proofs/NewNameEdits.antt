@@ -96,7 +96,7 @@ module _ (unit : Unit) (text new : List ℕ) (s : TextWithTokens) (scan : IsScan
         edited = record {
           edits = e;
           short = short;
-          leaves = λ ws h. subst (λ (t : List ℕ). EditsGiveWords unit t edits (changed_words (changes_at places ws) 0 (words_of s))) (sym held) (leaves_words unit s scan new ws h u places names edits same short);
+          leaves = λ ws h. subst (λ (t : List ℕ). EditsGiveWords unit t edits (changed_words (changes_at places ws) 0 (words_of s))) (sym held) (leaves_words s scan new u unit ws h places names edits same short);
           too_long = λ h. absurd (not_too_long given h);
           refusals = tt;
         };

@@ -31,7 +31,7 @@ use Rattle.serde_json.specs.Written.{comma_if, compact_text, items_text, members
 use Rattle.serde_json.proofs.Numbers.{number_of-decimal, number_of-negative}
 use Rattle.serde_json.proofs.Texts.{print-outline}
 use Rattle.ob0_text.specs.declared.position_types.Position.{Position}
-use Rattle.ob0_rpc.specs.Appending.{Appends, AppendsEach, AppendsItem, AppendsMember, AppendsMembers, AllReadBack, ReadsBack, comma_separated_texts}
+use Rattle.ob0_rpc.specs.Appending.{AppendsValue, AppendsEachValue, AppendsListItem, AppendsMember, AppendsMembers, AllReadBack, ReadsBack, comma_separated_texts}
 use Rattle.ob0_rpc.specs.Shapes.{position_value, range_value}
 use Rattle.ob0_rpc.specs.Writing.{Writes}
 
@@ -68,7 +68,7 @@ reads_as d r shallow =
     ap whole (ap (json.value max_depth) (tokens_of_text d r ∙ sym (append-nil _)) ∙ value-json_tokens (outline d) max_depth [] (omega (arith, outline_depth d))) ∙ r.reads
 
 -- If nothing was written before, the bytes are the text of the value and read back as the value.
-pub written : (d : Data) (start bytes : List ℕ) → start ≡ [] → Appends d start bytes → depth d ≤ 127 → Writes d bytes
+pub written : (d : Data) (start bytes : List ℕ) → start ≡ [] → AppendsValue d start bytes → depth d ≤ 127 → Writes d bytes
 written d start bytes none a shallow =
     let is : bytes ≡ compact_text d = a.text ∙ ap (λ b. b ++ compact_text d) none in
     record { text = is; reads = (subst IsUtf8 (sym is) a.reads.utf8, ap read is ∙ reads_as d a.reads shallow) }
@@ -105,19 +105,19 @@ pub plain_next : (xs : List ℕ) (i x : ℕ) → i < length xs → escape (take 
     → escape (take (i + 1) xs) ≡ take (i + 1) xs
 plain_next xs i x low plain l q b = rw (add-one, take-suc xs i x low, escape_joined (take i xs) (get_or xs i x ∷ []), plain, escape_byte_plain (get_or xs i x) q b l) refl
 
-pub text_written : (s t0 t1 t2 t3 : List ℕ) → IsUtf8 s → t1 ≡ t0 ++ 34 ∷ [] → t2 ≡ t1 ++ escape s → t3 ≡ t2 ++ 34 ∷ [] → Appends (string s) t0 t3
+pub text_written : (s t0 t1 t2 t3 : List ℕ) → IsUtf8 s → t1 ≡ t0 ++ 34 ∷ [] → t2 ≡ t1 ++ escape s → t3 ≡ t2 ++ 34 ∷ [] → AppendsValue (string s) t0 t3
 text_written s t0 t1 t2 t3 utf8 h1 h2 h3 = record {
   text = rw (h3, h2, h1) (simp append_assoc refl);
   reads = record { reads = refl; numbers = tt; utf8 = IsUtf8-quoted s utf8 };
 }
 
-pub count_written : (n : ℕ) (old new : List ℕ) → n < 2 ^ 64 → IsUtf8 (decimal n) → new ≡ old ++ decimal n → Appends (number (unsigned n)) old new
+pub count_written : (n : ℕ) (old new : List ℕ) → n < 2 ^ 64 → IsUtf8 (decimal n) → new ≡ old ++ decimal n → AppendsValue (number (unsigned n)) old new
 count_written n old new fits utf8 is = record {
   text = is;
   reads = record { reads = ap (option_map number) (number_of-decimal n fits); numbers = IsNumber-decimal n fits; utf8 = utf8 };
 }
 
-pub integer_written : (z : ℤ) (old new : List ℕ) → SFits w64 z → IsUtf8 (signed_decimal z) → new ≡ old ++ signed_decimal z → Appends (number (of_integer z)) old new
+pub integer_written : (z : ℤ) (old new : List ℕ) → SFits w64 z → IsUtf8 (signed_decimal z) → new ≡ old ++ signed_decimal z → AppendsValue (number (of_integer z)) old new
 integer_written (pos n) old new fits utf8 is = record {
   text = is;
   reads = record { reads = ap (option_map number) (number_of-decimal n (grind arith)); numbers = IsNumber-decimal n (grind arith); utf8 = utf8 };
@@ -194,7 +194,7 @@ members_written (member k d ms) old new names (mid, first, others) =
 -- If the members of an object were written one by one, and their names need no escape and are in
 -- order, the object was written.
 pub object_of : (k : List ℕ) (d : Data) (ms : Members) (old new : List ℕ) → are_names (member k d ms) ≡ true → rebuilt (member k d ms) no_members ≡ member k d ms
-    → AppendsMembers 123 (member k d ms) old new → Appends (object (member k d ms)) old new
+    → AppendsMembers 123 (member k d ms) old new → AppendsValue (object (member k d ms)) old new
 object_of k d ms old new names order (mid, first, others) =
     let both = and_parts (are_plain k && are_ascii k) _ names in
     let n = name k (and_parts (are_plain k) _ both.0).0 (and_parts (are_plain k) _ both.0).1 in
@@ -211,8 +211,8 @@ object_of k d ms old new names order (mid, first, others) =
 
 -- If the name and the value of an object's single member were written, the object was written. The
 -- name may be any text.
-pub object_named : (k : List ℕ) (d : Data) (t0 t1 t2 t3 t4 t5 : List ℕ) → t1 ≡ t0 ++ 123 ∷ [] → Appends (string k) t1 t2 → t3 ≡ t2 ++ 58 ∷ [] → Appends d t3 t4 → t5 ≡ t4 ++ 125 ∷ []
-    → Appends (object (member k d no_members)) t0 t5
+pub object_named : (k : List ℕ) (d : Data) (t0 t1 t2 t3 t4 t5 : List ℕ) → t1 ≡ t0 ++ 123 ∷ [] → AppendsValue (string k) t1 t2 → t3 ≡ t2 ++ 58 ∷ [] → AppendsValue d t3 t4 → t5 ≡ t4 ++ 125 ∷ []
+    → AppendsValue (object (member k d no_members)) t0 t5
 object_named k d t0 t1 t2 t3 t4 t5 h1 h2 h3 h4 h5 = record {
   text = rw (h5, h4.text, h3, h2.text, h1) (simp append_assoc refl);
   reads = record {
@@ -272,14 +272,14 @@ pub range_read : (start end : Position) → ReadsBack (position_value start) →
 range_read start end r q = read_two (codes "end") (codes "start") (position_value end) (position_value start) (name (codes "end") refl refl) (name (codes "start") refl refl) refl q r
 
 -- If a value's text was built at the end of a buffer and then appended, the value was appended.
-pub put_down : (d : Data) (old new t0 t1 : List ℕ) → t0 ≡ [] → t1 ≡ compact_text d ++ t0 → new ≡ old ++ t1 → ReadsBack d → Appends d old new
+pub put_down : (d : Data) (old new t0 t1 : List ℕ) → t0 ≡ [] → t1 ≡ compact_text d ++ t0 → new ≡ old ++ t1 → ReadsBack d → AppendsValue d old new
 put_down d old new t0 t1 none put is r = record { text = is ∙ ap (λ t. old ++ t) (put ∙ ap (λ t. compact_text d ++ t) none ∙ append-nil _); reads = r }
 
 -- If an edit's new text was written first and its range together with the text around it after
 -- that, the edit was written.
 pub edit_put_down : (said : List ℕ) (start end : Position) (t0 t1 t2 t3 : List ℕ) → IsUtf8 said → t1 ≡ t0 ++ (123 ∷ named (codes "newText") (34 ∷ [])) → t2 ≡ t1 ++ escape said
     → t3 ≡ t2 ++ (codes "\",\"range\":" ++ (compact_text (range_value start end) ++ 125 ∷ [])) → ReadsBack (range_value start end)
-    → Appends (object (member (codes "newText") (string said) (member (codes "range") (range_value start end) no_members))) t0 t3
+    → AppendsValue (object (member (codes "newText") (string said) (member (codes "range") (range_value start end) no_members))) t0 t3
 edit_put_down said start end t0 t1 t2 t3 utf8 h1 h2 h3 r =
     let is : t3 ≡ t0 ++ (123 ∷ named (codes "newText") (compact_text (string said) ++ 44 ∷ named (codes "range") (compact_text (range_value start end) ++ 125 ∷ []))) =
     rw (h3, h2, h1) (simp append_assoc refl) in
@@ -290,10 +290,10 @@ edit_put_down said start end t0 t1 t2 t3 utf8 h1 h2 h3 r =
 
 -- ---- lists
 
-pub each_none : (needs_comma : Bool) (t : List ℕ) → AppendsEach needs_comma [] t t
+pub each_none : (needs_comma : Bool) (t : List ℕ) → AppendsEachValue needs_comma [] t t
 each_none needs_comma t = record { text = sym (append-nil t); reads = tt }
 
-pub each_one : (d : Data) (old new : List ℕ) → Appends d old new → AppendsEach false (d ∷ []) old new
+pub each_one : (d : Data) (old new : List ℕ) → AppendsValue d old new → AppendsEachValue false (d ∷ []) old new
 each_one d old new a = record { text = a.text ∙ ap (λ t. old ++ t) (sym (append-nil (compact_text d))); reads = (a.reads, tt) }
 
 -- Returns true if there is at least one value.
@@ -317,7 +317,7 @@ listed_joined : (xs ys : List Data) → comma_separated_texts false (xs ++ ys) �
 listed_joined [] ys = refl
 listed_joined (x ∷ xs) ys = rw (listed_true xs ys, comma_before ys) (simp append_assoc refl)
 
-pub each_joined : (xs ys : List Data) (a b c d : List ℕ) → AppendsEach false xs a b → c ≡ b ++ comma_if (some xs && some ys) → AppendsEach false ys c d → AppendsEach false (xs ++ ys) a d
+pub each_joined : (xs ys : List Data) (a b c d : List ℕ) → AppendsEachValue false xs a b → c ≡ b ++ comma_if (some xs && some ys) → AppendsEachValue false ys c d → AppendsEachValue false (xs ++ ys) a d
 each_joined xs ys a b c d h comma k = record {
   text = rw (k.text, comma, h.text, listed_joined xs ys) (simp append_assoc refl);
   reads = read_joined xs ys h.reads k.reads;
@@ -332,8 +332,8 @@ some_taken shown (x ∷ xs) zero h = refl
 some_taken shown (x ∷ xs) (suc i) h = sym (lt-ltb 0 (suc i) (omega arith))
 
 -- After the next item of a list was appended, the items so far are appended.
-pub each_next : {A : Type 0} (shown : A → Data) (xs : List A) (i : ℕ) (x : A) (needs_comma : Bool) (a b c : List ℕ) → i < length xs → AppendsEach false (map shown (take i xs)) a b
-    → needs_comma ≡ nat_lt 0 i → AppendsItem needs_comma (shown (get_or xs i x)) b c → AppendsEach false (map shown (take (i + 1) xs)) a c
+pub each_next : {A : Type 0} (shown : A → Data) (xs : List A) (i : ℕ) (x : A) (needs_comma : Bool) (a b c : List ℕ) → i < length xs → AppendsEachValue false (map shown (take i xs)) a b
+    → needs_comma ≡ nat_lt 0 i → AppendsListItem needs_comma (shown (get_or xs i x)) b c → AppendsEachValue false (map shown (take (i + 1) xs)) a c
 each_next shown xs i x needs_comma a b c h each is next =
     let put = next.text ∙ sym (append_assoc b (comma_if needs_comma) (compact_text (shown (get_or xs i x)))) in
     rw (add-one, take-suc xs i x h, map-append shown (take i xs) (get_or xs i x ∷ []))
@@ -341,8 +341,8 @@ each_next shown xs i x needs_comma a b c h each is next =
     (ap (λ l. b ++ comma_if l) (is ∙ sym (some_taken shown xs i h) ∙ sym (and_true _))) (each_one (shown (get_or xs i x)) (b ++ comma_if needs_comma) c (record { text = put; reads = next.reads })))
 
 -- If the items so far are all items of a list, the whole list is appended.
-pub each_done : {A : Type 0} (shown : A → Data) (xs : List A) (i : ℕ) (a b : List ℕ) → length xs ≤ i → AppendsEach false (map shown (take i xs)) a b → AppendsEach false (map shown xs) a b
-each_done shown xs i a b all each = subst (λ ys. AppendsEach false (map shown ys) a b) (take_all i xs all) each
+pub each_done : {A : Type 0} (shown : A → Data) (xs : List A) (i : ℕ) (a b : List ℕ) → length xs ≤ i → AppendsEachValue false (map shown (take i xs)) a b → AppendsEachValue false (map shown xs) a b
+each_done shown xs i a b all each = subst (λ ys. AppendsEachValue false (map shown ys) a b) (take_all i xs all) each
 
 items_listed : (needs_comma : Bool) (ds : List Data) → items_text needs_comma (items_of ds) ≡ comma_separated_texts needs_comma ds ++ 93 ∷ []
 items_listed needs_comma [] = refl
@@ -373,7 +373,7 @@ read_list ds h = record {
       (IsUtf8-append (91 ∷ []) _ (IsUtf8-are_ascii _ refl) (IsUtf8-append (comma_separated_texts false ds) (93 ∷ []) (listed_utf8 false ds h) (IsUtf8-are_ascii _ refl)));
 }
 
-pub array_of : (ds : List Data) (t0 t1 t2 t3 : List ℕ) → t1 ≡ t0 ++ 91 ∷ [] → AppendsEach false ds t1 t2 → t3 ≡ t2 ++ 93 ∷ [] → Appends (array (items_of ds)) t0 t3
+pub array_of : (ds : List Data) (t0 t1 t2 t3 : List ℕ) → t1 ≡ t0 ++ 91 ∷ [] → AppendsEachValue false ds t1 t2 → t3 ≡ t2 ++ 93 ∷ [] → AppendsValue (array (items_of ds)) t0 t3
 array_of ds t0 t1 t2 t3 h1 h2 h3 = record {
   text = rw (h3, h2.text, h1, items_listed false ds) (simp append_assoc refl);
   reads = read_list ds h2.reads;

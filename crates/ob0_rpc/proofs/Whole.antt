@@ -3,7 +3,7 @@
 use Rattle.std.proofs.Common.{◌≡◌, ◌≤◌, ℤ, pos, negsuc, List, false, ℕ, arith, refl}
 use Rattle.serde_json.specs.Data.{Data, depth}
 use Rattle.serde_json.specs.Written.{has_float}
-use Rattle.ob0_rpc.specs.MessageViews.{id_data}
+use Rattle.ob0_rpc.specs.MessageViews.{json_of_id}
 use Rattle.ob0_rpc.specs.Shapes.{result_message, notification_message, whole_number_value}
 use Rattle.ob0_rpc.specs.declared.incoming.Id.{Id}
 use Rattle.ob0_rpc.specs.declared.incoming.Id.TheVariants.{Signed, Unsigned, Text}
@@ -12,7 +12,7 @@ whole_is_plain : (z : ℤ) → has_float (whole_number_value z) ≡ false
 whole_is_plain (pos n) = refl
 whole_is_plain (negsuc n) = refl
 
-id_is_plain : (id : Id) → has_float (id_data id) ≡ false
+id_is_plain : (id : Id) → has_float (json_of_id id) ≡ false
 id_is_plain (Signed z) = whole_is_plain z
 id_is_plain (Unsigned n) = refl
 id_is_plain (Text t) = refl
@@ -21,13 +21,13 @@ pub whole_is_flat : (z : ℤ) → depth (whole_number_value z) ≡ 0
 whole_is_flat (pos n) = refl
 whole_is_flat (negsuc n) = refl
 
-id_is_flat : (id : Id) → depth (id_data id) ≡ 0
+id_is_flat : (id : Id) → depth (json_of_id id) ≡ 0
 id_is_flat (Signed z) = whole_is_flat z
 id_is_flat (Unsigned n) = refl
 id_is_flat (Text t) = refl
 
 pub plain_result : (id : Id) (value : Data) → has_float value ≡ false
-    → has_float (result_message (id_data id) value) ≡ false
+    → has_float (result_message (json_of_id id) value) ≡ false
 plain_result id value e = rw (id_is_plain id, e)
 
 pub plain_notification : (method : List ℕ) (params : Data) → has_float params ≡ false
@@ -35,7 +35,7 @@ pub plain_notification : (method : List ℕ) (params : Data) → has_float param
 plain_notification method params e = rw e
 
 pub shallow_result : (id : Id) (value : Data) → depth value ≤ 126
-    → depth (result_message (id_data id) value) ≤ 127
+    → depth (result_message (json_of_id id) value) ≤ 127
 shallow_result id value h = rw (id_is_flat id) (omega arith)
 
 pub shallow_notification : (method : List ℕ) (params : Data) → depth params ≤ 126

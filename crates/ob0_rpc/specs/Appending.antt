@@ -28,19 +28,19 @@ comma_separated_texts needs_comma (value ∷ values) = comma_if needs_comma ++ (
 
 -- States that `new` is `old` followed by the value's text, and that this text reads back as the
 -- value.
-pub record Appends (value : Data) (old new : List ℕ) : Type 0 where
+pub record AppendsValue (value : Data) (old new : List ℕ) : Type 0 where
   pub text : new ≡ old ++ compact_text value
   pub reads : ReadsBack value
 
 -- States that `new` is `old` followed by the texts of these values, with commas between them. If
 -- `needs_comma` is true, a comma also precedes the first text. Each text reads back as its value.
-pub record AppendsEach (needs_comma : Bool) (values : List Data) (old new : List ℕ) : Type 0 where
+pub record AppendsEachValue (needs_comma : Bool) (values : List Data) (old new : List ℕ) : Type 0 where
   pub text : new ≡ old ++ comma_separated_texts needs_comma values
   pub reads : AllReadBack values
 
 -- States that `new` is `old` followed by the value's text, with a comma between the two if
 -- `needs_comma` is true. The value's text reads back as the value.
-pub record AppendsItem (needs_comma : Bool) (value : Data) (old new : List ℕ) : Type 0 where
+pub record AppendsListItem (needs_comma : Bool) (value : Data) (old new : List ℕ) : Type 0 where
   pub text : new ≡ old ++ (comma_if needs_comma ++ compact_text value)
   pub reads : ReadsBack value
 
@@ -62,6 +62,6 @@ AppendsMembers before (member name value members) old new =
 
 -- Returns the JSON value of an optional value: `value a` for `Some a`, and the JSON value null for
 -- None.
-abbrev pub or_null : {A : Type 0} → (A → Data) → Option A → Data
-or_null value (Some a) = value a
-or_null value None = null
+abbrev pub json_or_null : {A : Type 0} → (A → Data) → Option A → Data
+json_or_null value (Some a) = value a
+json_or_null value None = null

@@ -5,16 +5,16 @@ use Rattle.ob0_rpc.specs.declared.incoming.RpcFault.{RpcFault}
 use Rattle.ob0_rpc.specs.declared.incoming.RpcFault.TheVariants.{NotJson, NotAMessage, UnknownMethod, BadParams, Memory}
 
 -- Returns the number -n, for n of at least 1.
-abbrev pub minus : ℕ → ℤ
-minus n = negsuc (n - 1)
+abbrev pub negative_of : ℕ → ℤ
+negative_of n = negsuc (n - 1)
 
 -- Returns the error code that reports a fault. `Memory` has a code, but is never reported.
 abbrev pub error_code : RpcFault → ℤ
-error_code NotJson = minus 32700
-error_code NotAMessage = minus 32600
-error_code UnknownMethod = minus 32601
-error_code BadParams = minus 32602
-error_code Memory = minus 32603
+error_code NotJson = negative_of 32700
+error_code NotAMessage = negative_of 32600
+error_code UnknownMethod = negative_of 32601
+error_code BadParams = negative_of 32602
+error_code Memory = negative_of 32603
 
 -- Returns the message of the error that reports a fault.
 abbrev pub error_text : RpcFault → List ℕ

@@ -8,8 +8,8 @@ use Rattle.serde_json.specs.Find.{of_integer}
 use Rattle.serde_json.specs.View.{view}
 use Rattle.ob0_text.specs.OpenDocuments.{text_change_of}
 use Rattle.ob0_rpc.specs.Requesting.{DocumentPlace, ClientRequest, initialize, shutdown, hover, definition, references, prepare_rename, rename, code_action, formatting}
-use Rattle.ob0_rpc.specs.Messages.{ReadsContent, MessageMeaning, not_a_message, response, request, notice, meaning_of}
-use Rattle.ob0_rpc.specs.Notifications.{Notification, exits, opens, changes, closes, unreadable, other, notification_by_method}
+use Rattle.ob0_rpc.specs.Messages.{ReadsContent, MessageMeaning, not_a_message, response, request, notice, meaning_of_message}
+use Rattle.ob0_rpc.specs.Notifications.{NotificationMeaning, exits, opens, changes, closes, unreadable, other, notification_by_method}
 use Rattle.ob0_rpc.specs.declared.requests.ClientRequest as called
 use Rattle.ob0_rpc.specs.declared.requests.DocumentPosition.{DocumentPosition}
 use Rattle.ob0_rpc.specs.declared.incoming.Id.{Id}
@@ -21,41 +21,41 @@ use Rattle.ob0_rpc.specs.declared.incoming.RpcFault.TheVariants.{NotJson, NotAMe
 use Rattle.ob0_rpc.specs.declared.notifications.ClientNotification as noted
 
 -- Returns the JSON value of an id.
-abbrev pub id_data : Id → Data
-id_data (Signed z) = number (of_integer z)
-id_data (Unsigned n) = number (unsigned n)
-id_data (Text t) = string (string_bytes t)
+abbrev pub json_of_id : Id → Data
+json_of_id (Signed z) = number (of_integer z)
+json_of_id (Unsigned n) = number (unsigned n)
+json_of_id (Text t) = string (string_bytes t)
 
 -- Returns the JSON value of the id in an error response. None becomes null.
 abbrev pub id_or_null : Option Id → Data
-id_or_null (Some id) = id_data id
+id_or_null (Some id) = json_of_id id
 id_or_null None = null
 
 -- Returns the meaning of a message that the code has read. Ids and params become JSON values, and
 -- methods become bytes of UTF-8. An ignored message is a response.
 abbrev pub message_view : Incoming → MessageMeaning
-message_view (Request id method params) = request (id_data id) (string_bytes method) (view params)
+message_view (Request id method params) = request (json_of_id id) (string_bytes method) (view params)
 message_view (Notice method params) = notice (string_bytes method) (view params)
 message_view Ignored = response
 
 -- States that reading this JSON value may give this result. The result is the message that the
 -- value means, or the error `NotAMessage` if the value isn't a message. The error `Memory` (out of
 -- memory) is always allowed, and no other error is.
-abbrev pub HasMeaning : Data → Result Incoming RpcFault → Type 0
-HasMeaning d (Ok incoming) = meaning_of d ≡ message_view incoming
-HasMeaning d (Err NotAMessage) = meaning_of d ≡ not_a_message
-HasMeaning d (Err Memory) = Unit {0}
-HasMeaning d (Err NotJson) = ⊥
-HasMeaning d (Err UnknownMethod) = ⊥
-HasMeaning d (Err BadParams) = ⊥
+abbrev pub InterpretsMessage : Data → Result Incoming RpcFault → Type 0
+InterpretsMessage d (Ok incoming) = meaning_of_message d ≡ message_view incoming
+InterpretsMessage d (Err NotAMessage) = meaning_of_message d ≡ not_a_message
+InterpretsMessage d (Err Memory) = Unit {0}
+InterpretsMessage d (Err NotJson) = ⊥
+InterpretsMessage d (Err UnknownMethod) = ⊥
+InterpretsMessage d (Err BadParams) = ⊥
 
 -- States that reading this content (the bytes received as one message) may give this result. The
--- result is `NotJson` if the content isn't JSON. Otherwise `HasMeaning` must hold for the content's
+-- result is `NotJson` if the content isn't JSON. Otherwise `InterpretsMessage` must hold for the content's
 -- JSON value and the result. `Memory` is always allowed.
 abbrev pub ReadsMessage : List ℕ → Result Incoming RpcFault → Type 0
 ReadsMessage content (Err NotJson) = ReadsContent content None
 ReadsMessage content (Err Memory) = Unit {0}
-ReadsMessage content r = (d : Data) × ReadsContent content (Some d) × HasMeaning d r
+ReadsMessage content r = (d : Data) × ReadsContent content (Some d) × InterpretsMessage d r
 
 -- Translates the code's `DocumentPosition` into a `DocumentPlace`. The uri becomes bytes of UTF-8.
 abbrev pub document_place_view : DocumentPosition → DocumentPlace
@@ -63,8 +63,8 @@ document_place_view place = record { uri = string_bytes place.uri; position = pl
 
 -- Translates the code's list of requested kinds. Each kind becomes bytes of UTF-8. None means that
 -- all kinds are requested.
-abbrev pub kinds_view : Option (Vec (String Global) Global) → Option (List (List ℕ))
-kinds_view kinds = option_map (λ texts. map string_bytes texts.items) kinds
+abbrev pub action_kinds_view : Option (Vec (String Global) Global) → Option (List (List ℕ))
+action_kinds_view kinds = option_map (λ texts. map string_bytes texts.items) kinds
 
 -- Translates the code's `ClientRequest` into the `ClientRequest` of the specs. Texts become bytes
 -- of UTF-8.
@@ -77,7 +77,7 @@ request_view (called.TheVariants.References place include) = references (documen
 request_view (called.TheVariants.PrepareRename place) = prepare_rename (document_place_view place)
 request_view (called.TheVariants.Rename place name) = rename (document_place_view place) (string_bytes name)
 request_view (called.TheVariants.CodeAction uri range only) =
-    code_action (string_bytes uri) range (kinds_view only)
+    code_action (string_bytes uri) range (action_kinds_view only)
 request_view (called.TheVariants.Formatting uri indent) = formatting (string_bytes uri) indent
 
 -- States that the code's result agrees with `requested`, the request or error that the specs
@@ -90,9 +90,9 @@ ReadsClientRequest requested (Err Memory) = Unit {0}
 ReadsClientRequest requested (Err NotJson) = ⊥
 ReadsClientRequest requested (Err NotAMessage) = ⊥
 
--- Translates the code's `ClientNotification` into a `Notification`. Uris become bytes of UTF-8, and
+-- Translates the code's `ClientNotification` into a `NotificationMeaning`. Uris become bytes of UTF-8, and
 -- texts of documents become characters.
-abbrev pub notification_view : noted.ClientNotification → Notification
+abbrev pub notification_view : noted.ClientNotification → NotificationMeaning
 notification_view noted.TheVariants.Exit = exits
 notification_view (noted.TheVariants.Open uri version text) =
     opens (string_bytes uri) version (chars (string_bytes text))

@@ -133,23 +133,23 @@ abbrev pub rename_request_of : Data → Option ClientRequest
 rename_request_of params = rename_request_with (document_place_of params) (text_member (codes "newName") params)
 
 -- Returns the items of a list as texts, or None if an item isn't a text.
-abbrev pub texts_of : Items → Option (List (List ℕ))
-texts_of no_items = Some []
-texts_of (item d ds) =
-    option_and_then (λ text. option_map (λ texts. text ∷ texts) (texts_of ds)) (as_str d)
+abbrev pub texts_of_items : Items → Option (List (List ℕ))
+texts_of_items no_items = Some []
+texts_of_items (item d ds) =
+    option_and_then (λ text. option_map (λ texts. text ∷ texts) (texts_of_items ds)) (as_str d)
 
 -- Returns the texts of a list that may be missing. Some None means that the list is absent or null.
 -- None means that the list or one of its items can't be read.
-abbrev pub optional_texts : Option Data → Option (Option (List (List ℕ)))
-optional_texts found =
+abbrev pub texts_of_optional_list : Option Data → Option (Option (List (List ℕ)))
+texts_of_optional_list found =
     if is_absent_or_null found
     then Some None
-    else option_map Some (option_and_then texts_of (option_and_then as_array found))
+    else option_map Some (option_and_then texts_of_items (option_and_then as_array found))
 
 -- Returns the kinds of code actions that the object `context` requests. Some None means that all
 -- kinds are requested. None means that the kinds can't be read or the context isn't an object.
-abbrev pub requested_kinds : Data → Option (Option (List (List ℕ)))
-requested_kinds context = if is_some (as_object context) then optional_texts (get (codes "only") context) else None
+abbrev pub requested_action_kinds : Data → Option (Option (List (List ℕ)))
+requested_action_kinds context = if is_some (as_object context) then texts_of_optional_list (get (codes "only") context) else None
 
 -- Returns the request for code actions in this document and this range, of these kinds. Returns
 -- None if one of the three is None.
@@ -167,7 +167,7 @@ code_action_request_with None range only = None
 abbrev pub code_action_request_of : Data → Option ClientRequest
 code_action_request_of params =
     code_action_request_with (document_uri params) (range_member (codes "range") params)
-    (option_and_then requested_kinds (get (codes "context") params))
+    (option_and_then requested_action_kinds (get (codes "context") params))
 
 -- Returns the indentation for these values of `tabSize` and `insertSpaces`, or None if either is
 -- None. If `insertSpaces` is true, one level of indentation is `indent_spaces_for_tab_size size` spaces,
@@ -178,8 +178,8 @@ indent_with (Some size) None = None
 indent_with None spaces = None
 
 -- Returns the indentation that formatting options request, or None if the options can't be read.
-abbrev pub indent_of : Data → Option Indent
-indent_of options =
+abbrev pub requested_indent : Data → Option Indent
+requested_indent options =
     indent_with (unsigned_member (codes "tabSize") options) (bool_member (codes "insertSpaces") options)
 
 -- Returns the request to format the document with this uri, with this indentation. Returns None if
@@ -193,7 +193,7 @@ formatting_request_with None indent = None
 -- read.
 abbrev pub formatting_request_of : Data → Option ClientRequest
 formatting_request_of params =
-    formatting_request_with (document_uri params) (option_and_then indent_of (get (codes "options") params))
+    formatting_request_with (document_uri params) (option_and_then requested_indent (get (codes "options") params))
 
 -- ---- requests by their methods
 

@@ -9,9 +9,9 @@ ghost use Rattle.std.specs.Prelude.{◌≡◌, IfOk, codes, option_and_then, opt
 ghost use Rattle.ob0_text.specs.OpenDocuments.{text_change_of};
 ghost use Rattle.serde_json.specs.Find.{get, as_array};
 ghost use Rattle.serde_json.specs.View.{view, items_view};
-ghost use Rattle.ob0_rpc.specs.Notifications.{changes_of as changes_in, content_change, range_of_change};
+ghost use Rattle.ob0_rpc.specs.Notifications.{content_changes_of_params as changes_in, content_change, range_of_change};
 
-use crate::members::{into_member, into_text_member, is_absent_or_null, range_of};
+use crate::members::{into_member, into_text_member, is_absent_or_null, read_json_range};
 use ob0_text::{Change, Range};
 use serde_json::Value;
 use std::alloc::{AllocError, Global};
@@ -41,11 +41,11 @@ fn into_content_changes(params: Value) -> Option<Vec<Value>>
     ensures { option_map (λ v. items_view v.items) result
         ≡ option_and_then as_array (get (codes "contentChanges") (view params)) }
 {
-    into_list(into_member(params, "contentChanges")?)
+    into_list_items(into_member(params, "contentChanges")?)
 }
 
 /// Moves the items out of a JSON list. Returns None if the value isn't a list.
-fn into_list(value: Value) -> Option<Vec<Value>>
+fn into_list_items(value: Value) -> Option<Vec<Value>>
     ensures { option_map (λ v. items_view v.items) result ≡ as_array (view value) }
 {
     match value {
@@ -63,7 +63,7 @@ fn into_list(value: Value) -> Option<Vec<Value>>
 fn read_content_change(entry: Value) -> Option<Change>
     ensures { option_map text_change_of result ≡ content_change (view entry) }
 {
-    let range = read_range(entry.get("range"))?;
+    let range = read_change_range(entry.get("range"))?;
     let text = into_text_member(entry, "text")?;
     Some(Change { range, text })
 }
@@ -71,12 +71,12 @@ fn read_content_change(entry: Value) -> Option<Change>
 /// Reads the member `range` of a change, which is optional. Returns `Some(None)` if the member is
 /// absent or null: the change then replaces the whole text. Returns `None` if the range can't be
 /// read.
-fn read_range(member: Option<&Value>) -> Option<Option<Range>>
+fn read_change_range(member: Option<&Value>) -> Option<Option<Range>>
     ensures { result ≡ range_of_change (option_map (λ v. view v.now) member.entry) }
 {
     if is_absent_or_null(member) {
         return Some(None);
     }
-    let range = range_of(member?)?;
+    let range = read_json_range(member?)?;
     Some(Some(range))
 }

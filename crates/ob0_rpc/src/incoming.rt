@@ -4,7 +4,7 @@ ghost use Rattle.std.specs.Prelude.{◌≡◌, true, false, IfOk, MatchOption};
 ghost use Rattle.serde_json.specs.View.{view, number_view};
 ghost use Rattle.serde_json.specs.Data.{number};
 ghost use Rattle.ob0_rpc.specs.Messages.{is_id, params_of};
-ghost use Rattle.ob0_rpc.specs.MessageViews.{HasMeaning, ReadsMessage, id_data};
+ghost use Rattle.ob0_rpc.specs.MessageViews.{InterpretsMessage, ReadsMessage, json_of_id};
 
 use crate::members::into_member;
 use serde_json::{Number, Value};
@@ -114,7 +114,7 @@ pub fn read(alloc: Global, content: &[u8]) -> Result<Incoming, RpcFault>
 
 // Reads a JSON value as a message. If the value isn't a message, returns the fault `NotAMessage`.
 fn interpret_message(alloc: Global, message: Value) -> Result<Incoming, RpcFault>
-    ensures { HasMeaning (view message) result }
+    ensures { InterpretsMessage (view message) result }
 {
     let Some(method) = message.get("method") else {
         return if message.get("result").is_some() || message.get("error").is_some() {
@@ -152,7 +152,7 @@ fn into_params(message: Value) -> Value
 fn read_id(alloc: Global, value: &Value) -> Result<Option<Id>, AllocError>
     ensures { IfOk result (λ found. MatchOption found
         (is_id (view value.now) ≡ false)
-        (λ id. (is_id (view value.now) ≡ true) × (id_data id ≡ view value.now))) }
+        (λ id. (is_id (view value.now) ≡ true) × (json_of_id id ≡ view value.now))) }
 {
     if let Some(text) = value.as_str() {
         return Ok(Some(Id::Text(String::from_str(alloc, text)?)));
@@ -168,7 +168,7 @@ fn id_of_number(n: &Number) -> Option<Id>
     ensures { MatchOption result
         (is_id (number (number_view n.now)) ≡ false)
         (λ id. (is_id (number (number_view n.now)) ≡ true)
-        × (id_data id ≡ number (number_view n.now))) }
+        × (json_of_id id ≡ number (number_view n.now))) }
 {
     match n.as_u64() {
         Some(unsigned) => Some(Id::Unsigned(unsigned)),

@@ -2,15 +2,16 @@
 //!
 //! Each message that the server sends, and each part of it, has a type that defines its JSON value
 //! and writes it (`WriteJson`). No `serde_json::Value` is made first. The contract of a function
-//! that writes a JSON value is `Appends`: the function appends the value's compact text, and that
-//! text reads back as the value. A text in which no byte needs an escape is written in one piece.
+//! that writes a JSON value is `AppendsValue`: the function appends the value's compact text, and
+//! that text reads back as the value. A text in which no byte needs an escape is written in one
+//! piece.
 ghost use Rattle.std.specs.Prelude.{◌≡◌, ◌<◌, ◌≤◌, ◌^◌, ◌++◌, [], ◌∷◌, true, false, OnOk, map};
 ghost use Rattle.std.specs.Char.{digit_char};
 ghost use Rattle.json.specs.Print.{escape, escape_byte, escape_letter};
 ghost use Rattle.serde_json.specs.Data.{Data, array, boolean, null, number, string, unsigned};
 ghost use Rattle.serde_json.specs.Find.{of_integer};
 ghost use Rattle.serde_json.specs.View.{items_of};
-ghost use Rattle.ob0_rpc.specs.Appending.{Appends, AppendsEach, AppendsItem, or_null};
+ghost use Rattle.ob0_rpc.specs.Appending.{AppendsValue, AppendsEachValue, AppendsListItem, json_or_null};
 
 use std::alloc::AllocError;
 
@@ -22,16 +23,16 @@ pub trait WriteJson {
     /// Returns the JSON value that is written for a value of this type.
     ghost value: { Self → Data };
 
-    /// Appends the text of the JSON value to `out`. Fails only if an allocation fails.
+    /// Writes the text of the JSON value at the end of `out`. Fails only if an allocation fails.
     fn write(&self, out: &mut Vec<u8>) -> Result<(), AllocError>
-        ensures { OnOk result (Appends (value self.now) out.old.items out.new.items) };
+        ensures { OnOk result (AppendsValue (value self.now) out.old.items out.new.items) };
 }
 
 impl WriteJson for () {
     ghost value = { λ _. null };
 
     fn write(&self, out: &mut Vec<u8>) -> Result<(), AllocError> {
-        write_piece(out, b"null")
+        write_verbatim(out, b"null")
     }
 }
 
@@ -40,9 +41,9 @@ impl WriteJson for bool {
 
     fn write(&self, out: &mut Vec<u8>) -> Result<(), AllocError> {
         if *self {
-            write_piece(out, b"true")
+            write_verbatim(out, b"true")
         } else {
-            write_piece(out, b"false")
+            write_verbatim(out, b"false")
         }
     }
 }
@@ -80,7 +81,7 @@ impl<'a> WriteJson for &'a str {
 }
 
 impl<W: WriteJson> WriteJson for Option<W> {
-    ghost value = { λ o. or_null W.value o };
+    ghost value = { λ o. json_or_null W.value o };
 
     fn write(&self, out: &mut Vec<u8>) -> Result<(), AllocError> {
         match self {
@@ -103,11 +104,11 @@ impl<'a, W: WriteJson> WriteJson for &'a [W] {
 /// Writes the items of a list with commas between them, without brackets.
 fn write_list_items<W: WriteJson>(out: &mut Vec<u8>, values: &[W]) -> Result<(), AllocError>
     ensures { OnOk result
-        (AppendsEach false (map W.value values.now) out.old.items out.new.items) }
+        (AppendsEachValue false (map W.value values.now) out.old.items out.new.items) }
 {
     let mut needs_comma = false;
     for value in values {
-        write_item_and_reserve(out, values.len(), needs_comma, value)?;
+        write_list_item_and_reserve(out, values.len(), needs_comma, value)?;
         needs_comma = true;
     }
     Ok(())
@@ -116,16 +117,16 @@ fn write_list_items<W: WriteJson>(out: &mut Vec<u8>, values: &[W]) -> Result<(),
 /// Writes one item of a list of `count` items. If `needs_comma` is true, a comma is written before
 /// the item. Otherwise the item is the first, and capacity is reserved for the other items, as if
 /// each were about as long as the first.
-fn write_item_and_reserve<W: WriteJson>(
+fn write_list_item_and_reserve<W: WriteJson>(
     out: &mut Vec<u8>,
     count: usize,
     needs_comma: bool,
     value: &W,
 ) -> Result<(), AllocError>
-    ensures { OnOk result (AppendsItem needs_comma (W.value value.now) out.old.items out.new.items) }
+    ensures { OnOk result (AppendsListItem needs_comma (W.value value.now) out.old.items out.new.items) }
 {
     let before = out.len();
-    write_item(out, needs_comma, value)?;
+    write_list_item(out, needs_comma, value)?;
     if !needs_comma {
         out.reserve(capacity_for_other_items(count, out.len().saturating_sub(before)))?;
     }
@@ -147,21 +148,21 @@ fn capacity_for_other_items(count: usize, len: usize) -> usize
 pub fn begin_list(out: &mut Vec<u8>) -> Result<(), AllocError>
     ensures { OnOk result (out.new.items ≡ out.old.items ++ 91 ∷ []) }
 {
-    write_piece(out, b"[")
+    write_verbatim(out, b"[")
 }
 
 /// Writes one item of a list, after a comma if `needs_comma` is true. The caller sets `needs_comma`
 /// for each item except the first.
 #[inline(always)]
-pub fn write_item<W: WriteJson>(
+pub fn write_list_item<W: WriteJson>(
     out: &mut Vec<u8>,
     needs_comma: bool,
     value: &W,
 ) -> Result<(), AllocError>
-    ensures { OnOk result (AppendsItem needs_comma (W.value value.now) out.old.items out.new.items) }
+    ensures { OnOk result (AppendsListItem needs_comma (W.value value.now) out.old.items out.new.items) }
 {
     if needs_comma {
-        write_piece(out, b",")?;
+        write_verbatim(out, b",")?;
     }
     value.write(out)
 }
@@ -170,12 +171,12 @@ pub fn write_item<W: WriteJson>(
 pub fn end_list(out: &mut Vec<u8>) -> Result<(), AllocError>
     ensures { OnOk result (out.new.items ≡ out.old.items ++ 93 ∷ []) }
 {
-    write_piece(out, b"]")
+    write_verbatim(out, b"]")
 }
 
 /// Writes a piece of text unchanged, without escapes: for example a bracket, a brace, a comma,
 /// digits or the name of a member.
-pub(crate) fn write_piece(out: &mut Vec<u8>, piece: &[u8]) -> Result<(), AllocError>
+pub(crate) fn write_verbatim(out: &mut Vec<u8>, piece: &[u8]) -> Result<(), AllocError>
     ensures { OnOk result (out.new.items ≡ out.old.items ++ piece.now) }
 {
     out.extend_from_slice(piece)
@@ -183,11 +184,11 @@ pub(crate) fn write_piece(out: &mut Vec<u8>, piece: &[u8]) -> Result<(), AllocEr
 
 /// Writes a text as a JSON string, in quotes. Characters that need an escape are escaped.
 fn write_json_string(out: &mut Vec<u8>, text: &str) -> Result<(), AllocError>
-    ensures { OnOk result (Appends (string text.now) out.old.items out.new.items) }
+    ensures { OnOk result (AppendsValue (string text.now) out.old.items out.new.items) }
 {
-    write_piece(out, b"\"")?;
+    write_verbatim(out, b"\"")?;
     write_escaped_text(out, text.as_bytes())?;
-    write_piece(out, b"\"")
+    write_verbatim(out, b"\"")
 }
 
 /// Writes a text as it stands in a JSON string, but without the quotes around it. Characters that
@@ -196,7 +197,7 @@ pub(crate) fn write_escaped_text(out: &mut Vec<u8>, text: &[u8]) -> Result<(), A
     ensures { OnOk result (out.new.items ≡ out.old.items ++ escape text.now) }
 {
     if needs_no_escape(text) {
-        return write_piece(out, text);
+        return write_verbatim(out, text);
     }
     write_escaped_bytes(out, text)
 }
@@ -229,10 +230,10 @@ fn write_escaped_byte(out: &mut Vec<u8>, byte: u8) -> Result<(), AllocError>
 {
     let short = short_escape_letter(byte);
     if short != 0 {
-        return write_piece(out, &[b'\\', short]);
+        return write_verbatim(out, &[b'\\', short]);
     }
     if byte < 32 {
-        return write_piece(
+        return write_verbatim(
             out,
             &[
                 b'\\',
@@ -278,16 +279,16 @@ fn hexadecimal_digit(value: u8) -> u8
 
 /// Writes an unsigned whole number as decimal digits.
 fn write_unsigned_integer(out: &mut Vec<u8>, count: u64) -> Result<(), AllocError>
-    ensures { OnOk result (Appends (number (unsigned count)) out.old.items out.new.items) }
+    ensures { OnOk result (AppendsValue (number (unsigned count)) out.old.items out.new.items) }
 {
     let mut digits = itoa::Buffer::new();
-    write_piece(out, digits.format(count).as_bytes())
+    write_verbatim(out, digits.format(count).as_bytes())
 }
 
 /// Writes a signed whole number as decimal digits, after a minus sign if it is negative.
 fn write_integer(out: &mut Vec<u8>, whole: i64) -> Result<(), AllocError>
-    ensures { OnOk result (Appends (number (of_integer whole)) out.old.items out.new.items) }
+    ensures { OnOk result (AppendsValue (number (of_integer whole)) out.old.items out.new.items) }
 {
     let mut digits = itoa::Buffer::new();
-    write_piece(out, digits.format(whole).as_bytes())
+    write_verbatim(out, digits.format(whole).as_bytes())
 }

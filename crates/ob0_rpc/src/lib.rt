@@ -16,17 +16,17 @@ mod values;
 
 pub use clients::ClientFeatures;
 pub use incoming::{Id, Incoming, RpcFault, read};
-pub use json_text::{WriteJson, begin_list, end_list, write_item};
-pub use members::{range_in, text_in};
+pub use json_text::{WriteJson, begin_list, end_list, write_list_item};
+pub use members::{range_of_member, text_of_member};
 pub use notifications::{ClientNotification, notice};
 /// A short name for `ClientNotification`.
 pub use notifications::ClientNotification as Note;
 pub use objects::{OneMemberObject, end_object, write_first_member, write_next_member};
 pub use outgoing::{
-    ErrorResponse, Notification, Response, ResponseError, answer_text, content_of, error,
-    notification_text,
+    ErrorResponse, Notification, Response, ResponseError, content_of, error, notification_text,
+    success_response_text,
 };
-pub use ranges::{write_piece_ending_at, write_range_ending_at};
+pub use ranges::{write_range_ending_at, write_verbatim_ending_at};
 pub use requests::{ClientRequest, DocumentPosition, request};
 /// A short name for `ClientRequest`.
 pub use requests::ClientRequest as Call;

@@ -19,7 +19,7 @@ pub fn is_absent_or_null(member: Option<&Value>) -> bool
 }
 
 /// Returns the text of the member `name`, or None if the member is absent or isn't a text.
-pub fn text_in<'v>(value: &'v Value, name: &str) -> Option<&'v str>
+pub fn text_of_member<'v>(value: &'v Value, name: &str) -> Option<&'v str>
     ensures { option_map (λ s. s.now) result ≡ text_member name.now (view value.now) }
 {
     value.get(name)?.as_str()
@@ -27,7 +27,7 @@ pub fn text_in<'v>(value: &'v Value, name: &str) -> Option<&'v str>
 
 /// Returns the value of the boolean member `name`, or None if the member is absent or isn't a
 /// boolean.
-pub fn bool_in(value: &Value, name: &str) -> Option<bool>
+pub fn bool_of_member(value: &Value, name: &str) -> Option<bool>
     ensures { result ≡ bool_member name.now (view value.now) }
 {
     value.get(name)?.as_bool()
@@ -35,7 +35,7 @@ pub fn bool_in(value: &Value, name: &str) -> Option<bool>
 
 /// Returns the value of the member `name`, a whole number from 0 to 2^64-1. Returns None if the
 /// member is absent or isn't such a number.
-pub fn unsigned_in(value: &Value, name: &str) -> Option<u64>
+pub fn unsigned_of_member(value: &Value, name: &str) -> Option<u64>
     ensures { result ≡ unsigned_member name.now (view value.now) }
 {
     value.get(name)?.as_u64()
@@ -43,7 +43,7 @@ pub fn unsigned_in(value: &Value, name: &str) -> Option<u64>
 
 /// Returns the uri of the document in params (`textDocument.uri`). Returns None if the uri is
 /// missing or isn't a text.
-pub fn uri_of(params: &Value) -> Option<&str>
+pub fn document_uri_in_params(params: &Value) -> Option<&str>
     ensures { option_map (λ s. s.now) result ≡ document_uri (view params.now) }
 {
     params.get("textDocument")?.get("uri")?.as_str()
@@ -51,7 +51,7 @@ pub fn uri_of(params: &Value) -> Option<&str>
 
 /// Returns the version of the document in params (`textDocument.version`). Returns None if the
 /// version is missing or isn't a signed whole number of 64 bits.
-pub fn version_of(params: &Value) -> Option<i64>
+pub fn document_version_in_params(params: &Value) -> Option<i64>
     ensures { result ≡ document_version (view params.now) }
 {
     params.get("textDocument")?.get("version")?.as_i64()
@@ -70,7 +70,7 @@ pub fn into_document_text(params: Value) -> Option<String>
 pub fn into_text_member(value: Value, name: &str) -> Option<String>
     ensures { option_map string_bytes result ≡ text_member name.now (view value) }
 {
-    into_text(into_member(value, name)?)
+    into_json_string(into_member(value, name)?)
 }
 
 /// Moves the member `name` out of a value. Returns None if the value has no such member.
@@ -88,7 +88,7 @@ pub fn into_member(value: Value, name: &str) -> Option<Value>
 }
 
 /// Moves the text out of a value. Returns None if the value isn't a text.
-fn into_text(value: Value) -> Option<String>
+fn into_json_string(value: Value) -> Option<String>
     ensures { option_map string_bytes result ≡ as_str (view value) }
 {
     match value {
@@ -103,34 +103,34 @@ fn into_text(value: Value) -> Option<String>
 
 /// Reads a value as a position: a line and a character, both whole numbers from 0 to 2^64-1.
 /// Returns None if either can't be read.
-pub fn position_of(value: &Value) -> Option<Position>
+pub fn read_json_position(value: &Value) -> Option<Position>
     ensures { result ≡ json_position (view value.now) }
 {
-    let line = unsigned_in(value, "line")?;
-    let character = unsigned_in(value, "character")?;
+    let line = unsigned_of_member(value, "line")?;
+    let character = unsigned_of_member(value, "character")?;
     Some(Position { line, character })
 }
 
 /// Returns the position in the member `name`, or None if the member is absent or isn't a position.
-pub fn position_in(value: &Value, name: &str) -> Option<Position>
+pub fn position_of_member(value: &Value, name: &str) -> Option<Position>
     ensures { result ≡ position_member name.now (view value.now) }
 {
-    position_of(value.get(name)?)
+    read_json_position(value.get(name)?)
 }
 
 /// Reads a value as a range: a start and an end. The end may lie before the start. Returns None if
 /// either can't be read.
-pub fn range_of(value: &Value) -> Option<Range>
+pub fn read_json_range(value: &Value) -> Option<Range>
     ensures { result ≡ json_range (view value.now) }
 {
-    let start = position_in(value, "start")?;
-    let end = position_in(value, "end")?;
+    let start = position_of_member(value, "start")?;
+    let end = position_of_member(value, "end")?;
     Some(Range { start, end })
 }
 
 /// Returns the range in the member `name`, or None if the member is absent or isn't a range.
-pub fn range_in(value: &Value, name: &str) -> Option<Range>
+pub fn range_of_member(value: &Value, name: &str) -> Option<Range>
     ensures { result ≡ range_member name.now (view value.now) }
 {
-    range_of(value.get(name)?)
+    read_json_range(value.get(name)?)
 }

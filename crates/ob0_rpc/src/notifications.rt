@@ -2,12 +2,12 @@
 ghost use Rattle.std.specs.Prelude.{◌≡◌, IfOk};
 ghost use Rattle.serde_json.specs.View.{view};
 ghost use Rattle.ob0_rpc.specs.Members.{document_uri, document_version, document_text};
-ghost use Rattle.ob0_rpc.specs.Notifications.{open_or_unreadable, change_or_unreadable, close_or_unreadable, changes_of as changes_in};
+ghost use Rattle.ob0_rpc.specs.Notifications.{open_or_unreadable, change_or_unreadable, close_or_unreadable, content_changes_of_params as changes_in};
 ghost use Rattle.ob0_rpc.specs.MessageViews.{ReadsNotification, notification_view};
 
 use crate::changes::read_changes;
 use crate::incoming::RpcFault;
-use crate::members::{into_document_text, uri_of, version_of};
+use crate::members::{document_uri_in_params, document_version_in_params, into_document_text};
 use ob0_text::Change;
 use serde_json::Value;
 use std::alloc::{AllocError, Global};
@@ -46,43 +46,49 @@ pub fn notice(alloc: Global, method: &str, params: Value) -> Result<ClientNotifi
     if method == "exit" {
         Ok(ClientNotification::Exit)
     } else if method == "textDocument/didOpen" {
-        Ok(read_open(alloc, params)?)
+        Ok(read_did_open(alloc, params)?)
     } else if method == "textDocument/didChange" {
-        Ok(read_change(alloc, params)?)
+        Ok(read_did_change(alloc, params)?)
     } else if method == "textDocument/didClose" {
-        Ok(read_close(alloc, &params)?)
+        Ok(read_did_close(alloc, &params)?)
     } else {
         Ok(ClientNotification::Other)
     }
 }
 
 /// Reads the params of `textDocument/didOpen`. If they can't be read, returns `Unreadable`.
-fn read_open(alloc: Global, params: Value) -> Result<ClientNotification, AllocError>
+fn read_did_open(alloc: Global, params: Value) -> Result<ClientNotification, AllocError>
     ensures { IfOk result (λ note. notification_view note
         ≡ open_or_unreadable (document_uri (view params)) (document_version (view params))
         (document_text (view params))) }
 {
-    let Some(uri) = uri_of(&params) else {
+    let Some(uri) = document_uri_in_params(&params) else {
         return Ok(ClientNotification::Unreadable { uri: None });
     };
     let uri = String::from_str(alloc, uri)?;
-    match (version_of(&params), into_document_text(params)) {
+    match (
+        document_version_in_params(&params),
+        into_document_text(params),
+    ) {
         (Some(version), Some(text)) => Ok(ClientNotification::Open { uri, version, text }),
         _ => Ok(ClientNotification::Unreadable { uri: Some(uri) }),
     }
 }
 
 /// Reads the params of `textDocument/didChange`. If they can't be read, returns `Unreadable`.
-fn read_change(alloc: Global, params: Value) -> Result<ClientNotification, AllocError>
+fn read_did_change(alloc: Global, params: Value) -> Result<ClientNotification, AllocError>
     ensures { IfOk result (λ note. notification_view note
         ≡ change_or_unreadable (document_uri (view params)) (document_version (view params))
         (changes_in (view params))) }
 {
-    let Some(uri) = uri_of(&params) else {
+    let Some(uri) = document_uri_in_params(&params) else {
         return Ok(ClientNotification::Unreadable { uri: None });
     };
     let uri = String::from_str(alloc, uri)?;
-    match (version_of(&params), read_changes(alloc, params)?) {
+    match (
+        document_version_in_params(&params),
+        read_changes(alloc, params)?,
+    ) {
         (Some(version), Some(changes)) => Ok(ClientNotification::Change {
             uri,
             version,
@@ -93,10 +99,10 @@ fn read_change(alloc: Global, params: Value) -> Result<ClientNotification, Alloc
 }
 
 /// Reads the params of `textDocument/didClose`. If they can't be read, returns `Unreadable`.
-fn read_close(alloc: Global, params: &Value) -> Result<ClientNotification, AllocError>
+fn read_did_close(alloc: Global, params: &Value) -> Result<ClientNotification, AllocError>
     ensures { IfOk result (λ note. notification_view note ≡ close_or_unreadable (document_uri (view params.now))) }
 {
-    match uri_of(params) {
+    match document_uri_in_params(params) {
         Some(uri) => Ok(ClientNotification::Close {
             uri: String::from_str(alloc, uri)?,
         }),

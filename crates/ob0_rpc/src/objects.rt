@@ -4,7 +4,7 @@ ghost use Rattle.std.specs.Prelude.{◌≡◌, ◌++◌, [], ◌∷◌, OnOk};
 ghost use Rattle.serde_json.specs.Data.{member, no_members, object};
 ghost use Rattle.ob0_rpc.specs.Appending.{AppendsMember};
 
-use crate::json_text::{WriteJson, write_piece};
+use crate::json_text::{WriteJson, write_verbatim};
 use std::alloc::AllocError;
 
 /// Writes an object's opening brace and its first member. `name` is written unchanged, so no
@@ -18,9 +18,9 @@ pub fn write_first_member<W: WriteJson>(
     ensures { OnOk result
         (AppendsMember 123 name.now (W.value value.now) out.old.items out.new.items) }
 {
-    write_piece(out, b"{\"")?;
-    write_piece(out, name.as_bytes())?;
-    write_piece(out, b"\":")?;
+    write_verbatim(out, b"{\"")?;
+    write_verbatim(out, name.as_bytes())?;
+    write_verbatim(out, b"\":")?;
     value.write(out)
 }
 
@@ -35,9 +35,9 @@ pub fn write_next_member<W: WriteJson>(
     ensures { OnOk result
         (AppendsMember 44 name.now (W.value value.now) out.old.items out.new.items) }
 {
-    write_piece(out, b",\"")?;
-    write_piece(out, name.as_bytes())?;
-    write_piece(out, b"\":")?;
+    write_verbatim(out, b",\"")?;
+    write_verbatim(out, name.as_bytes())?;
+    write_verbatim(out, b"\":")?;
     value.write(out)
 }
 
@@ -46,7 +46,7 @@ pub fn write_next_member<W: WriteJson>(
 pub fn end_object(out: &mut Vec<u8>) -> Result<(), AllocError>
     ensures { OnOk result (out.new.items ≡ out.old.items ++ 125 ∷ []) }
 {
-    write_piece(out, b"}")
+    write_verbatim(out, b"}")
 }
 
 /// A JSON object with exactly one member. The member's name (`key`) can be any text, such as a uri.
@@ -61,10 +61,10 @@ impl<'a, W: WriteJson> WriteJson for OneMemberObject<'a, W> {
     ghost value = { λ e. object (member e.key.now (W.value e.value) no_members) };
 
     fn write(&self, out: &mut Vec<u8>) -> Result<(), AllocError> {
-        write_piece(out, b"{")?;
+        write_verbatim(out, b"{")?;
         self.key.write(out)?;
-        write_piece(out, b":")?;
+        write_verbatim(out, b":")?;
         self.value.write(out)?;
-        write_piece(out, b"}")
+        write_verbatim(out, b"}")
     }
 }

@@ -2,7 +2,7 @@
 ghost use Rattle.std.specs.Prelude.{◌≤◌, IfOk, option_map};
 ghost use Rattle.serde_json.specs.Data.{depth};
 ghost use Rattle.ob0_rpc.specs.Shapes.{result_message, error_response_message, notification_message, error_value};
-ghost use Rattle.ob0_rpc.specs.MessageViews.{id_data, id_or_null};
+ghost use Rattle.ob0_rpc.specs.MessageViews.{json_of_id, id_or_null};
 ghost use Rattle.ob0_rpc.specs.Writing.{FitsInMessage, Writes};
 
 use crate::incoming::Id;
@@ -18,7 +18,7 @@ pub struct Response<'a, W> {
 }
 
 impl<'a, W: WriteJson> WriteJson for Response<'a, W> {
-    ghost value = { λ r. result_message (id_data r.id.now) (W.value r.result.now) };
+    ghost value = { λ r. result_message (json_of_id r.id.now) (W.value r.result.now) };
 
     fn write(&self, out: &mut Vec<u8>) -> Result<(), AllocError> {
         write_first_member(out, "id", self.id)?;
@@ -84,7 +84,7 @@ impl<'a, W: WriteJson> WriteJson for Notification<'a, W> {
 }
 
 impl WriteJson for Id {
-    ghost value = { id_data };
+    ghost value = { json_of_id };
 
     fn write(&self, out: &mut Vec<u8>) -> Result<(), AllocError> {
         match self {
@@ -96,7 +96,7 @@ impl WriteJson for Id {
 }
 
 impl<'a> WriteJson for &'a Id {
-    ghost value = { λ i. id_data i.now };
+    ghost value = { λ i. json_of_id i.now };
 
     fn write(&self, out: &mut Vec<u8>) -> Result<(), AllocError> {
         Id::write(*self, out)
@@ -116,9 +116,13 @@ pub fn content_of<W: WriteJson>(alloc: Global, message: &W) -> Result<Vec<u8>, A
 
 /// Returns the JSON text of the answer to a request, with this result. If the result is nested at
 /// most 126 deep, the text reads back as that answer.
-pub fn answer_text<W: WriteJson>(alloc: Global, id: &Id, value: &W) -> Result<Vec<u8>, AllocError>
+pub fn success_response_text<W: WriteJson>(
+    alloc: Global,
+    id: &Id,
+    value: &W,
+) -> Result<Vec<u8>, AllocError>
     ensures { IfOk result (λ bytes. FitsInMessage (W.value value.now)
-        → Writes (result_message (id_data id.now) (W.value value.now)) bytes.items) }
+        → Writes (result_message (json_of_id id.now) (W.value value.now)) bytes.items) }
 {
     content_of(alloc, &Response { id, result: value })
 }

@@ -7,10 +7,10 @@
 
 ghost use Rattle.std.specs.Prelude.{◌≡◌, ◌++◌, ◌∷◌, [], ◌+◌, ◌<◌, ◌≤◌, ◌^◌, OnOk, codes, decimal, drop, length};
 ghost use Rattle.serde_json.specs.Written.{compact_text};
-ghost use Rattle.ob0_rpc.specs.Appending.{Appends, ReadsBack};
+ghost use Rattle.ob0_rpc.specs.Appending.{AppendsValue, ReadsBack};
 ghost use Rattle.ob0_rpc.specs.Shapes.{edit_value, position_value, range_value};
 
-use crate::json_text::{WriteJson, write_escaped_text, write_piece};
+use crate::json_text::{WriteJson, write_escaped_text, write_verbatim};
 use crate::objects::{end_object, write_first_member, write_next_member};
 use itoa::write_digits;
 use ob0_text::{Edit, Position, Range};
@@ -43,33 +43,37 @@ impl WriteJson for Edit {
     ghost value = { edit_value };
 
     fn write(&self, out: &mut Vec<u8>) -> Result<(), AllocError> {
-        write_piece(out, b"{\"newText\":\"")?;
+        write_verbatim(out, b"{\"newText\":\"")?;
         write_escaped_text(out, self.text.as_str().as_bytes())?;
-        write_edit_range(out, self.range.start, self.range.end)
+        write_edit_after_new_text(out, self.range.start, self.range.end)
     }
 }
 
 /// Writes the part of an edit that follows its new text: the closing quote of the new text, the
 /// member `range`, and the closing brace of the edit.
-fn write_edit_range(out: &mut Vec<u8>, start: Position, end: Position) -> Result<(), AllocError>
+fn write_edit_after_new_text(
+    out: &mut Vec<u8>,
+    start: Position,
+    end: Position,
+) -> Result<(), AllocError>
     ensures text { OnOk result (out.new.items ≡ out.old.items
         ++ (codes "\",\"range\":" ++ (compact_text (range_value start end) ++ 125 ∷ []))) }
     ensures reads { ReadsBack (range_value start end) }
 {
     let mut buffer = [0; RANGE_BUFFER_SIZE];
-    let following = write_piece_ending_at(&mut buffer, RANGE_BUFFER_SIZE, b"}");
+    let following = write_verbatim_ending_at(&mut buffer, RANGE_BUFFER_SIZE, b"}");
     let at_range = write_range_ending_at(&mut buffer, following, start, end);
-    let at = write_piece_ending_at(&mut buffer, at_range, b"\",\"range\":");
-    write_piece(out, &buffer[at..])
+    let at = write_verbatim_ending_at(&mut buffer, at_range, b"\",\"range\":");
+    write_verbatim(out, &buffer[at..])
 }
 
-/// Appends the JSON text of a range to `out`.
+/// Writes the JSON text of a range at the end of `out`.
 fn write_range(out: &mut Vec<u8>, start: Position, end: Position) -> Result<(), AllocError>
-    ensures { OnOk result (Appends (range_value start end) out.old.items out.new.items) }
+    ensures { OnOk result (AppendsValue (range_value start end) out.old.items out.new.items) }
 {
     let mut buffer = [0; RANGE_BUFFER_SIZE];
     let at = write_range_ending_at(&mut buffer, RANGE_BUFFER_SIZE, start, end);
-    write_piece(out, &buffer[at..])
+    write_verbatim(out, &buffer[at..])
 }
 
 /// Writes the JSON text of the range from `start` to `end` into the buffer. The text takes at most
@@ -81,11 +85,11 @@ pub fn write_range_ending_at(buffer: &mut [u8], at: usize, start: Position, end:
         ≡ compact_text (range_value start end) ++ drop at buffer.old }
     ensures reads { ReadsBack (range_value start end) }
 {
-    let index_after_start = write_piece_ending_at(buffer, at, b"}");
+    let index_after_start = write_verbatim_ending_at(buffer, at, b"}");
     let at_start = write_position_ending_at(buffer, index_after_start, start);
-    let index_after_end = write_piece_ending_at(buffer, at_start, b",\"start\":");
+    let index_after_end = write_verbatim_ending_at(buffer, at_start, b",\"start\":");
     let at_end = write_position_ending_at(buffer, index_after_end, end);
-    write_piece_ending_at(buffer, at_end, b"{\"end\":")
+    write_verbatim_ending_at(buffer, at_end, b"{\"end\":")
 }
 
 /// Writes a position's JSON text into the buffer. The text takes at most 62 bytes, and ends right
@@ -97,11 +101,11 @@ fn write_position_ending_at(buffer: &mut [u8], at: usize, position: Position) ->
         ≡ compact_text (position_value position) ++ drop at buffer.old }
     ensures reads { ReadsBack (position_value position) }
 {
-    let index_after_line = write_piece_ending_at(buffer, at, b"}");
+    let index_after_line = write_verbatim_ending_at(buffer, at, b"}");
     let at_line = write_digits_ending_at(buffer, index_after_line, position.line);
-    let index_after_character = write_piece_ending_at(buffer, at_line, b",\"line\":");
+    let index_after_character = write_verbatim_ending_at(buffer, at_line, b",\"line\":");
     let at_character = write_digits_ending_at(buffer, index_after_character, position.character);
-    write_piece_ending_at(buffer, at_character, b"{\"character\":")
+    write_verbatim_ending_at(buffer, at_character, b"{\"character\":")
 }
 
 /// Writes the decimal digits of `count` into the buffer. The digits end right before the index
@@ -119,7 +123,7 @@ fn write_digits_ending_at(buffer: &mut [u8], at: usize, count: u64) -> usize
 /// Writes a piece of text into the buffer. The piece ends right before the index `at`. Returns the
 /// index at which the piece begins.
 #[inline(always)]
-pub fn write_piece_ending_at(buffer: &mut [u8], at: usize, piece: &[u8]) -> usize
+pub fn write_verbatim_ending_at(buffer: &mut [u8], at: usize, piece: &[u8]) -> usize
     requires { (length piece.now ≤ at) × (at ≤ length buffer.old) }
     ensures start { result + length piece.now ≡ at }
     ensures text { drop result buffer.new ≡ piece.now ++ drop at buffer.old }

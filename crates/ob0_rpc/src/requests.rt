@@ -4,13 +4,16 @@ ghost use Rattle.serde_json.specs.Find.{get};
 ghost use Rattle.serde_json.specs.View.{view, items_view};
 ghost use Rattle.ob0_text.specs.Indents.{indent_spaces_for_tab_size};
 ghost use Rattle.ob0_rpc.specs.Requesting as asks;
-ghost use Rattle.ob0_rpc.specs.Requesting.{document_place_of, request_by_method, references_request_of, rename_request_of, code_action_request_of, formatting_request_of, document_request_by_method, optional_texts, requested_kinds, texts_of as texts_in, indent_of as indent_in, or_bad_params, initialize_request_of};
+ghost use Rattle.ob0_rpc.specs.Requesting.{document_place_of, request_by_method, references_request_of, rename_request_of, code_action_request_of, formatting_request_of, document_request_by_method, texts_of_optional_list, requested_action_kinds, texts_of_items as texts_in, requested_indent as indent_in, or_bad_params, initialize_request_of};
 ghost use Rattle.ob0_rpc.specs.Members.{bool_member};
-ghost use Rattle.ob0_rpc.specs.MessageViews.{ReadsClientRequest, document_place_view, kinds_view};
+ghost use Rattle.ob0_rpc.specs.MessageViews.{ReadsClientRequest, document_place_view, action_kinds_view};
 
 use crate::clients::{ClientFeatures, client_features};
 use crate::incoming::RpcFault;
-use crate::members::{bool_in, position_in, range_in, text_in, unsigned_in, uri_of};
+use crate::members::{
+    bool_of_member, document_uri_in_params, position_of_member, range_of_member, text_of_member,
+    unsigned_of_member,
+};
 use ob0_text::{Indent, MAX_INDENT, Position, Range};
 use serde_json::Value;
 use std::alloc::{AllocError, Global};
@@ -51,8 +54,8 @@ pub enum ClientRequest {
 }
 
 /// Reads a request from its method and its params. If the method is unknown, the fault is
-/// `UnknownMethod`. If the params can't be read, it is `BadParams`. The params of `initialize` must
-/// be an object. `shutdown` accepts any params.
+/// `UnknownMethod`. If the params can't be read, the fault is `BadParams`. The params of
+/// `initialize` must be an object. `shutdown` accepts any params.
 pub fn request(alloc: Global, method: &str, params: &Value) -> Result<ClientRequest, RpcFault>
     ensures { ReadsClientRequest (request_by_method method.now (view params.now)) result }
 {
@@ -66,7 +69,7 @@ pub fn request(alloc: Global, method: &str, params: &Value) -> Result<ClientRequ
 }
 
 /// Reads a request about a document from its method and its params. If the method is unknown, the
-/// fault is `UnknownMethod`. If the params can't be read, it is `BadParams`.
+/// fault is `UnknownMethod`. If the params can't be read, the fault is `BadParams`.
 fn read_document_request(
     alloc: Global,
     method: &str,
@@ -158,7 +161,7 @@ fn read_rename(alloc: Global, params: &Value) -> Result<ClientRequest, RpcFault>
     let Some(place) = read_document_position(alloc, params)? else {
         return Err(RpcFault::BadParams);
     };
-    let Some(new_name) = text_in(params, "newName") else {
+    let Some(new_name) = text_of_member(params, "newName") else {
         return Err(RpcFault::BadParams);
     };
     let new_name = String::from_str(alloc, new_name)?;
@@ -169,14 +172,14 @@ fn read_rename(alloc: Global, params: &Value) -> Result<ClientRequest, RpcFault>
 fn read_code_action(alloc: Global, params: &Value) -> Result<ClientRequest, RpcFault>
     ensures { ReadsClientRequest (or_bad_params (code_action_request_of (view params.now))) result }
 {
-    let Some(uri) = uri_of(params) else {
+    let Some(uri) = document_uri_in_params(params) else {
         return Err(RpcFault::BadParams);
     };
     let uri = String::from_str(alloc, uri)?;
-    let Some(range) = range_in(params, "range") else {
+    let Some(range) = range_of_member(params, "range") else {
         return Err(RpcFault::BadParams);
     };
-    let Some(only) = read_requested_kinds(alloc, params.get("context"))? else {
+    let Some(only) = read_requested_action_kinds(alloc, params.get("context"))? else {
         return Err(RpcFault::BadParams);
     };
     Ok(ClientRequest::CodeAction { uri, range, only })
@@ -186,11 +189,11 @@ fn read_code_action(alloc: Global, params: &Value) -> Result<ClientRequest, RpcF
 fn read_formatting(alloc: Global, params: &Value) -> Result<ClientRequest, RpcFault>
     ensures { ReadsClientRequest (or_bad_params (formatting_request_of (view params.now))) result }
 {
-    let Some(uri) = uri_of(params) else {
+    let Some(uri) = document_uri_in_params(params) else {
         return Err(RpcFault::BadParams);
     };
     let uri = String::from_str(alloc, uri)?;
-    let Some(indent) = indent_of(params) else {
+    let Some(indent) = requested_indent(params) else {
         return Err(RpcFault::BadParams);
     };
     Ok(ClientRequest::Formatting { uri, indent })
@@ -204,11 +207,11 @@ fn read_document_position(
 ) -> Result<Option<DocumentPosition>, AllocError>
     ensures { IfOk result (λ found. option_map document_place_view found ≡ document_place_of (view params.now)) }
 {
-    let Some(uri) = uri_of(params) else {
+    let Some(uri) = document_uri_in_params(params) else {
         return Ok(None);
     };
     let uri = String::from_str(alloc, uri)?;
-    match position_in(params, "position") {
+    match position_of_member(params, "position") {
         Some(position) => Ok(Some(DocumentPosition { uri, position })),
         None => Ok(None),
     }
@@ -221,17 +224,17 @@ fn includes_declaration(params: &Value) -> Option<bool>
         ≡ option_and_then (bool_member (codes "includeDeclaration"))
         (get (codes "context") (view params.now)) }
 {
-    bool_in(params.get("context")?, "includeDeclaration")
+    bool_of_member(params.get("context")?, "includeDeclaration")
 }
 
 /// Returns the indentation that the object `options` in params requests. Returns None if `options`,
 /// its number `tabSize` or its boolean `insertSpaces` is missing or has another JSON type.
-fn indent_of(params: &Value) -> Option<Indent>
+fn requested_indent(params: &Value) -> Option<Indent>
     ensures { result ≡ option_and_then indent_in (get (codes "options") (view params.now)) }
 {
     let options = params.get("options")?;
-    let size = unsigned_in(options, "tabSize")?;
-    let spaces = bool_in(options, "insertSpaces")?;
+    let size = unsigned_of_member(options, "tabSize")?;
+    let spaces = bool_of_member(options, "insertSpaces")?;
     Some(if spaces {
         Indent::Spaces(spaces_per_level(size))
     } else {
@@ -250,12 +253,12 @@ fn spaces_per_level(size: u64) -> u8
 /// Returns the kinds of code actions that the object `context` requests (its member `only`).
 /// `Some(None)` means that all kinds are requested. `None` means that the context isn't an object,
 /// or that the kinds can't be read.
-fn read_requested_kinds(
+fn read_requested_action_kinds(
     alloc: Global,
     context: Option<&Value>,
 ) -> Result<Option<Option<Vec<String>>>, AllocError>
-    ensures { IfOk result (λ found. option_map kinds_view found
-        ≡ option_and_then requested_kinds (option_map (λ v. view v.now) context.entry)) }
+    ensures { IfOk result (λ found. option_map action_kinds_view found
+        ≡ option_and_then requested_action_kinds (option_map (λ v. view v.now) context.entry)) }
 {
     let Some(context) = context else {
         return Ok(None);
@@ -263,17 +266,17 @@ fn read_requested_kinds(
     if !context.is_object() {
         return Ok(None);
     }
-    read_optional_texts(alloc, context.get("only"))
+    read_texts_of_optional_list(alloc, context.get("only"))
 }
 
 /// Returns the items of the member `only` as texts. `Some(None)` means that the member is absent or
 /// null. `None` means that the member isn't a list, or that an item isn't a text.
-fn read_optional_texts(
+fn read_texts_of_optional_list(
     alloc: Global,
     only: Option<&Value>,
 ) -> Result<Option<Option<Vec<String>>>, AllocError>
     ensures { IfOk result
-        (λ found. option_map kinds_view found ≡ optional_texts (option_map (λ v. view v.now) only.entry)) }
+        (λ found. option_map action_kinds_view found ≡ texts_of_optional_list (option_map (λ v. view v.now) only.entry)) }
 {
     let Some(only) = only else {
         return Ok(Some(None));
@@ -284,14 +287,14 @@ fn read_optional_texts(
     let Some(items) = only.as_array() else {
         return Ok(None);
     };
-    match texts_of(alloc, items)? {
+    match texts_of_items(alloc, items)? {
         Some(kinds) => Ok(Some(Some(kinds))),
         None => Ok(None),
     }
 }
 
 /// Returns the items of a list as texts, or None if an item isn't a text.
-fn texts_of(alloc: Global, items: &[Value]) -> Result<Option<Vec<String>>, AllocError>
+fn texts_of_items(alloc: Global, items: &[Value]) -> Result<Option<Vec<String>>, AllocError>
     ensures { IfOk result (λ found. option_map (λ texts. map string_bytes texts.items) found
         ≡ texts_in (items_view items.now)) }
 {

@@ -4,7 +4,7 @@ ghost use Rattle.serde_json.specs.Data.{depth};
 ghost use Rattle.serde_json.specs.View.{view};
 ghost use Rattle.serde_json.specs.Written.{has_float};
 ghost use Rattle.ob0_rpc.specs.Shapes.{result_message, notification_message};
-ghost use Rattle.ob0_rpc.specs.MessageViews.{id_data};
+ghost use Rattle.ob0_rpc.specs.MessageViews.{json_of_id};
 ghost use Rattle.ob0_rpc.specs.Writing.{FitsInMessage, Writes};
 
 use crate::incoming::Id;
@@ -16,10 +16,10 @@ use std::alloc::{AllocError, Global};
 pub fn result(alloc: Global, id: &Id, value: Value) -> Result<Vec<u8>, AllocError>
     ensures { IfOk result (λ bytes. has_float (view value) ≡ false
         → FitsInMessage (view value)
-        → Writes (result_message (id_data id.now) (view value)) bytes.items) }
+        → Writes (result_message (json_of_id id.now) (view value)) bytes.items) }
 {
     let message = response_value(alloc, id, value)?;
-    text_of(alloc, &message)
+    message_text(alloc, &message)
 }
 
 /// Returns the JSON text of a notification. The text reads back as that notification if `params`
@@ -30,12 +30,12 @@ pub fn notification(alloc: Global, method: &str, params: Value) -> Result<Vec<u8
         → Writes (notification_message method.now (view params)) bytes.items) }
 {
     let message = notification_value(alloc, method, params)?;
-    text_of(alloc, &message)
+    message_text(alloc, &message)
 }
 
 /// Returns the JSON value of the answer to a request, with `value` as its result.
 fn response_value(alloc: Global, id: &Id, value: Value) -> Result<Value, AllocError>
-    ensures { IfOk result (λ v. view v ≡ result_message (id_data id.now) (view value)) }
+    ensures { IfOk result (λ v. view v ≡ result_message (json_of_id id.now) (view value)) }
 {
     let id = id_value(alloc, id)?;
     json!(in alloc; {"id": id, "jsonrpc": "2.0", "result": value})
@@ -50,7 +50,7 @@ fn notification_value(alloc: Global, method: &str, params: Value) -> Result<Valu
 
 /// Returns the JSON value of an id: a number or a text.
 fn id_value(alloc: Global, id: &Id) -> Result<Value, AllocError>
-    ensures { IfOk result (λ v. view v ≡ id_data id.now) }
+    ensures { IfOk result (λ v. view v ≡ json_of_id id.now) }
 {
     match id {
         Id::Signed(n) => Ok(Value::from(*n)),
@@ -61,7 +61,7 @@ fn id_value(alloc: Global, id: &Id) -> Result<Value, AllocError>
 
 /// Returns the JSON text of a message. The text reads back as the message if the message is nested
 /// at most 127 deep and has only whole numbers.
-fn text_of(alloc: Global, message: &Value) -> Result<Vec<u8>, AllocError>
+fn message_text(alloc: Global, message: &Value) -> Result<Vec<u8>, AllocError>
     ensures { IfOk result (λ bytes. has_float (view message.now) ≡ false
         → depth (view message.now) ≤ 127
         → Writes (view message.now) bytes.items) }

@@ -4,7 +4,7 @@
 -- constants, types and environments.
 use Rattle.std.proofs.lemmas.Bool.{ltb-true}
 use Rattle.std.proofs.lemmas.List.{length-replicate}
-use Rattle.std.proofs.Common.{◌≡◌, ℕ, zero, suc, ◌+◌, ◌^◌, ◌<◌, true, false, if◌then◌else◌, nat_lt, length-append, List, [], ◌∷◌, ◌++◌, drop, length, map, replicate, take, pos, slice_get, Some, option_and_then, unwrap_or, sym, refl, ap, ◌∙◌, subst, arith, append_assoc}
+use Rattle.std.proofs.Common.{◌≡◌, ℕ, zero, suc, ◌+◌, ◌^◌, ◌<◌, true, false, if◌then◌else◌, nat_lt, length-append, List, [], ◌∷◌, ◌++◌, drop, length, map, take, pos, slice_get, Some, option_and_then, unwrap_or, sym, refl, ap, ◌∙◌, subst, arith, append_assoc}
 use Rattle.ob0_tree.specs.Tree.{Tree, begins, body, declares_procedure, item, maybe, none, one, procedure}
 use Rattle.ob0_language_names.specs.Parts.{block_statements, formal_sections, procedure_formals}
 use Rattle.ob0_language_types.specs.Declarations.{formals_constructor_count}
@@ -13,15 +13,15 @@ use Rattle.ob0_language_types.specs.Expressions.{Object, a_procedure}
 use Rattle.ob0_language_types.specs.WellTyped.{Signature, TypeEnvironment, TypedParameter, bind_typed_parameters, block_is_well_typed, bind_procedure, procedure_is_well_typed, signature_of, typed_parameters}
 use Rattle.ob0_language_types.proofs.Literals.{some_inverse}
 use Rattle.ob0_language_values.specs.Values.{Place, Shape, Store}
-use Rattle.ob0_language_runs.specs.TypeAgreement.{ArgumentsMatchSignature, RunBindingAgrees, RunEnvironmentAgrees, StoreHasTypes, StoreTyping}
+use Rattle.ob0_language_runs.specs.TypeAgreement.{ArgumentsMatchSignature, RunBindingAgreesWithCheckedBinding, RunEnvironmentAgreesWithCheckedEnvironment, StoreHasTypes, StoreTyping}
 use Rattle.ob0_language_runs.specs.Freed.{call_freeing_variables, drop_variables}
 use Rattle.ob0_language_runs.specs.Runs.{Activation, Argument, ProcedureText, Frame, Progress, State, activate, bind_parameters, declare_block, execute_body, continue_in_frame, running, meanings_for_statements, stopped}
 use Rattle.ob0_language_runs.proofs.SoundCalls.{from-fit, names-fit, parameters-of_typed}
 use Rattle.ob0_run_machine.specs.Evaluation.{Level, Levels}
 use Rattle.ob0_run_machine.specs.Execution as execution
 use Rattle.ob0_run_machine.specs.Lowered as lowered
-use Rattle.ob0_run_cells.specs.Activations.{RoutineTable, CodeMeansBody, BindingIsPlaced, PlacementState, Placement, PlacementFitsActivation, RoutineMeansProcedure, BindingPlace, at_target, placement_inside_procedure, target_of_first_binding, placement_from_binding, placement_seen_one_level_deeper, local_procedure_target, target_of, target_in_placement}
-use Rattle.ob0_run_cells.specs.Cells.{cells_of_store, store_size}
+use Rattle.ob0_run_cells.specs.Activations.{RoutineTable, CodeMeansBody, BindingIsPlaced, PlacementState, Placement, PlacementMatchesActivation, RoutineMeansProcedure, BindingPlace, at_target, placement_inside_procedure, target_of_first_binding, placement_from_binding, placement_seen_one_level_deeper, local_procedure_target, target_of_binding_place, target_in_placement}
+use Rattle.ob0_run_cells.specs.Cells.{cells_of_store, store_cell_count}
 use Rattle.ob0_run_cells.specs.LoweredStatements.{BodyContext, CallsRepresent, ProgressRepresents, StateRepresents, Target, place_argument_addresses, value_argument_cells}
 use Rattle.ob0_run_cells.specs.Lowering.{in_activation}
 use Rattle.ob0_run_cells.proofs.PlacedDeclarations.{FramePlaced, block-placed, parameters-placed}
@@ -57,24 +57,27 @@ module _ {N : Type 0} (table : RoutineTable N) where
   -- the facts about calls if c more may be open
   abbrev pub CallsKnown : ℕ → ℕ → Type 0
   CallsKnown c t =
-      (typing : StoreTyping) (ls : Levels) (checked : TypeEnvironment N) (placement : Placement N) (active : Activation N) → RunEnvironmentAgrees table.naming typing checked active → PlacementFitsActivation table typing ls checked placement active
+      (typing : StoreTyping) (ls : Levels) (checked : TypeEnvironment N) (placement : Placement N) (active : Activation N) → RunEnvironmentAgreesWithCheckedEnvironment table.naming typing checked active → PlacementMatchesActivation table typing ls checked placement active
       → CallsRepresent (meanings table.naming checked) (target_in_placement table.naming placement) (body_of c t typing ls active)
 
-  pub body-represents : (c t : ℕ) → CallsKnown c t → (typing : StoreTyping) (ls : Levels) (checked : TypeEnvironment N) (placement : Placement N) (active : Activation N) → RunEnvironmentAgrees table.naming typing checked active → PlacementFitsActivation table typing ls checked placement active → store_size typing < 2 ^ 64
+  pub body-represents : (c t : ℕ) → CallsKnown c t → (typing : StoreTyping) (ls : Levels) (checked : TypeEnvironment N) (placement : Placement N) (active : Activation N) → RunEnvironmentAgreesWithCheckedEnvironment table.naming typing checked active → PlacementMatchesActivation table typing ls checked placement active → store_cell_count typing < 2 ^ 64
       → (code : lowered.Instructions) (statements : Tree N (maybe body)) → CodeMeansBody table.naming checked placement code statements → (low : execution.MachineState) (s : State) → StateRepresents typing low s
       → ProgressRepresents typing (execution.execute_sequence (execution.call table.routines c t) t ls code low) (execute_body table.naming active (call_freeing_variables table.naming c t active) t statements s)
   unfolding execution.execute execute_body
   body-represents c t known typing ls checked placement active env placed few code none means low s h = subst (λ code. ProgressRepresents typing (execution.execute_sequence (execution.call table.routines c t) t ls code low) (running s)) (sym means) h
   body-represents c t known typing ls checked placement active env placed few code (one (begins statements)) means low s h =
       means (body_of c t typing ls active) record {
-        names_fit = (names-fit table.naming typing checked active env, λ x. refl);
-        variables_in_slots = λ x p e. slots-fit table typing ls (environment_from_binding table.naming checked x) (placement_from_binding table.naming placement x) (environment_from_binding table.naming active x) (from-placed table typing ls checked placement active x placed) p e;
-        store_is_addressable = few;
+        is_moment = λ store fits. record {
+          store_fits = fits;
+          names_fit = (names-fit table.naming typing checked active env, λ x. refl);
+          variables_in_slots = λ x p e. slots-fit table typing ls (environment_from_binding table.naming checked x) (placement_from_binding table.naming placement x) (environment_from_binding table.naming active x) (from-placed table typing ls checked placement active x placed) p e;
+          store_is_addressable = few;
+        };
         calls_represent = known typing ls checked placement active env placed;
       } t low s h
 
   pub activate-represents : (c t : ℕ) → CallsKnown c t → (typing : StoreTyping) (ls : Levels) (checked : TypeEnvironment N) (placement : Placement N) (active : Activation N) (signature : Signature) (args : List Argument) (low : execution.MachineState) (s : State) (p : execution.CallArguments)
-      → RunEnvironmentAgrees table.naming typing checked active → PlacementFitsActivation table typing ls checked placement active → newest_object checked ≡ Some (a_procedure signature) → StateRepresents typing low s → ArgumentsMatchSignature typing signature args
+      → RunEnvironmentAgreesWithCheckedEnvironment table.naming typing checked active → PlacementMatchesActivation table typing ls checked placement active → newest_object checked ≡ Some (a_procedure signature) → StateRepresents typing low s → ArgumentsMatchSignature typing signature args
       → p.cells ≡ low.cells ++ value_argument_cells args → p.addresses ≡ place_argument_addresses typing args
       → ProgressRepresents typing (execution.call table.routines (suc c) t (target_of_first_binding placement).procedure (execution.levels_in_call ls (length low.cells) (target_of_first_binding placement).up p) record low { cells = p.cells }) (drop_variables (length s.store) (activate table.naming (call_freeing_variables table.naming c t) t active args s))
   unfolding execution.call activate block_is_well_typed
@@ -82,7 +85,7 @@ module _ {N : Type 0} (table : RoutineTable N) where
   activate-represents c t known typing ls (b ∷ checked) [] (d ∷ active) signature args low s p env placed e h fit cells there = absurd placed
   activate-represents c t known typing ls ((x, o) ∷ checked) ((z, w) ∷ placement) ((y, r) ∷ active) signature args low s p env placed e h fit cells there = of_objects o w r env.1 placed.here (some_inverse {a = o} {b = a_procedure signature} e)
     where
-      of_text : (tg : Target) (outer : Placement N) (entry : lowered.Routine) (j : ℕ) (text : Tree N (item procedure)) (ps : List (TypedParameter N)) → PlacementFitsActivation table typing (drop tg.up ls) checked outer active → typed_parameters table.naming checked j (procedure_formals text) ≡ Some ps
+      of_text : (tg : Target) (outer : Placement N) (entry : lowered.Routine) (j : ℕ) (text : Tree N (item procedure)) (ps : List (TypedParameter N)) → PlacementMatchesActivation table typing (drop tg.up ls) checked outer active → typed_parameters table.naming checked j (procedure_formals text) ≡ Some ps
           → slice_get table.routines tg.procedure ≡ Some entry → signature ≡ map (λ p. p.formal) ps → procedure_is_well_typed table.naming (bind_typed_parameters ps (bind_procedure x ps checked)) j text ≡ true
           → RoutineMeansProcedure table (bind_typed_parameters ps (bind_procedure x ps checked)) (placement_inside_procedure ps ((x, local_procedure_target tg.procedure) ∷ outer)) j entry text
           → ProgressRepresents typing (execution.call table.routines (suc c) t tg.procedure (execution.levels_in_call ls (length low.cells) tg.up p) record low { cells = p.cells }) (drop_variables (length s.store) (activate table.naming (call_freeing_variables table.naming c t) t ((y, a_procedure record { constructors_before = j; text = text }) ∷ active) args s))
@@ -92,7 +95,7 @@ module _ {N : Type 0} (table : RoutineTable N) where
           let seen : Levels = drop tg.up ls in
           let f : Frame N = record { env = (y, a_procedure record { constructors_before = j; text = text }) ∷ active; store = s.store } in
           let p₀ : PlacementState N = record { placement = placement_seen_one_level_deeper ((x, local_procedure_target tg.procedure) ∷ outer); cells = 0; var_parameters_so_far = 0 } in
-          let sized : length low.cells ≡ store_size typing = ap length h.same_cells ∙ store-size typing s.store h.store_fits in
+          let sized : length low.cells ≡ store_cell_count typing = ap length h.same_cells ∙ store-size typing s.store h.store_fits in
           let start : FramePlaced table typing (l ∷ seen) l.base (bind_procedure x ps checked) p₀ f = record {
             store_fits = h.store_fits;
             environment_fits = (env.0, (ps, eps, refl, fits), env.2);
@@ -111,8 +114,8 @@ module _ {N : Type 0} (table : RoutineTable N) where
           } in
           let longer : length (p.cells ++ execution.zeros entry.cells) ≡ length p.cells + length (execution.zeros entry.cells) = length-append p.cells (execution.zeros entry.cells) in
           let zeros : length (execution.zeros entry.cells) ≡ entry.cells = length-replicate entry.cells (pos 0) in
-          let all : length (p.cells ++ execution.zeros entry.cells) ≡ store_size rest.typing_now = ap length represents.same_cells ∙ store-size rest.typing_now k.store rest.frame.store_fits in
-          let counted : length p.cells + entry.cells ≡ store_size rest.typing_now = omega (arith, longer, zeros, all) in
+          let all : length (p.cells ++ execution.zeros entry.cells) ≡ store_cell_count rest.typing_now = ap length represents.same_cells ∙ store-size rest.typing_now k.store rest.frame.store_fits in
+          let counted : length p.cells + entry.cells ≡ store_cell_count rest.typing_now = omega (arith, longer, zeros, all) in
           let grown : rest.typing_now ≡ typing ++ (part.others ++ rest.others) = rest.is_grown ∙ (ap (λ l. l ++ rest.others) part.is_grown ∙ append_assoc typing part.others rest.others) in
           let statements = execute_body table.naming k.env (call_freeing_variables table.naming c t k.env) t (block_statements b) s₂ in
           let runs_body = execution.execute_sequence (execution.call table.routines c t) t (l ∷ seen) entry.body in
@@ -123,8 +126,8 @@ module _ {N : Type 0} (table : RoutineTable N) where
           subst (λ o. ProgressRepresents typing (execution.drop_variables l.base (execution.activate (execution.call table.routines c t) t (l ∷ seen) o record low { cells = p.cells })) (drop_variables (length s.store) (activate table.naming (call_freeing_variables table.naming c t) t ((y, a_procedure record { constructors_before = j; text = text }) ∷ active) args s))) (sym et)
           (subst (λ frame. ProgressRepresents typing (execution.drop_variables l.base (execution.run_with_added_cells entry.cells runs_body record low { cells = p.cells })) (drop_variables (length s.store) (continue_in_frame s frame (λ f. execute_body table.naming f.env (call_freeing_variables table.naming c t f.env) t (block_statements b))))) (sym frames) drops)
 
-      of_objects : (o : Object Shape Signature) (w : BindingPlace) (r : Object Place (ProcedureText N)) → RunBindingAgrees table.naming typing checked x o r → BindingIsPlaced table typing ls checked (λ ls placement. PlacementFitsActivation table typing ls checked placement active) x o w r → o ≡ a_procedure signature
-          → ProgressRepresents typing (execution.call table.routines (suc c) t (target_of w).procedure (execution.levels_in_call ls (length low.cells) (target_of w).up p) record low { cells = p.cells }) (drop_variables (length s.store) (activate table.naming (call_freeing_variables table.naming c t) t ((y, r) ∷ active) args s))
+      of_objects : (o : Object Shape Signature) (w : BindingPlace) (r : Object Place (ProcedureText N)) → RunBindingAgreesWithCheckedBinding table.naming typing checked x o r → BindingIsPlaced table typing ls checked (λ ls placement. PlacementMatchesActivation table typing ls checked placement active) x o w r → o ≡ a_procedure signature
+          → ProgressRepresents typing (execution.call table.routines (suc c) t (target_of_binding_place w).procedure (execution.levels_in_call ls (length low.cells) (target_of_binding_place w).up p) record low { cells = p.cells }) (drop_variables (length s.store) (activate table.naming (call_freeing_variables table.naming c t) t ((y, r) ∷ active) args s))
       of_objects (a_procedure sg) (at_target tg) (a_procedure code) bound at e =
           let (ps, eps, sig, fits) = bound in
           let (outer, inside, found) = at in

@@ -6,19 +6,19 @@ use Rattle.ob0_language_types.specs.Arguments.{call_arguments}
 use Rattle.ob0_language_types.specs.Expressions.{Object, StandardProcedure, a_standard, designated_place, evaluate, read_procedure, write_procedure, write_line_procedure}
 use Rattle.ob0_language_types.specs.WellTyped.{Mode, TypeMeanings, by_place, by_value}
 use Rattle.ob0_language_values.specs.Values.{Outcome, Place, Shape, Value, boolean_shape, ends_run_with, succeeds_with, integer_shape, number, or_stuck, read_place, truth, ◌>>=◌}
-use Rattle.ob0_language_runs.specs.TypeAgreement.{RunObjectAgrees, PlaceHasType, StoreTyping}
+use Rattle.ob0_language_runs.specs.TypeAgreement.{RunObjectAgreesWithCheckedObject, PlaceHasType, StoreTyping}
 use Rattle.ob0_language_runs.specs.Runs.{Argument, Progress, State, evaluate_arguments, execute, argument_modes_of, perform_call, place_argument, read_number, running, store_at, continue_with_result, value_argument}
 use Rattle.ob0_run_machine.specs.Evaluation as machine
 use Rattle.ob0_run_machine.specs.Execution as execution
 use Rattle.ob0_run_machine.specs.Lowered as lowered
-use Rattle.ob0_run_cells.specs.Cells.{address, cells_of_store, cells_of, cells_after_overwrite, size, store_size}
-use Rattle.ob0_run_cells.specs.LoweredStatements.{IsLoneDesignatorAt, ProgressRepresents, StateRepresents, CodeMeansStatement, Target}
+use Rattle.ob0_run_cells.specs.Cells.{address, cells_of_store, cells_of, cells_after_overwrite, size, store_cell_count}
+use Rattle.ob0_run_cells.specs.LoweredStatements.{IsLoneDesignatorAt, ProgressRepresents, StateRepresents, CodeMeansStatement, Target, moment}
 use Rattle.ob0_run_cells.specs.Lowering.{NumberMeans, PlaceMeans, Slot, TruthMeans, PlaceHoldsValue, place_of_designator, value_of_expression}
 use Rattle.ob0_run_cells.proofs.Parts.{cells-size}
 use Rattle.ob0_run_cells.proofs.Places.{HoldsSlice, WritesPlace, places_are_slices, store-size, writing_places_writes_slices}
-use Rattle.ob0_run_cells.proofs.Represented.{alone-cells, moment, moment-shown, number-in, number-read, number-stored, place-in, put-represents, truth-in, truth-stored, use-place, use-represents}
+use Rattle.ob0_run_cells.proofs.Represented.{number-in, number-read, number-stored, place-in, put-represents, truth-in, truth-stored, use-place, use-represents}
 
-pub standard-is : (typing : StoreTyping) (q : StandardProcedure) (a : Option (Object Place (List Mode))) → RunObjectAgrees typing (Some (a_standard q)) a → a ≡ Some (a_standard q)
+pub standard-is : (typing : StoreTyping) (q : StandardProcedure) (a : Option (Object Place (List Mode))) → RunObjectAgreesWithCheckedObject typing (Some (a_standard q)) a → a ≡ Some (a_standard q)
 standard-is typing q (Some (a_standard p)) h = ap (λ q. Some (a_standard q)) (sym h)
 standard-is typing q _ h = absurd h
 
@@ -39,7 +39,7 @@ cells-cells_after_copy typing low s p q shape h fit_p fit_q =
     let inside_p = (places_are_slices typing s.store p shape h.store_fits fit_p).within in
     let done : WritesPlace typing s.store p v (cells_after_overwrite (address typing p) (cells_of v) (cells_of_store s.store)) = writing_places_writes_slices typing s.store p shape v h.store_fits fit_p at_q.has_shape in
     let n : length (cells_of v) ≡ size shape = cells-size v shape at_q.has_shape in
-    let m : store_size typing ≡ length (cells_of_store s.store) = sym (store-size typing s.store h.store_fits) in
+    let m : store_cell_count typing ≡ length (cells_of_store s.store) = sym (store-size typing s.store h.store_fits) in
     let copy : execution.cells_after_copy (cells_of_store s.store) (address typing p) (address typing q) (size shape) ≡ take (address typing p) (cells_of_store s.store) ++ (take (size shape) (drop (address typing q) (cells_of_store s.store)) ++ drop (address typing p + size shape) (cells_of_store s.store)) =
     cells_after_copy-within (cells_of_store s.store) (address typing p) (address typing q) (size shape) (subst (λ k. address typing p + size shape ≤ k) m inside_p) (subst (λ k. address typing q + size shape ≤ k) m at_q.within) in
     let same : execution.cells_after_copy low.cells (address typing p) (address typing q) (size shape) ≡ cells_of_store done.after =
@@ -89,8 +89,8 @@ module _ {N : Type 0} (checked : TypeMeanings N) (slots : N → Slot) (targets :
   unfolding execution.execute execute
   block-assigned x path e q r shape hq hr b shown t low s h =
       let (w, hw, same) = hr in
-      let here = moment b s.store [] in
-      let value : evaluate b.active s.store e ≡ (w here >>= (λ p. or_stuck (read_place s.store p))) = same here (moment-shown checked slots targets b shown s.store [] h.store_fits) in
+      let here = moment b s.store in
+      let value : evaluate b.active s.store e ≡ (w here >>= (λ p. or_stuck (read_place s.store p))) = same here (shown.is_moment s.store h.store_fits) in
       use-place b.typing shape low s (machine.address b.levels low.cells q) (designated_place b.active s.store x path) (λ to. execution.continue_with_result low (machine.address b.levels low.cells r) (λ from. execution.running record low { cells = execution.cells_after_copy low.cells to from (size shape) })) (λ p. continue_with_result s (evaluate b.active s.store e) (store_at s p)) h
       (place-in checked slots targets b shown q shape (place_of_designator x path) hq low s h)
       (λ p fit. subst (λ w. ProgressRepresents b.typing (execution.continue_with_result low (machine.address b.levels low.cells r) (λ from. execution.running record low { cells = execution.cells_after_copy low.cells (address b.typing p) from (size shape) })) w)
@@ -104,7 +104,7 @@ module _ {N : Type 0} (checked : TypeMeanings N) (slots : N → Slot) (targets :
   reads-mean x es e q st one hq b shown t low s h =
       let y : N = hq.name in
       let others : Tree N (items selector) = hq.path in
-      let is_bound : b.active.object_for x ≡ Some (a_standard read_procedure) = standard-is b.typing read_procedure (b.active.object_for x) (subst (λ o. RunObjectAgrees b.typing o (b.active.object_for x)) st (shown.names_fit.0 x)) in
+      let is_bound : b.active.object_for x ≡ Some (a_standard read_procedure) = standard-is b.typing read_procedure (b.active.object_for x) (subst (λ o. RunObjectAgreesWithCheckedObject b.typing o (b.active.object_for x)) st ((shown.is_moment s.store h.store_fits).names_fit.0 x)) in
       subst (λ o. ProgressRepresents b.typing (execution.continue_with_result low (machine.address b.levels low.cells q) (λ a. execution.read_number low a low.input)) (continue_with_result s (argument_modes_of o >>= (λ modes. evaluate_arguments b.active s.store modes (call_arguments es))) (λ args. perform_call o (b.enters x) args s))) (sym is_bound)
       (subst (λ l. ProgressRepresents b.typing (execution.continue_with_result low (machine.address b.levels low.cells q) (λ a. execution.read_number low a low.input)) (continue_with_result s (evaluate_arguments b.active s.store (by_place ∷ []) l) (λ args. perform_call (Some (a_standard read_procedure)) (b.enters x) args s))) (sym one)
       (subst (λ o. ProgressRepresents b.typing (execution.continue_with_result low (machine.address b.levels low.cells q) (λ a. execution.read_number low a low.input)) (continue_with_result s ((or_stuck o >>= (λ d. designated_place b.active s.store d.0 d.1 >>= (λ p. succeeds_with (place_argument p)))) >>= (λ a. succeeds_with (a ∷ []))) (λ args. perform_call (Some (a_standard read_procedure)) (b.enters x) args s))) (sym hq.is_designator)
@@ -115,7 +115,7 @@ module _ {N : Type 0} (checked : TypeMeanings N) (slots : N → Slot) (targets :
   pub writes-mean : (x : N) (es : Tree N (maybe arguments)) (e : Tree N expression) (n : lowered.Number) → checked.object_for x ≡ Some (a_standard write_procedure) → call_arguments es ≡ e ∷ [] → NumberMeans checked slots n (value_of_expression e) → CodeMeansStatement checked slots targets (lowered.writes n) (calls x es)
   unfolding execution.execute execute evaluate_arguments
   writes-mean x es e n st one hn b shown t low s h =
-      let is_bound : b.active.object_for x ≡ Some (a_standard write_procedure) = standard-is b.typing write_procedure (b.active.object_for x) (subst (λ o. RunObjectAgrees b.typing o (b.active.object_for x)) st (shown.names_fit.0 x)) in
+      let is_bound : b.active.object_for x ≡ Some (a_standard write_procedure) = standard-is b.typing write_procedure (b.active.object_for x) (subst (λ o. RunObjectAgreesWithCheckedObject b.typing o (b.active.object_for x)) st ((shown.is_moment s.store h.store_fits).names_fit.0 x)) in
       subst (λ o. ProgressRepresents b.typing (execution.continue_with_result low (machine.number b.levels low.cells n) (λ v. execution.running (execution.append_output low (execution.number_out v)))) (continue_with_result s (argument_modes_of o >>= (λ modes. evaluate_arguments b.active s.store modes (call_arguments es))) (λ args. perform_call o (b.enters x) args s))) (sym is_bound)
       (subst (λ l. ProgressRepresents b.typing (execution.continue_with_result low (machine.number b.levels low.cells n) (λ v. execution.running (execution.append_output low (execution.number_out v)))) (continue_with_result s (evaluate_arguments b.active s.store (by_value ∷ []) l) (λ args. perform_call (Some (a_standard write_procedure)) (b.enters x) args s))) (sym one)
       (subst (λ w. ProgressRepresents b.typing (execution.continue_with_result low (machine.number b.levels low.cells n) (λ v. execution.running (execution.append_output low (execution.number_out v)))) w) (sym (use-value-argument s (evaluate b.active s.store e) (λ args. perform_call (Some (a_standard write_procedure)) (b.enters x) args s)))
@@ -125,7 +125,7 @@ module _ {N : Type 0} (checked : TypeMeanings N) (slots : N → Slot) (targets :
   pub line-means : (x : N) (es : Tree N (maybe arguments)) → checked.object_for x ≡ Some (a_standard write_line_procedure) → call_arguments es ≡ [] → CodeMeansStatement checked slots targets lowered.writes_line (calls x es)
   unfolding execution.execute execute evaluate_arguments
   line-means x es st empty_list b shown t low s h =
-      let is_bound : b.active.object_for x ≡ Some (a_standard write_line_procedure) = standard-is b.typing write_line_procedure (b.active.object_for x) (subst (λ o. RunObjectAgrees b.typing o (b.active.object_for x)) st (shown.names_fit.0 x)) in
+      let is_bound : b.active.object_for x ≡ Some (a_standard write_line_procedure) = standard-is b.typing write_line_procedure (b.active.object_for x) (subst (λ o. RunObjectAgreesWithCheckedObject b.typing o (b.active.object_for x)) st ((shown.is_moment s.store h.store_fits).names_fit.0 x)) in
       subst (λ o. ProgressRepresents b.typing (execution.running (execution.append_output low execution.line_out)) (continue_with_result s (argument_modes_of o >>= (λ modes. evaluate_arguments b.active s.store modes (call_arguments es))) (λ args. perform_call o (b.enters x) args s))) (sym is_bound)
       (subst (λ l. ProgressRepresents b.typing (execution.running (execution.append_output low execution.line_out)) (continue_with_result s (evaluate_arguments b.active s.store [] l) (λ args. perform_call (Some (a_standard write_line_procedure)) (b.enters x) args s))) (sym empty_list)
       (put-represents b.typing low s execution.line_out h))

@@ -9,7 +9,8 @@ use Rattle.ob0_language_types.specs.WellTyped.{TypeMeanings}
 use Rattle.ob0_language_values.specs.Values.{Outcome, Value, add, add_short_circuits, ends_run_with, succeeds_with, multiply, multiply_short_circuits, number, apply_sign, ◌>>=◌}
 use Rattle.ob0_run_machine.specs.Evaluation as machine
 use Rattle.ob0_run_machine.specs.Lowered as lowered
-use Rattle.ob0_run_cells.specs.Lowering.{OutcomeByMoment, Moment, NumberStartsChain, NumberMeans, RestOfChain, Slot, outcome_of_remaining_addends, cells_at_moment, outcome_of_remaining_multipliers, value_of_factor, value_of_simple, value_of_term}
+use Rattle.ob0_run_cells.specs.Cells.{cells_of_store}
+use Rattle.ob0_run_cells.specs.Lowering.{OutcomeByMoment, Moment, NumberStartsChain, NumberMeans, RestOfChain, Slot, outcome_of_remaining_addends, outcome_of_remaining_multipliers, value_of_factor, value_of_simple, value_of_term}
 use Rattle.ob0_run_cells.proofs.LoweredOutcomes.{Operates, gives-then, grouped-then, checked_number-same, outcome-then, plus-same, followed_by}
 
 pub each-then : {A B : Type 0} (o : Outcome A) (f g : A → Outcome B) → ((a : A) → f a ≡ g a) → (o >>= f) ≡ (o >>= g)
@@ -26,14 +27,14 @@ module _ {N : Type 0} (checked : TypeMeanings N) (slots : N → Slot) where
   pub operation-means : (o : lowered.Operator) (op : Value → Value → Outcome Value) → Operates o op → (m n : lowered.Number) (v w : OutcomeByMoment N Value) → NumberMeans checked slots m v → NumberMeans checked slots n w
       → NumberMeans checked slots (lowered.operation o m n) (λ z. v z >>= (λ x. w z >>= op x))
   operation-means o op operates m n v w hm hn z shown =
-      outcome-then number number (machine.number z.levels (cells_at_moment z) m) (v z) (λ a. followed_by (machine.number z.levels (cells_at_moment z) n) (machine.apply_operator o a)) (λ x. w z >>= op x) (hm z shown)
-      (λ a. outcome-then number number (machine.number z.levels (cells_at_moment z) n) (w z) (machine.apply_operator o a) (op (number a)) (hn z shown) (operates a))
+      outcome-then number number (machine.number z.levels (cells_of_store z.store) m) (v z) (λ a. followed_by (machine.number z.levels (cells_of_store z.store) n) (machine.apply_operator o a)) (λ x. w z >>= op x) (hm z shown)
+      (λ a. outcome-then number number (machine.number z.levels (cells_of_store z.store) n) (w z) (machine.apply_operator o a) (op (number a)) (hn z shown) (operates a))
 
   pub plus-means : (n : lowered.Number) (v : OutcomeByMoment N Value) → NumberMeans checked slots n v → NumberMeans checked slots (lowered.operation lowered.sum n (lowered.literal (pos 0))) (λ z. v z >>= apply_sign (Some sign.Plus))
-  plus-means n v hn z shown = outcome-then number number (machine.number z.levels (cells_at_moment z) n) (v z) (λ a. machine.apply_operator lowered.sum a (pos 0)) (apply_sign (Some sign.Plus)) (hn z shown) plus-same
+  plus-means n v hn z shown = outcome-then number number (machine.number z.levels (cells_of_store z.store) n) (v z) (λ a. machine.apply_operator lowered.sum a (pos 0)) (apply_sign (Some sign.Plus)) (hn z shown) plus-same
 
   pub negative-means : (n : lowered.Number) (v : OutcomeByMoment N Value) → NumberMeans checked slots n v → NumberMeans checked slots (lowered.negative n) (λ z. v z >>= apply_sign (Some sign.Minus))
-  negative-means n v hn z shown = outcome-then number number (machine.number z.levels (cells_at_moment z) n) (v z) (λ a. machine.checked_number (neg_ℤ a)) (apply_sign (Some sign.Minus)) (hn z shown) (λ a. checked_number-same (neg_ℤ a))
+  negative-means n v hn z shown = outcome-then number number (machine.number z.levels (cells_of_store z.store) n) (v z) (λ a. machine.checked_number (neg_ℤ a)) (apply_sign (Some sign.Minus)) (hn z shown) (λ a. checked_number-same (neg_ℤ a))
 
   -- where nothing is left
   pub number-whole : (n : lowered.Number) (rest : RestOfChain N Value) (whole : OutcomeByMoment N Value) → ((z : Moment N) (v : Value) → rest z v ≡ succeeds_with v) → NumberStartsChain checked slots n rest whole → NumberMeans checked slots n whole

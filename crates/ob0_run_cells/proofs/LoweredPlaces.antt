@@ -7,25 +7,24 @@ use Rattle.ob0_language_types.specs.Expressions.{Meanings, Object, a_constant, a
 use Rattle.ob0_language_types.specs.Typing.{shape_of_field}
 use Rattle.ob0_language_types.specs.WellTyped.{Mode, TypeMeanings}
 use Rattle.ob0_language_values.specs.Values.{FieldShapes, Index, Outcome, Place, Shape, Step, Store, Value, Values, array_shape, at_field, at_index, value_at_path, boolean_shape, count_values, elements, ends_run_with, succeeds_with, integer_shape, number, or_stuck, value_at_step, read_place, record_shape, truth, ◌>>=◌}
-use Rattle.ob0_language_runs.specs.TypeAgreement.{HasShape, RunObjectAgrees, PlaceHasType, StoreHasTypes, StoreTyping, shape_at_step, shape_at_path}
+use Rattle.ob0_language_runs.specs.TypeAgreement.{HasShape, RunObjectAgreesWithCheckedObject, PlaceHasType, StoreHasTypes, StoreTyping, shape_at_step, shape_at_path}
 use Rattle.ob0_language_runs.proofs.Sound.{is_elements}
-use Rattle.ob0_language_runs.proofs.SoundStatements.{slice_get-grows}
 use Rattle.ob0_run_machine.specs.Evaluation as machine
 use Rattle.ob0_run_machine.specs.Evaluation.{Levels}
 use Rattle.ob0_run_machine.specs.Lowered as lowered
-use Rattle.ob0_run_cells.specs.Cells.{address, cells_of_store, field_offset, offset, size, store_size, step_offset, truth_cell}
-use Rattle.ob0_run_cells.specs.Lowering.{OutcomeByMoment, PlaceOutcomeHasType, Moment, NumberMeans, PlaceStartsChain, PlaceMeans, IsMomentOfModule, Slot, TruthMeans, PlaceHoldsValue, cells_at_moment, extended_place, in_activation, by_reference, of_module, outcome_of, place_at_offset, place_of_designator, outcome_of_remaining_selectors, slot_address, slot_place, value_of_expression, value_of_factor}
+use Rattle.ob0_run_cells.specs.Cells.{address, cells_of_store, field_offset, offset, size, store_cell_count, step_offset, truth_cell}
+use Rattle.ob0_run_cells.specs.Lowering.{OutcomeByMoment, PlaceOutcomeHasType, Moment, NumberMeans, PlaceStartsChain, PlaceMeans, IsMomentOfModule, Slot, TruthMeans, PlaceHoldsValue, extended_place, in_activation, by_reference, of_module, outcome_of, place_at_offset, place_of_designator, outcome_of_remaining_selectors, slot_address, slot_place, value_of_expression, value_of_factor}
 use Rattle.ob0_run_cells.proofs.LoweredNumbers.{each-then}
 use Rattle.ob0_run_cells.proofs.LoweredOutcomes.{Led, addresses, add_offset-same, given-same, gives-then, grouped-then, led-then, same, stuck-then, followed_by}
 use Rattle.ob0_run_cells.proofs.Places.{numbers_are_cells, parts_have_addresses, place-lies, places_are_slices, truths_are_cells}
 
 -- what names mean in the run, by what they mean in the checked module
 
-pub constant-is : (typing : StoreTyping) (v : Value) (a : Option (Object Place (List Mode))) → RunObjectAgrees typing (Some (a_constant v)) a → a ≡ Some (a_constant v)
+pub constant-is : (typing : StoreTyping) (v : Value) (a : Option (Object Place (List Mode))) → RunObjectAgreesWithCheckedObject typing (Some (a_constant v)) a → a ≡ Some (a_constant v)
 constant-is typing v (Some (a_constant w)) h = ap (λ v. Some (a_constant v)) (sym h)
 constant-is typing v _ h = absurd h
 
-pub variable-is : (typing : StoreTyping) (s : Shape) (a : Option (Object Place (List Mode))) → RunObjectAgrees typing (Some (a_variable s)) a → (p : Place) × (a ≡ Some (a_variable p)) × PlaceHasType typing p s
+pub variable-is : (typing : StoreTyping) (s : Shape) (a : Option (Object Place (List Mode))) → RunObjectAgreesWithCheckedObject typing (Some (a_variable s)) a → (p : Place) × (a ≡ Some (a_variable p)) × PlaceHasType typing p s
 variable-is typing s (Some (a_variable p)) h = (p, refl, h)
 variable-is typing s _ h = absurd h
 
@@ -124,7 +123,7 @@ pub step-alone : (s t : Shape) (step : Step) → shape_at_step s step ≡ Some t
 step-alone s t step e =
     let h : unwrap_or (option_map (offset []) (shape_at_step s step)) 0 ≡ 0 = ap (λ o. unwrap_or (option_map (offset []) o) 0) e in omega (arith, h)
 
-pub step-led : (typing : StoreTyping) (store : Store) → StoreHasTypes typing store → store_size typing < 2 ^ 64 → (p : Place) (s t : Shape) (step : Step) → PlaceHasType typing p s → shape_at_step s step ≡ Some t
+pub step-led : (typing : StoreTyping) (store : Store) → StoreHasTypes typing store → store_cell_count typing < 2 ^ 64 → (p : Place) (s t : Shape) (step : Step) → PlaceHasType typing p s → shape_at_step s step ≡ Some t
     → Led typing t (machine.gives (machine.add_offset (address typing p) (step_offset s step))) (succeeds_with (extended_place p (step ∷ [])))
 step-led typing store fits few p s t step fit e =
     let (is, there) = parts_have_addresses typing p (step ∷ []) s t fit (ap (option_and_then (shape_at_path [])) e) in
@@ -135,7 +134,7 @@ step-led typing store fits few p s t step fit e =
     record { is_same = ap succeeds_with (add_offset-same (address typing p) (step_offset s step) bound ∙ sym same_address); is_place = is }
 
 -- an element, by an index that was evaluated
-pub index-led : (typing : StoreTyping) (store : Store) → StoreHasTypes typing store → store_size typing < 2 ^ 64 → (p : Place) (k n : ℕ) (t : Shape) → PlaceHasType typing p (array_shape k n t)
+pub index-led : (typing : StoreTyping) (store : Store) → StoreHasTypes typing store → store_cell_count typing < 2 ^ 64 → (p : Place) (k n : ℕ) (t : Shape) → PlaceHasType typing p (array_shape k n t)
     → (o : machine.StepResult ℤ) (w : Outcome Value) → outcome_of number o ≡ w
     → Led typing t (followed_by o (machine.element_address (address typing p) n (size t))) (w >>= (λ x. or_stuck (read_place store p) >>= (λ u. element_step u x >>= (λ s. succeeds_with (extended_place p (s ∷ []))))))
 index-led typing store fits few p k n t fit o w e =
@@ -171,29 +170,29 @@ value-there {N} active store x path p e =
         each-then (evaluate_selectors active store v path) (λ steps. or_stuck (value_at_path steps v)) (λ steps. or_stuck (read_place store (extended_place p steps))) (λ steps. ap or_stuck (sym (read-extended_place store p steps ∙ ap (option_and_then (value_at_path steps)) h)))
         ∙ sym (grouped-then (evaluate_selectors active store v path) (λ steps. succeeds_with (extended_place p steps)) (λ p. or_stuck (read_place store p)))
 
-pub number-there : (typing : StoreTyping) (store : Store) (passed : List ℤ) → StoreHasTypes typing store → (o : machine.StepResult ℕ) (w : Outcome Place) → Led typing integer_shape o w
-    → outcome_of number (followed_by o (λ a. machine.gives (machine.cell_at (cells_of_store store ++ passed) a))) ≡ (w >>= (λ p. or_stuck (read_place store p)))
-number-there typing store passed fits (machine.gives a) (succeeds_with p) h =
+pub number-there : (typing : StoreTyping) (store : Store) → StoreHasTypes typing store → (o : machine.StepResult ℕ) (w : Outcome Place) → Led typing integer_shape o w
+    → outcome_of number (followed_by o (λ a. machine.gives (machine.cell_at (cells_of_store store) a))) ≡ (w >>= (λ p. or_stuck (read_place store p)))
+number-there typing store fits (machine.gives a) (succeeds_with p) h =
     let (found, writes) = numbers_are_cells typing store p fits h.is_place in
     let (n, read, cell) = found in
     let e : a ≡ address typing p = given-same a (address typing p) h.is_same in
-    ap (λ n. succeeds_with (number n)) (get_or_from_slice_get (cells_of_store store ++ passed) a n (pos 0) (ap (slice_get (cells_of_store store ++ passed)) e ∙ slice_get-grows (cells_of_store store) passed (address typing p) n cell)) ∙ sym (ap or_stuck read)
-number-there typing store passed fits (machine.ends x) (ends_run_with y) h = ap (λ w. w >>= (λ a. ends_run_with y)) (h.is_same)
-number-there typing store passed fits _ _ h = let e = h.is_same in absurd (cc)
+    ap (λ n. succeeds_with (number n)) (get_or_from_slice_get (cells_of_store store) a n (pos 0) (ap (slice_get (cells_of_store store)) e ∙ cell)) ∙ sym (ap or_stuck read)
+number-there typing store fits (machine.ends x) (ends_run_with y) h = ap (λ w. w >>= (λ a. ends_run_with y)) (h.is_same)
+number-there typing store fits _ _ h = let e = h.is_same in absurd (cc)
 
 is_true-cell : (b : Bool) → machine.is_true (truth_cell b) ≡ b
 is_true-cell true = refl
 is_true-cell false = refl
 
-pub truth-there : (typing : StoreTyping) (store : Store) (passed : List ℤ) → StoreHasTypes typing store → (o : machine.StepResult ℕ) (w : Outcome Place) → Led typing boolean_shape o w
-    → outcome_of truth (followed_by o (λ a. machine.gives (machine.is_true (machine.cell_at (cells_of_store store ++ passed) a)))) ≡ (w >>= (λ p. or_stuck (read_place store p)))
-truth-there typing store passed fits (machine.gives a) (succeeds_with p) h =
+pub truth-there : (typing : StoreTyping) (store : Store) → StoreHasTypes typing store → (o : machine.StepResult ℕ) (w : Outcome Place) → Led typing boolean_shape o w
+    → outcome_of truth (followed_by o (λ a. machine.gives (machine.is_true (machine.cell_at (cells_of_store store) a)))) ≡ (w >>= (λ p. or_stuck (read_place store p)))
+truth-there typing store fits (machine.gives a) (succeeds_with p) h =
     let (found, writes) = truths_are_cells typing store p fits h.is_place in
     let (b, read, cell) = found in
     let e : a ≡ address typing p = given-same a (address typing p) h.is_same in
-    ap (λ n. succeeds_with (truth (machine.is_true n))) (get_or_from_slice_get (cells_of_store store ++ passed) a (truth_cell b) (pos 0) (ap (slice_get (cells_of_store store ++ passed)) e ∙ slice_get-grows (cells_of_store store) passed (address typing p) (truth_cell b) cell)) ∙ (ap (λ b. succeeds_with (truth b)) (is_true-cell b) ∙ sym (ap or_stuck read))
-truth-there typing store passed fits (machine.ends x) (ends_run_with y) h = ap (λ w. w >>= (λ a. ends_run_with y)) (h.is_same)
-truth-there typing store passed fits _ _ h = let e = h.is_same in absurd (cc)
+    ap (λ n. succeeds_with (truth (machine.is_true n))) (get_or_from_slice_get (cells_of_store store) a (truth_cell b) (pos 0) (ap (slice_get (cells_of_store store)) e ∙ cell)) ∙ (ap (λ b. succeeds_with (truth b)) (is_true-cell b) ∙ sym (ap or_stuck read))
+truth-there typing store fits (machine.ends x) (ends_run_with y) h = ap (λ w. w >>= (λ a. ends_run_with y)) (h.is_same)
+truth-there typing store fits _ _ h = let e = h.is_same in absurd (cc)
 
 -- an index and the selectors after it, from a place that holds something
 pub index-left : {N : Type 0} (z : Moment N) (p : Place) (e : Tree N expression) (rest : Tree N (items selector)) (u : Value) → read_place z.store p ≡ Some u
@@ -211,19 +210,19 @@ index-left z p e rest u eu =
     ∙ sym (ap (λ o. or_stuck o >>= (λ u. (value_of_expression e z >>= (λ x. element_step u x >>= (λ s. or_stuck (value_at_step u s) >>= (λ w. evaluate_selectors z.active z.store w rest >>= (λ steps. succeeds_with (s ∷ steps)))))) >>= (λ steps. succeeds_with (extended_place p steps)))) eu))))
 
 module _ {N : Type 0} (checked : TypeMeanings N) (slots : N → Slot) where
-  pub led-at : (q : lowered.Place) (s : Shape) (v : OutcomeByMoment N Place) → PlaceMeans checked slots q s v → (z : Moment N) → IsMomentOfModule checked slots z → Led z.typing s (machine.address z.levels (cells_at_moment z) q) (v z)
+  pub led-at : (q : lowered.Place) (s : Shape) (v : OutcomeByMoment N Place) → PlaceMeans checked slots q s v → (z : Moment N) → IsMomentOfModule checked slots z → Led z.typing s (machine.address z.levels (cells_of_store z.store) q) (v z)
   led-at q s v h z shown = record { is_same = (h z shown).0; is_place = (h z shown).1 }
 
   pub variable-leads : (x : N) (s : Shape) (path : Tree N (items selector)) → checked.object_for x ≡ Some (a_variable s) → PlaceStartsChain checked slots (slot_place (slots x)) s path (place_of_designator x path)
   unfolding designated_place
   variable-leads x s path e = (
     (λ z. object_place (z.active.object_for x)),
-    (λ z shown. let (p, ep, fit) = variable-is z.typing s (z.active.object_for x) (subst (λ o. RunObjectAgrees z.typing o (z.active.object_for x)) e (shown.names_fit.0 x)) in
+    (λ z shown. let (p, ep, fit) = variable-is z.typing s (z.active.object_for x) (subst (λ o. RunObjectAgreesWithCheckedObject z.typing o (z.active.object_for x)) e (shown.names_fit.0 x)) in
         let there : slot_address z.levels (slots x) ≡ address z.typing p = shown.variables_in_slots x p ep in
         let within = (places_are_slices z.typing z.store p s shown.store_fits fit).within in
-        let few : store_size z.typing < 2 ^ 64 = shown.store_is_addressable in
+        let few : store_cell_count z.typing < 2 ^ 64 = shown.store_is_addressable in
         let bound : slot_address z.levels (slots x) < 2 ^ 64 = omega (arith, within, there, few) in (
-          ap (outcome_of same) (slot-found z.levels (cells_at_moment z) (slots x) bound) ∙ (ap succeeds_with there ∙ sym (ap (λ o. addresses z.typing (object_place {P = List Mode} o)) ep)),
+          ap (outcome_of same) (slot-found z.levels (cells_of_store z.store) (slots x) bound) ∙ (ap succeeds_with there ∙ sym (ap (λ o. addresses z.typing (object_place {P = List Mode} o)) ep)),
           subst (λ o. PlaceOutcomeHasType z.typing s (object_place {P = List Mode} o)) (sym ep) fit,
         )),
     λ z shown. refl,
@@ -235,9 +234,9 @@ module _ {N : Type 0} (checked : TypeMeanings N) (slots : N → Slot) where
   field-leads q k fs x t rest whole h e =
       let (v, hv, ev) = h in (
         (λ z. v z >>= (λ p. succeeds_with (extended_place p (at_field (checked.written x) ∷ [])))),
-        (λ z shown. let l = led-then z.typing (record_shape k fs) t (machine.address z.levels (cells_at_moment z) q) (v z) (λ a. machine.gives (machine.add_offset a (field_offset fs (checked.written x)))) (λ p. succeeds_with (extended_place p (at_field (checked.written x) ∷ [])))
+        (λ z shown. let l = led-then z.typing (record_shape k fs) t (machine.address z.levels (cells_of_store z.store) q) (v z) (λ a. machine.gives (machine.add_offset a (field_offset fs (checked.written x)))) (λ p. succeeds_with (extended_place p (at_field (checked.written x) ∷ [])))
             (led-at q (record_shape k fs) v hv z shown) (λ p fit. step-led z.typing z.store shown.store_fits shown.store_is_addressable p (record_shape k fs) t (at_field (checked.written x)) fit e) in
-            (ap (outcome_of same) (value_at_step-address z.levels (cells_at_moment z) q (field_offset fs (checked.written x))) ∙ l.is_same, l.is_place)),
+            (ap (outcome_of same) (value_at_step-address z.levels (cells_of_store z.store) q (field_offset fs (checked.written x))) ∙ l.is_same, l.is_place)),
         λ z shown. grouped-then (v z) (λ p. succeeds_with (extended_place p (at_field (checked.written x) ∷ []))) (outcome_of_remaining_selectors rest z)
             ∙ (each-then (v z) (λ p. outcome_of_remaining_selectors rest z (extended_place p (at_field (checked.written x) ∷ []))) (outcome_of_remaining_selectors (more (field x) rest) z)
             (λ p. left-extended_place z p (at_field (checked.written x)) rest
@@ -252,9 +251,9 @@ module _ {N : Type 0} (checked : TypeMeanings N) (slots : N → Slot) where
   index-leads q k n t e i rest whole h hi =
       let (v, hv, ev) = h in (
         (λ z. v z >>= (λ p. value_of_expression e z >>= (λ x. or_stuck (read_place z.store p) >>= (λ u. element_step u x >>= (λ s. succeeds_with (extended_place p (s ∷ []))))))),
-        (λ z shown. let l = led-then z.typing (array_shape k n t) t (machine.address z.levels (cells_at_moment z) q) (v z) (λ a. followed_by (machine.number z.levels (cells_at_moment z) i) (machine.element_address a n (size t))) (λ p. value_of_expression e z >>= (λ x. or_stuck (read_place z.store p) >>= (λ u. element_step u x >>= (λ s. succeeds_with (extended_place p (s ∷ []))))))
-            (led-at q (array_shape k n t) v hv z shown) (λ p fit. index-led z.typing z.store shown.store_fits shown.store_is_addressable p k n t fit (machine.number z.levels (cells_at_moment z) i) (value_of_expression e z) (hi z shown)) in
-            (ap (outcome_of same) (element-address z.levels (cells_at_moment z) q i n (size t)) ∙ l.is_same, l.is_place)),
+        (λ z shown. let l = led-then z.typing (array_shape k n t) t (machine.address z.levels (cells_of_store z.store) q) (v z) (λ a. followed_by (machine.number z.levels (cells_of_store z.store) i) (machine.element_address a n (size t))) (λ p. value_of_expression e z >>= (λ x. or_stuck (read_place z.store p) >>= (λ u. element_step u x >>= (λ s. succeeds_with (extended_place p (s ∷ []))))))
+            (led-at q (array_shape k n t) v hv z shown) (λ p fit. index-led z.typing z.store shown.store_fits shown.store_is_addressable p k n t fit (machine.number z.levels (cells_of_store z.store) i) (value_of_expression e z) (hi z shown)) in
+            (ap (outcome_of same) (element-address z.levels (cells_of_store z.store) q i n (size t)) ∙ l.is_same, l.is_place)),
         λ z shown. grouped-then (v z) (λ p. value_of_expression e z >>= (λ x. or_stuck (read_place z.store p) >>= (λ u. element_step u x >>= (λ s. succeeds_with (extended_place p (s ∷ [])))))) (outcome_of_remaining_selectors rest z)
             ∙ (each-place z.typing (array_shape k n t) (v z) (λ p. (value_of_expression e z >>= (λ x. or_stuck (read_place z.store p) >>= (λ u. element_step u x >>= (λ s. succeeds_with (extended_place p (s ∷ [])))))) >>= outcome_of_remaining_selectors rest z) (outcome_of_remaining_selectors (more (index e) rest) z) (hv z shown).1
             (λ p fit. let (u, eu, hu, write, made, keeps, lies) = place-lies z.typing z.store p (array_shape k n t) shown.store_fits fit in index-left z p e rest u eu) ∙ ev z shown),
@@ -274,28 +273,28 @@ module _ {N : Type 0} (checked : TypeMeanings N) (slots : N → Slot) where
   pub cell-means : (x : N) (s : Shape) (path : Tree N (items selector)) (q : lowered.Place) → checked.object_for x ≡ Some (a_variable s) → PlaceMeans checked slots q integer_shape (place_of_designator x path) → NumberMeans checked slots (lowered.cell q) (value_of_factor (designator x path))
   unfolding evaluate designated_place
   cell-means x s path q e h z shown =
-      let (p, ep, fit) = variable-is z.typing s (z.active.object_for x) (subst (λ o. RunObjectAgrees z.typing o (z.active.object_for x)) e (shown.names_fit.0 x)) in
-      number-there z.typing z.store z.passed_cells shown.store_fits (machine.address z.levels (cells_at_moment z) q) (place_of_designator x path z) (led-at q integer_shape (place_of_designator x path) h z shown) ∙ sym (value-there z.active z.store x path p ep)
+      let (p, ep, fit) = variable-is z.typing s (z.active.object_for x) (subst (λ o. RunObjectAgreesWithCheckedObject z.typing o (z.active.object_for x)) e (shown.names_fit.0 x)) in
+      number-there z.typing z.store shown.store_fits (machine.address z.levels (cells_of_store z.store) q) (place_of_designator x path z) (led-at q integer_shape (place_of_designator x path) h z shown) ∙ sym (value-there z.active z.store x path p ep)
 
   pub flag-means : (x : N) (s : Shape) (path : Tree N (items selector)) (q : lowered.Place) → checked.object_for x ≡ Some (a_variable s) → PlaceMeans checked slots q boolean_shape (place_of_designator x path) → TruthMeans checked slots (lowered.flag q) (value_of_factor (designator x path))
   unfolding evaluate designated_place
   flag-means x s path q e h z shown =
-      let (p, ep, fit) = variable-is z.typing s (z.active.object_for x) (subst (λ o. RunObjectAgrees z.typing o (z.active.object_for x)) e (shown.names_fit.0 x)) in
-      truth-there z.typing z.store z.passed_cells shown.store_fits (machine.address z.levels (cells_at_moment z) q) (place_of_designator x path z) (led-at q boolean_shape (place_of_designator x path) h z shown) ∙ sym (value-there z.active z.store x path p ep)
+      let (p, ep, fit) = variable-is z.typing s (z.active.object_for x) (subst (λ o. RunObjectAgreesWithCheckedObject z.typing o (z.active.object_for x)) e (shown.names_fit.0 x)) in
+      truth-there z.typing z.store shown.store_fits (machine.address z.levels (cells_of_store z.store) q) (place_of_designator x path z) (led-at q boolean_shape (place_of_designator x path) h z shown) ∙ sym (value-there z.active z.store x path p ep)
 
   pub number-constant : (x : N) (n : ℤ) → checked.object_for x ≡ Some (a_constant (number n)) → NumberMeans checked slots (lowered.literal n) (value_of_factor (designator x end))
   unfolding evaluate
   number-constant x n e z shown =
-      let is_bound : z.active.object_for x ≡ Some (a_constant (number n)) = constant-is z.typing (number n) (z.active.object_for x) (subst (λ o. RunObjectAgrees z.typing o (z.active.object_for x)) e (shown.names_fit.0 x)) in
+      let is_bound : z.active.object_for x ≡ Some (a_constant (number n)) = constant-is z.typing (number n) (z.active.object_for x) (subst (λ o. RunObjectAgreesWithCheckedObject z.typing o (z.active.object_for x)) e (shown.names_fit.0 x)) in
       sym (ap (λ o. object_value {P = List Mode} z.store o >>= (λ v. succeeds_with [] >>= (λ steps. or_stuck (value_at_path steps v)))) is_bound)
 
   pub truth-constant : (x : N) (b : Bool) → checked.object_for x ≡ Some (a_constant (truth b)) → TruthMeans checked slots (lowered.constant b) (value_of_factor (designator x end))
   unfolding evaluate
   truth-constant x b e z shown =
-      let is_bound : z.active.object_for x ≡ Some (a_constant (truth b)) = constant-is z.typing (truth b) (z.active.object_for x) (subst (λ o. RunObjectAgrees z.typing o (z.active.object_for x)) e (shown.names_fit.0 x)) in
+      let is_bound : z.active.object_for x ≡ Some (a_constant (truth b)) = constant-is z.typing (truth b) (z.active.object_for x) (subst (λ o. RunObjectAgreesWithCheckedObject z.typing o (z.active.object_for x)) e (shown.names_fit.0 x)) in
       sym (ap (λ o. object_value {P = List Mode} z.store o >>= (λ v. succeeds_with [] >>= (λ steps. or_stuck (value_at_path steps v)))) is_bound)
 
   pub block-designator : (q : lowered.Place) (s : Shape) (x : N) (v : Shape) (path : Tree N (items selector)) → checked.object_for x ≡ Some (a_variable v) → PlaceMeans checked slots q s (place_of_designator x path) → PlaceHoldsValue checked slots q s (value_of_factor (designator x path))
   unfolding evaluate designated_place
   block-designator q s x v path e hq =
-      (place_of_designator x path, hq, λ z shown. let (p, ep, fit) = variable-is z.typing v (z.active.object_for x) (subst (λ o. RunObjectAgrees z.typing o (z.active.object_for x)) e (shown.names_fit.0 x)) in value-there z.active z.store x path p ep)
+      (place_of_designator x path, hq, λ z shown. let (p, ep, fit) = variable-is z.typing v (z.active.object_for x) (subst (λ o. RunObjectAgreesWithCheckedObject z.typing o (z.active.object_for x)) e (shown.names_fit.0 x)) in value-there z.active z.store x path p ep)

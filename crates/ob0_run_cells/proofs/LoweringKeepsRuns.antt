@@ -1,6 +1,6 @@
 -- The run of a lowered program is the run of its module.
 use Rattle.std.specs.Option.{IfSome}
-use Rattle.std.proofs.Common.{◌≡◌, ℕ, ◌+◌, ◌^◌, ◌<◌, true, List, [], ℤ, sym, refl, ap, ◌∙◌, subst, arith}
+use Rattle.std.proofs.Common.{◌≡◌, ℕ, ◌+◌, true, List, [], ℤ, sym, refl, ap, ◌∙◌, subst, arith}
 use Rattle.ob0_tree.specs.Tree.{Tree, is_module, module_text}
 use Rattle.ob0_language_names.specs.Names.{Naming, naming_by_label}
 use Rattle.ob0_language_names.specs.Parts.{block_statements}
@@ -17,7 +17,7 @@ use Rattle.ob0_run_machine.specs.Execution as execution
 use Rattle.ob0_run_machine.specs.Lowered as lowered
 use Rattle.ob0_run_cells.specs.ActivationLaws.{LoweringKeepsRuns, run_of}
 use Rattle.ob0_run_cells.specs.Activations.{FirstBindingsAgree, PlacementState, ProgramMeansModule, RoutineTable, outermost_placement}
-use Rattle.ob0_run_cells.specs.Cells.{store_size}
+use Rattle.ob0_run_cells.specs.Cells.{store_cell_count}
 use Rattle.ob0_run_cells.specs.LoweredStatements.{ProgressRepresents, StateRepresents}
 use Rattle.ob0_run_cells.specs.Lowering.{of_module}
 use Rattle.ob0_run_cells.proofs.CallsLowered.{body-represents, calls-known, with-cells}
@@ -52,7 +52,7 @@ run-freed {N} naming (is_module x b closing) program c t input fits means =
       cells_counted = refl;
     } in
     let (g, after, q, eg, total, body_means, part) = block-placed table [] execution.module_levels 0 of_module (λ c. omega arith) 0 program.cells program.body b (outermost_environment naming) p f frame fits means in
-    let counted : 0 + q.cells ≡ store_size part.typing_now = part.frame.cells_counted in
+    let counted : 0 + q.cells ≡ store_cell_count part.typing_now = part.frame.cells_counted in
     let runs_body = execution.execute_sequence (execution.call program.procedures c t) t execution.module_levels program.body in
     let statements = execute_body naming g.env (call_freeing_variables naming c t g.env) t (block_statements b) record start { store = g.store } in
     let represents : StateRepresents part.typing_now low record start { store = g.store } = record {

@@ -1,25 +1,24 @@
 -- Arguments passed by lowered code, and calls.
 -- `Both R`: both outcomes give what R relates, or end alike. `use-both`, `both-then` compose it.
-use Rattle.std.proofs.Common.{◌≡◌, ℕ, zero, suc, ◌+◌, ◌-◌, ◌≤◌, Bool, true, List, [], ◌∷◌, ◌++◌, length, take, drop, ℤ, if◌then◌else◌, Some, Option, sym, refl, ap, ◌∙◌, subst, arith, append-nil, append_assoc, length-append, length-drop}
+use Rattle.std.proofs.Common.{◌≡◌, ℕ, ◌+◌, ◌≤◌, Bool, List, [], ◌∷◌, ◌++◌, length, take, drop, ℤ, if◌then◌else◌, Some, Option, sym, refl, ap, ◌∙◌, subst, append-nil, append_assoc}
 use Rattle.std.proofs.lemmas.Bool.{le-leb}
-use Rattle.std.proofs.lemmas.List.{drop-append-le, take-append-le}
 use Rattle.ob0_tree.specs.Tree.{Tree, arguments, calls, expression, items, maybe, selector}
 use Rattle.ob0_language_types.specs.Arguments.{call_arguments}
 use Rattle.ob0_language_types.specs.Expressions.{Object, a_procedure, designated_place, evaluate}
 use Rattle.ob0_language_types.specs.WellTyped.{FormalParameter, Mode, Signature, TypeMeanings}
-use Rattle.ob0_language_values.specs.Values.{Outcome, Place, Shape, Store, Value, ends_run_with, succeeds_with, number, or_stuck, read_place, truth, ◌>>=◌}
-use Rattle.ob0_language_runs.specs.TypeAgreement.{ArgumentsMatchSignature, HasShape, RunObjectAgrees, PlaceHasType, StoreHasTypes, StoreTyping, signature_modes}
+use Rattle.ob0_language_values.specs.Values.{Outcome, Place, Shape, Value, ends_run_with, succeeds_with, number, or_stuck, read_place, truth, ◌>>=◌}
+use Rattle.ob0_language_runs.specs.TypeAgreement.{ArgumentsMatchSignature, HasShape, RunObjectAgreesWithCheckedObject, PlaceHasType, StoreTyping, signature_modes}
 use Rattle.ob0_language_runs.specs.Runs.{Argument, Progress, State, evaluate_argument, evaluate_arguments, execute, argument_modes_of, perform_call, place_argument, continue_with_result, value_argument}
 use Rattle.ob0_language_runs.proofs.SoundStatements.{first-argument}
 use Rattle.ob0_run_machine.specs.Evaluation as machine
 use Rattle.ob0_run_machine.specs.Execution as execution
 use Rattle.ob0_run_machine.specs.Lowered as lowered
-use Rattle.ob0_run_cells.specs.Cells.{address, cells_of_store, cells_of, size, store_size}
-use Rattle.ob0_run_cells.specs.LoweredStatements.{CodeMeansArgument, CodeMeansArguments, BodyContext, ProgressRepresents, StateRepresents, IsBodyOfModule, CodeMeansStatement, Target, place_argument_addresses, value_argument_cells}
+use Rattle.ob0_run_cells.specs.Cells.{address, cells_of_store, cells_of, size, store_cell_count}
+use Rattle.ob0_run_cells.specs.LoweredStatements.{CodeMeansArgument, CodeMeansArguments, BodyContext, ProgressRepresents, StateRepresents, IsBodyOfModule, CodeMeansStatement, Target, place_argument_addresses, value_argument_cells, moment}
 use Rattle.ob0_run_cells.specs.Lowering.{Slot, end_of, outcome_of, place_of_designator, value_of_expression}
 use Rattle.ob0_run_cells.proofs.LoweredOutcomes.{Led, ended-same, given-same, grouped-then}
 use Rattle.ob0_run_cells.proofs.Places.{HoldsSlice, places_are_slices, store-size}
-use Rattle.ob0_run_cells.proofs.Represented.{alone-cells, truth_as_cell-same, moment, moment-shown, number-at, place-at, truth-at}
+use Rattle.ob0_run_cells.proofs.Represented.{truth_as_cell-same, number-in, place-in, truth-in}
 
 -- both give what is related, or both end alike
 abbrev pub Both : {A B : Type 0} → (A → B → Type 0) → machine.StepResult A → Outcome B → Type 0
@@ -42,13 +41,9 @@ both-led typing shape (machine.gives a) (succeeds_with p) h = (given-same a (add
 both-led typing shape (machine.ends x) (ends_run_with y) h = ended-same (end_of x) y h.is_same
 both-led typing shape _ _ h = let e = h.is_same in absurd (cc)
 
-pub both-number : (o : machine.StepResult ℤ) (w : Outcome Value) → outcome_of number o ≡ w → Both (λ n v. number n ≡ v) o w
-both-number (machine.gives n) w e = subst (λ w. Both (λ n v. number n ≡ v) (machine.gives n) w) e refl
-both-number (machine.ends x) w e = subst (λ w. Both (λ n v. number n ≡ v) (machine.ends x) w) e refl
-
-pub both-truth : (o : machine.StepResult Bool) (w : Outcome Value) → outcome_of truth o ≡ w → Both (λ b v. truth b ≡ v) o w
-both-truth (machine.gives b) w e = subst (λ w. Both (λ b v. truth b ≡ v) (machine.gives b) w) e refl
-both-truth (machine.ends x) w e = subst (λ w. Both (λ b v. truth b ≡ v) (machine.ends x) w) e refl
+pub both-same : {A B : Type 0} (f : A → B) (o : machine.StepResult A) (w : Outcome B) → outcome_of f o ≡ w → Both (λ a b. f a ≡ b) o w
+both-same f (machine.gives a) w e = subst (λ w. Both (λ a b. f a ≡ b) (machine.gives a) w) e refl
+both-same f (machine.ends x) w e = subst (λ w. Both (λ a b. f a ≡ b) (machine.ends x) w) e refl
 
 pub use-both : {A B : Type 0} (typing : StoreTyping) (R : A → B → Type 0) (low : execution.MachineState) (s : State) (o : machine.StepResult A) (w : Outcome B) (k : A → execution.MachineProgress) (j : B → Progress) → StateRepresents typing low s → Both R o w
     → ((a : A) (b : B) → R a b → ProgressRepresents typing (k a) (j b)) → ProgressRepresents typing (execution.continue_with_result low o k) (continue_with_result s w j)
@@ -77,85 +72,78 @@ passes-on typing f fs done p q a args h k = record {
   addresses_passed = k.addresses_passed ∙ (ap (λ l. l ++ place_argument_addresses typing args) h.addresses_passed ∙ (append_assoc done.addresses (place_argument_addresses typing (a ∷ [])) (place_argument_addresses typing args) ∙ ap (λ l. done.addresses ++ l) (addresses-joined typing a args)));
 }
 
--- a block of cells of a store, with others after them
-pub block-there : (cells others : List ℤ) (from n : ℕ) → from + n ≤ length cells → execution.block_or_zeros_at (cells ++ others) from n ≡ take n (drop from cells)
-block-there cells others from n h =
-    let whole : length (cells ++ others) ≡ length cells + length others = length-append cells others in
-    let dropped : length (drop from cells) ≡ length cells - from = length-drop from cells in
-    let within : from + n ≤ length (cells ++ others) = omega (arith, h, whole) in
-    let start : from ≤ length cells = omega (arith, h) in
-    let left : n ≤ length (drop from cells) = omega (arith, h, dropped) in
-    ap (λ b. if b then take n (drop from (cells ++ others)) else execution.zeros n) (le-leb (from + n) (length (cells ++ others)) within)
-    ∙ (ap (take n) (drop-append-le from cells others start) ∙ take-append-le n (drop from cells) others left)
+-- a block of cells that exist
+pub block-there : (cells : List ℤ) (from n : ℕ) → from + n ≤ length cells → execution.block_or_zeros_at cells from n ≡ take n (drop from cells)
+block-there cells from n h = ap (λ b. if b then take n (drop from cells) else execution.zeros n) (le-leb (from + n) (length cells) h)
 
-module _ {N : Type 0} (checked : TypeMeanings N) (slots : N → Slot) (targets : N → Target) (b : BodyContext N) (shown : IsBodyOfModule checked slots targets b) (store : Store) (fits : StoreHasTypes b.typing store) where
-  pub argument-passed : (f : FormalParameter) (c : lowered.LoweredArgument) (e : Tree N expression) → CodeMeansArgument checked slots f c e → (done : execution.CallArguments) (passed : List ℤ) → done.cells ≡ cells_of_store store ++ passed
-      → Both (λ p a. Passes b.typing (f ∷ []) done p (a ∷ [])) (execution.pass_argument b.levels c done) (evaluate_argument b.active store f.mode e)
+module _ {N : Type 0} (checked : TypeMeanings N) (slots : N → Slot) (targets : N → Target) (b : BodyContext N) (shown : IsBodyOfModule checked slots targets b) (low : execution.MachineState) (s : State) (represents : StateRepresents b.typing low s) where
+  pub argument-passed : (f : FormalParameter) (c : lowered.LoweredArgument) (e : Tree N expression) → CodeMeansArgument checked slots f c e → (done : execution.CallArguments)
+      → Both (λ p a. Passes b.typing (f ∷ []) done p (a ∷ [])) (execution.pass_argument b.levels low.cells c done) (evaluate_argument b.active s.store f.mode e)
   unfolding evaluate_argument
-  argument-passed f (lowered.by_place q) e h done passed same =
+  argument-passed f (lowered.by_place q) e h done =
       let x : N = h.1.name in
       let path : Tree N (items selector) = h.1.path in
-      subst (λ m. Both (λ p a. Passes b.typing (f ∷ []) done p (a ∷ [])) (execution.pass_argument b.levels (lowered.by_place q) done) (evaluate_argument b.active store m e)) (sym h.0)
-      (subst (λ o. Both (λ p a. Passes b.typing (f ∷ []) done p (a ∷ [])) (execution.pass_argument b.levels (lowered.by_place q) done) (or_stuck o >>= (λ d. designated_place b.active store d.0 d.1 >>= (λ p. succeeds_with (place_argument p))))) (sym h.1.is_designator)
-      (both-then (λ a p. (a ≡ address b.typing p) × PlaceHasType b.typing p f.shape) (λ p a. Passes b.typing (f ∷ []) done p (a ∷ [])) (machine.address b.levels done.cells q) (designated_place b.active store x path) (λ a. machine.gives (record done { addresses = done.addresses ++ a ∷ [] })) (λ p. succeeds_with (place_argument p))
-      (both-led b.typing f.shape (machine.address b.levels done.cells q) (designated_place b.active store x path) (place-at checked slots targets b shown q f.shape (place_of_designator x path) h.1.place_means store passed done.cells fits same))
+      subst (λ m. Both (λ p a. Passes b.typing (f ∷ []) done p (a ∷ [])) (execution.pass_argument b.levels low.cells (lowered.by_place q) done) (evaluate_argument b.active s.store m e)) (sym h.0)
+      (subst (λ o. Both (λ p a. Passes b.typing (f ∷ []) done p (a ∷ [])) (execution.pass_argument b.levels low.cells (lowered.by_place q) done) (or_stuck o >>= (λ d. designated_place b.active s.store d.0 d.1 >>= (λ p. succeeds_with (place_argument p))))) (sym h.1.is_designator)
+      (both-then (λ a p. (a ≡ address b.typing p) × PlaceHasType b.typing p f.shape) (λ p a. Passes b.typing (f ∷ []) done p (a ∷ [])) (machine.address b.levels low.cells q) (designated_place b.active s.store x path) (λ a. machine.gives (record done { addresses = done.addresses ++ a ∷ [] })) (λ p. succeeds_with (place_argument p))
+      (both-led b.typing f.shape (machine.address b.levels low.cells q) (designated_place b.active s.store x path) (place-in checked slots targets b shown q f.shape (place_of_designator x path) h.1.place_means low s represents))
       (λ a p r. record {
         arguments_match = (h.0, r.1, tt);
         cells_passed = sym (append-nil done.cells);
         addresses_passed = ap (λ a. done.addresses ++ a ∷ []) r.0;
       })))
-  argument-passed f (lowered.by_number n) e h done passed same =
-      let is = number-at checked slots targets b shown n (value_of_expression e) h.2 store passed done.cells fits same in
-      subst (λ m. Both (λ p a. Passes b.typing (f ∷ []) done p (a ∷ [])) (execution.pass_argument b.levels (lowered.by_number n) done) (evaluate_argument b.active store m e)) (sym h.0)
-      (both-then (λ n v. number n ≡ v) (λ p a. Passes b.typing (f ∷ []) done p (a ∷ [])) (machine.number b.levels done.cells n) (evaluate b.active store e) (λ a. machine.gives (execution.pass_cells done (a ∷ []))) (λ v. succeeds_with (value_argument v))
-      (both-number (machine.number b.levels done.cells n) (evaluate b.active store e) is)
+  argument-passed f (lowered.by_number n) e h done =
+      let is = number-in checked slots targets b shown n (value_of_expression e) h.2 low s represents in
+      subst (λ m. Both (λ p a. Passes b.typing (f ∷ []) done p (a ∷ [])) (execution.pass_argument b.levels low.cells (lowered.by_number n) done) (evaluate_argument b.active s.store m e)) (sym h.0)
+      (both-then (λ n v. number n ≡ v) (λ p a. Passes b.typing (f ∷ []) done p (a ∷ [])) (machine.number b.levels low.cells n) (evaluate b.active s.store e) (λ a. machine.gives (execution.with_passed_cells done (a ∷ []))) (λ v. succeeds_with (value_argument v))
+      (both-same number (machine.number b.levels low.cells n) (evaluate b.active s.store e) is)
       (λ a v r. record {
         arguments_match = (h.0, subst (λ v. HasShape v f.shape) r (subst (λ s. HasShape (number a) s) (sym h.1) tt), tt);
         cells_passed = ap (λ v. done.cells ++ (cells_of v ++ [])) r;
         addresses_passed = sym (append-nil done.addresses);
       }))
-  argument-passed f (lowered.by_truth t) e h done passed same =
-      subst (λ m. Both (λ p a. Passes b.typing (f ∷ []) done p (a ∷ [])) (execution.pass_argument b.levels (lowered.by_truth t) done) (evaluate_argument b.active store m e)) (sym h.0)
-      (both-then (λ b v. truth b ≡ v) (λ p a. Passes b.typing (f ∷ []) done p (a ∷ [])) (machine.truth b.levels done.cells t) (evaluate b.active store e) (λ a. machine.gives (execution.pass_cells done (machine.truth_as_cell a ∷ []))) (λ v. succeeds_with (value_argument v))
-      (both-truth (machine.truth b.levels done.cells t) (evaluate b.active store e) (truth-at checked slots targets b shown t (value_of_expression e) h.2 store passed done.cells fits same))
+  argument-passed f (lowered.by_truth t) e h done =
+      subst (λ m. Both (λ p a. Passes b.typing (f ∷ []) done p (a ∷ [])) (execution.pass_argument b.levels low.cells (lowered.by_truth t) done) (evaluate_argument b.active s.store m e)) (sym h.0)
+      (both-then (λ b v. truth b ≡ v) (λ p a. Passes b.typing (f ∷ []) done p (a ∷ [])) (machine.truth b.levels low.cells t) (evaluate b.active s.store e) (λ a. machine.gives (execution.with_passed_cells done (machine.truth_as_cell a ∷ []))) (λ v. succeeds_with (value_argument v))
+      (both-same truth (machine.truth b.levels low.cells t) (evaluate b.active s.store e) (truth-in checked slots targets b shown t (value_of_expression e) h.2 low s represents))
       (λ a v r. record {
         arguments_match = (h.0, subst (λ v. HasShape v f.shape) r (subst (λ s. HasShape (truth a) s) (sym h.1) tt), tt);
         cells_passed = ap (λ n. done.cells ++ n ∷ []) (truth_as_cell-same a) ∙ ap (λ v. done.cells ++ (cells_of v ++ [])) r;
         addresses_passed = sym (append-nil done.addresses);
       }))
-  argument-passed f (lowered.by_block q n) e h done passed same =
+  argument-passed f (lowered.by_block q n) e h done =
       let (place, hq, reads_it) = h.2 in
-      let here = moment b store passed in
-      let value : evaluate b.active store e ≡ (place here >>= (λ p. or_stuck (read_place store p))) = reads_it here (moment-shown checked slots targets b shown store passed fits) in
-      subst (λ m. Both (λ p a. Passes b.typing (f ∷ []) done p (a ∷ [])) (execution.pass_argument b.levels (lowered.by_block q n) done) (evaluate_argument b.active store m e)) (sym h.0)
-      (subst (λ w. Both (λ p a. Passes b.typing (f ∷ []) done p (a ∷ [])) (execution.pass_argument b.levels (lowered.by_block q n) done) (w >>= (λ v. succeeds_with (value_argument v)))) (sym value)
-      (subst (λ w. Both (λ p a. Passes b.typing (f ∷ []) done p (a ∷ [])) (execution.pass_argument b.levels (lowered.by_block q n) done) w) (sym (grouped-then (place here) (λ p. or_stuck (read_place store p)) (λ v. succeeds_with (value_argument v))))
-      (both-then (λ a p. (a ≡ address b.typing p) × PlaceHasType b.typing p f.shape) (λ p a. Passes b.typing (f ∷ []) done p (a ∷ [])) (machine.address b.levels done.cells q) (place here) (λ a. machine.gives (execution.pass_cells done (execution.block_or_zeros_at done.cells a n))) (λ p. or_stuck (read_place store p) >>= (λ v. succeeds_with (value_argument v)))
-      (both-led b.typing f.shape (machine.address b.levels done.cells q) (place here) (place-at checked slots targets b shown q f.shape place hq store passed done.cells fits same))
-      (λ a p r. let at_p : HoldsSlice b.typing store p f.shape = places_are_slices b.typing store p f.shape fits r.1 in
+      let here = moment b s.store in
+      let value : evaluate b.active s.store e ≡ (place here >>= (λ p. or_stuck (read_place s.store p))) = reads_it here (shown.is_moment s.store represents.store_fits) in
+      subst (λ m. Both (λ p a. Passes b.typing (f ∷ []) done p (a ∷ [])) (execution.pass_argument b.levels low.cells (lowered.by_block q n) done) (evaluate_argument b.active s.store m e)) (sym h.0)
+      (subst (λ w. Both (λ p a. Passes b.typing (f ∷ []) done p (a ∷ [])) (execution.pass_argument b.levels low.cells (lowered.by_block q n) done) (w >>= (λ v. succeeds_with (value_argument v)))) (sym value)
+      (subst (λ w. Both (λ p a. Passes b.typing (f ∷ []) done p (a ∷ [])) (execution.pass_argument b.levels low.cells (lowered.by_block q n) done) w) (sym (grouped-then (place here) (λ p. or_stuck (read_place s.store p)) (λ v. succeeds_with (value_argument v))))
+      (both-then (λ a p. (a ≡ address b.typing p) × PlaceHasType b.typing p f.shape) (λ p a. Passes b.typing (f ∷ []) done p (a ∷ [])) (machine.address b.levels low.cells q) (place here) (λ a. machine.gives (execution.with_passed_cells done (execution.block_or_zeros_at low.cells a n))) (λ p. or_stuck (read_place s.store p) >>= (λ v. succeeds_with (value_argument v)))
+      (both-led b.typing f.shape (machine.address b.levels low.cells q) (place here) (place-in checked slots targets b shown q f.shape place hq low s represents))
+      (λ a p r. let at_p : HoldsSlice b.typing s.store p f.shape = places_are_slices b.typing s.store p f.shape represents.store_fits r.1 in
       let w : Value = at_p.value in
-      let m : store_size b.typing ≡ length (cells_of_store store) = sym (store-size b.typing store fits) in
-      let block : execution.block_or_zeros_at done.cells a n ≡ cells_of w =
-      (λ i. execution.block_or_zeros_at (same i) (r.0 i) (h.1 i)) ∙ (block-there (cells_of_store store) passed (address b.typing p) (size f.shape) (subst (λ k. address b.typing p + size f.shape ≤ k) m at_p.within) ∙ sym at_p.same_cells) in
-      subst (λ o. Both (λ p a. Passes b.typing (f ∷ []) done p (a ∷ [])) (machine.gives (execution.pass_cells done (execution.block_or_zeros_at done.cells a n))) (or_stuck o >>= (λ v. succeeds_with (value_argument v)))) (sym at_p.is_read) record {
+      let m : store_cell_count b.typing ≡ length (cells_of_store s.store) = sym (store-size b.typing s.store represents.store_fits) in
+      let block : execution.block_or_zeros_at low.cells a n ≡ cells_of w =
+      (λ i. execution.block_or_zeros_at (represents.same_cells i) (r.0 i) (h.1 i)) ∙ (block-there (cells_of_store s.store) (address b.typing p) (size f.shape) (subst (λ k. address b.typing p + size f.shape ≤ k) m at_p.within) ∙ sym at_p.same_cells) in
+      subst (λ o. Both (λ p a. Passes b.typing (f ∷ []) done p (a ∷ [])) (machine.gives (execution.with_passed_cells done (execution.block_or_zeros_at low.cells a n))) (or_stuck o >>= (λ v. succeeds_with (value_argument v)))) (sym at_p.is_read) record {
         arguments_match = (h.0, at_p.has_shape, tt);
         cells_passed = ap (λ l. done.cells ++ l) (block ∙ sym (append-nil (cells_of w)));
         addresses_passed = sym (append-nil done.addresses);
       }))))
 
-  pub arguments-passed : (fs : Signature) (cs : List lowered.LoweredArgument) (es : List (Tree N expression)) → CodeMeansArguments checked slots fs cs es → (done : execution.CallArguments) (passed : List ℤ) → done.cells ≡ cells_of_store store ++ passed
-      → Both (λ p args. Passes b.typing fs done p args) (execution.pass_arguments b.levels cs done) (evaluate_arguments b.active store (signature_modes fs) es)
+  pub arguments-passed : (fs : Signature) (cs : List lowered.LoweredArgument) (es : List (Tree N expression)) → CodeMeansArguments checked slots fs cs es → (done : execution.CallArguments)
+      → Both (λ p args. Passes b.typing fs done p args) (execution.pass_arguments b.levels low.cells cs done) (evaluate_arguments b.active s.store (signature_modes fs) es)
   unfolding evaluate_arguments
-  arguments-passed [] [] [] h done passed same = record { arguments_match = tt; cells_passed = sym (append-nil done.cells); addresses_passed = sym (append-nil done.addresses) }
-  arguments-passed (f ∷ fs) (c ∷ cs) (e ∷ es) h done passed same =
-      both-then (λ p a. Passes b.typing (f ∷ []) done p (a ∷ [])) (λ p args. Passes b.typing (f ∷ fs) done p args) (execution.pass_argument b.levels c done) (evaluate_argument b.active store f.mode e) (execution.pass_arguments b.levels cs) (λ a. evaluate_arguments b.active store (signature_modes fs) es >>= (λ rest. succeeds_with (a ∷ rest)))
-      (argument-passed f c e h.0 done passed same)
-      (λ p a one. both-made (λ q args. Passes b.typing fs p q args) (λ q args. Passes b.typing (f ∷ fs) done q args) (execution.pass_arguments b.levels cs p) (evaluate_arguments b.active store (signature_modes fs) es) (λ rest. a ∷ rest)
-      (arguments-passed fs cs es h.1 p (passed ++ value_argument_cells (a ∷ [])) (one.cells_passed ∙ (ap (λ l. l ++ value_argument_cells (a ∷ [])) same ∙ append_assoc (cells_of_store store) passed (value_argument_cells (a ∷ [])))))
+  arguments-passed [] [] [] h done = record { arguments_match = tt; cells_passed = sym (append-nil done.cells); addresses_passed = sym (append-nil done.addresses) }
+  arguments-passed (f ∷ fs) (c ∷ cs) (e ∷ es) h done =
+      both-then (λ p a. Passes b.typing (f ∷ []) done p (a ∷ [])) (λ p args. Passes b.typing (f ∷ fs) done p args) (execution.pass_argument b.levels low.cells c done) (evaluate_argument b.active s.store f.mode e) (execution.pass_arguments b.levels low.cells cs) (λ a. evaluate_arguments b.active s.store (signature_modes fs) es >>= (λ rest. succeeds_with (a ∷ rest)))
+      (argument-passed f c e h.0 done)
+      (λ p a one. both-made (λ q args. Passes b.typing fs p q args) (λ q args. Passes b.typing (f ∷ fs) done q args) (execution.pass_arguments b.levels low.cells cs p) (evaluate_arguments b.active s.store (signature_modes fs) es) (λ rest. a ∷ rest)
+      (arguments-passed fs cs es h.1 p)
       (λ q args more_passed. passes-on b.typing f fs done p q a args one more_passed))
-  arguments-passed _ _ _ h done passed same = absurd h
+  arguments-passed _ _ _ h done = absurd h
 
-pub procedure-is : (typing : StoreTyping) (signature : Signature) (a : Option (Object Place (List Mode))) → RunObjectAgrees typing (Some (a_procedure signature)) a → a ≡ Some (a_procedure (signature_modes signature))
+pub procedure-is : (typing : StoreTyping) (signature : Signature) (a : Option (Object Place (List Mode))) → RunObjectAgreesWithCheckedObject typing (Some (a_procedure signature)) a → a ≡ Some (a_procedure (signature_modes signature))
 procedure-is typing signature (Some (a_procedure modes)) h = ap (λ m. Some (a_procedure m)) h
 procedure-is typing signature _ h = absurd h
 
@@ -163,10 +151,10 @@ pub call-means : {N : Type 0} (checked : TypeMeanings N) (slots : N → Slot) (t
     → CodeMeansStatement checked slots targets (lowered.calls (targets x).procedure (targets x).up cs) (calls x es)
 unfolding execution.execute execute
 call-means {N} checked slots targets x es signature cs st ha b shown t low s h =
-    let is_bound : b.active.object_for x ≡ Some (a_procedure (signature_modes signature)) = procedure-is b.typing signature (b.active.object_for x) (subst (λ o. RunObjectAgrees b.typing o (b.active.object_for x)) st (shown.names_fit.0 x)) in
+    let is_bound : b.active.object_for x ≡ Some (a_procedure (signature_modes signature)) = procedure-is b.typing signature (b.active.object_for x) (subst (λ o. RunObjectAgreesWithCheckedObject b.typing o (b.active.object_for x)) st ((shown.is_moment s.store h.store_fits).names_fit.0 x)) in
     let enter = λ (p : execution.CallArguments). b.lowered_call_effect (targets x).procedure (execution.levels_in_call b.levels (length low.cells) (targets x).up p) (record low { cells = p.cells }) in
     let start : execution.CallArguments = record { cells = low.cells; addresses = [] } in
-    subst (λ o. ProgressRepresents b.typing (execution.continue_with_result low (execution.pass_arguments b.levels cs start) enter) (continue_with_result s (argument_modes_of o >>= (λ modes. evaluate_arguments b.active s.store modes (call_arguments es))) (λ args. perform_call o (b.enters x) args s))) (sym is_bound)
-    (use-both b.typing (λ p args. Passes b.typing signature start p args) low s (execution.pass_arguments b.levels cs start) (evaluate_arguments b.active s.store (signature_modes signature) (call_arguments es)) enter (λ args. b.enters x args s) h
-    (arguments-passed checked slots targets b shown s.store h.store_fits signature cs (call_arguments es) ha start [] (alone-cells checked slots targets b shown low s h))
+    subst (λ o. ProgressRepresents b.typing (execution.continue_with_result low (execution.pass_arguments b.levels low.cells cs start) enter) (continue_with_result s (argument_modes_of o >>= (λ modes. evaluate_arguments b.active s.store modes (call_arguments es))) (λ args. perform_call o (b.enters x) args s))) (sym is_bound)
+    (use-both b.typing (λ p args. Passes b.typing signature start p args) low s (execution.pass_arguments b.levels low.cells cs start) (evaluate_arguments b.active s.store (signature_modes signature) (call_arguments es)) enter (λ args. b.enters x args s) h
+    (arguments-passed checked slots targets b shown low s h signature cs (call_arguments es) ha start)
     (λ p args r. shown.calls_represent x signature st args low s p h r.arguments_match r.cells_passed r.addresses_passed))

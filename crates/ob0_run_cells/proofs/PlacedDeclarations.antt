@@ -1,7 +1,7 @@
 -- Declarations and parameters of an activation, where lowered code finds them.
 -- `Extends`: a frame with more variables, whose cells lie after those before. It composes (`extends-then`), so that
 -- declarations and parameters are each one step and the rest.
-use Rattle.std.proofs.Common.{◌≡◌, ℕ, zero, suc, ◌+◌, ◌≤◌, true, ◌&&◌, List, [], ◌∷◌, ◌++◌, drop, length, map, replicate, ℤ, pos, slice_index_or, Some, option_and_then, option_map, sym, refl, ap, ◌∙◌, subst, arith, append-nil, append_assoc}
+use Rattle.std.proofs.Common.{◌≡◌, ℕ, zero, suc, ◌+◌, true, ◌&&◌, List, [], ◌∷◌, ◌++◌, drop, length, map, replicate, ℤ, pos, slice_index_or, Some, option_and_then, option_map, sym, refl, ap, ◌∙◌, subst, arith, append-nil, append_assoc}
 use Rattle.std.proofs.lemmas.List.{replicate-append-replicate}
 use Rattle.ob0_tree.specs.Tree.{Tree, block, body, constant, declares, declares_constant, declares_type, declares_variable, end, forms_block, items, maybe, more, procedure, type_definition, variable}
 use Rattle.ob0_language_names.specs.Parts.{block_statements, constant_names, declared_type_names, names_in_list, procedure_name, section_constants, section_types, section_variables}
@@ -9,34 +9,34 @@ use Rattle.ob0_language_types.specs.Declarations.{constructors_before_variables,
 use Rattle.ob0_language_types.specs.Environments.{meanings}
 use Rattle.ob0_language_types.specs.Expressions.{a_constant, a_procedure, a_type, a_variable}
 use Rattle.ob0_language_types.specs.Typing.{constant_value, constructor_count, denoted_type}
-use Rattle.ob0_language_types.specs.WellTyped.{Signature, TypeEnvironment, TypedParameter, bind_names, bind_typed_parameters, block_is_well_typed, declare_typed_variables, bind_procedure, option_satisfies, procedure_is_well_typed, procedures_are_well_typed}
+use Rattle.ob0_language_types.specs.WellTyped.{Signature, TypeEnvironment, TypedParameter, bind_names, by_value, bind_typed_parameters, block_is_well_typed, declare_typed_variables, bind_procedure, option_satisfies, procedure_is_well_typed, procedures_are_well_typed}
 use Rattle.ob0_language_types.proofs.Literals.{some_inverse}
 use Rattle.ob0_language_values.specs.Values.{Shape, Store, Value, initial_value}
-use Rattle.ob0_language_runs.specs.TypeAgreement.{ArgumentsMatchSignature, RunEnvironmentAgrees, HasShape, StoreHasTypes, StoreTyping}
-use Rattle.ob0_language_runs.specs.Runs.{Activation, Argument, Frame, allocate, bind_parameter, bind_parameters, declare_block, declare_procedures, declare_variables, place_argument, value_argument, declare_procedures_in_frame}
+use Rattle.ob0_language_runs.specs.TypeAgreement.{ArgumentsMatchSignature, RunEnvironmentAgreesWithCheckedEnvironment, HasShape, StoreHasTypes, StoreTyping}
+use Rattle.ob0_language_runs.specs.Runs.{Activation, Argument, Frame, add_variables_to_frame, bind_parameter, bind_parameters, declare_block, declare_procedures, declare_variables, place_argument, value_argument, declare_procedures_in_frame}
 use Rattle.ob0_language_runs.proofs.SoundCalls.{ArgumentsMatchSignature-grows, as_parameter, constants-run, denoted_type-same, environments-grow, types-run}
 use Rattle.ob0_language_types.proofs.Conditions.{both_true}
 use Rattle.ob0_language_types.proofs.TypedElsewhere.{then_some}
 use Rattle.ob0_run_machine.specs.Evaluation.{Level, Levels}
 use Rattle.ob0_run_machine.specs.Lowered as lowered
-use Rattle.ob0_run_cells.specs.Activations.{RoutineTable, CodeMeansBlock, CodeMeansBody, PlacementState, Placement, PlacementFitsActivation, RoutinesMeanProcedures, bind_without_place, in_slot, nowhere, local_procedure_target, add_names_to_placement, add_name_to_placement, place_parameters, place_variables}
-use Rattle.ob0_run_cells.specs.Cells.{address, cells_of_store, cells_of, size, store_size}
+use Rattle.ob0_run_cells.specs.Activations.{AreSized, RoutineTable, CodeMeansBlock, CodeMeansBody, PlacementState, Placement, PlacementMatchesActivation, RoutinesMeanProcedures, bind_without_place, in_slot, nowhere, local_procedure_target, add_declared_names_to_placement, add_name_to_placement, place_parameters, place_variable_declarations}
+use Rattle.ob0_run_cells.specs.Cells.{address, cells_of_store, cells_of, size, store_cell_count}
 use Rattle.ob0_run_cells.specs.LoweredStatements.{place_argument_addresses, value_argument_cells}
 use Rattle.ob0_run_cells.specs.Lowering.{Slot, in_activation, by_reference, slot_address}
 use Rattle.ob0_run_cells.proofs.PlacedEnvironments.{placement-grows}
 use Rattle.ob0_run_cells.proofs.Places.{addresses_stay}
 use Rattle.ob0_run_cells.proofs.Variables.{initial_cells_are_zero, variables_are_added}
 
-pub store_size-append : (typing : StoreTyping) (s : Shape) → store_size (typing ++ s ∷ []) ≡ store_size typing + size s
-store_size-append [] s = omega arith
-store_size-append (t ∷ typing) s = let h = store_size-append typing s in omega (arith, h)
+pub store_cell_count-append : (typing : StoreTyping) (s : Shape) → store_cell_count (typing ++ s ∷ []) ≡ store_cell_count typing + size s
+store_cell_count-append [] s = omega arith
+store_cell_count-append (t ∷ typing) s = let h = store_cell_count-append typing s in omega (arith, h)
 
 -- a frame whose variables are placed: the cells of an activation are those from its base on
 pub record FramePlaced {N : Type 0} (table : RoutineTable N) (typing : StoreTyping) (ls : Levels) (base : ℕ) (checked : TypeEnvironment N) (p : PlacementState N) (f : Frame N) : Type 0 where
   pub store_fits : StoreHasTypes typing f.store
-  pub environment_fits : RunEnvironmentAgrees table.naming typing checked f.env
-  pub placing_fits : PlacementFitsActivation table typing ls checked p.placement f.env
-  pub cells_counted : base + p.cells ≡ store_size typing
+  pub environment_fits : RunEnvironmentAgreesWithCheckedEnvironment table.naming typing checked f.env
+  pub placing_fits : PlacementMatchesActivation table typing ls checked p.placement f.env
+  pub cells_counted : base + p.cells ≡ store_cell_count typing
 
 -- a frame with more variables, and their cells after those before
 pub record Extends {N : Type 0} (table : RoutineTable N) (typing : StoreTyping) (ls : Levels) (base : ℕ) (checked : TypeEnvironment N) (p : PlacementState N) (before : Store) (added : List ℤ) (g : Frame N) : Type 0 where
@@ -45,6 +45,11 @@ pub record Extends {N : Type 0} (table : RoutineTable N) (typing : StoreTyping) 
   pub is_grown : typing_now ≡ typing ++ others
   pub frame : FramePlaced table typing_now ls base checked p g
   pub cells_added : cells_of_store g.store ≡ cells_of_store before ++ added
+
+-- names that are bound before others are sized if those are
+names-sized : {N : Type 0} (size_of : N → ℕ) (xs : List N) (s : Shape) (env : TypeEnvironment N) → AreSized size_of (bind_names xs (a_variable s) env) → AreSized size_of env
+names-sized size_of [] s env sized = sized
+names-sized size_of (x ∷ xs) s env sized = (names-sized size_of xs s ((x, a_variable s) ∷ env) sized).1
 
 module _ {N : Type 0} (table : RoutineTable N) where
   pub extends-here : (typing : StoreTyping) (ls : Levels) (base : ℕ) (checked : TypeEnvironment N) (p : PlacementState N) (f : Frame N) → FramePlaced table typing ls base checked p f → Extends table typing ls base checked p f.store [] f
@@ -66,81 +71,88 @@ module _ {N : Type 0} (table : RoutineTable N) where
   -- constants and types
 
   pub constants-placed : (typing : StoreTyping) (ls : Levels) (cs : Tree N (items constant)) (checked after : TypeEnvironment N) (placement : Placement N) (active d : Activation N) → declare_constants table.naming checked cs ≡ Some after → declare_constants table.naming active cs ≡ Some d
-      → PlacementFitsActivation table typing ls checked placement active → PlacementFitsActivation table typing ls after (bind_without_place (constant_names cs) placement) d
+      → PlacementMatchesActivation table typing ls checked placement active → PlacementMatchesActivation table typing ls after (bind_without_place (constant_names cs) placement) d
   unfolding declare_constants
   constants-placed typing ls end checked after placement active d e e' h =
-      subst (λ a. PlacementFitsActivation table typing ls a placement d) (some_inverse {a = checked} {b = after} e) (subst (λ d. PlacementFitsActivation table typing ls checked placement d) (some_inverse {a = active} {b = d} e') h)
+      subst (λ a. PlacementMatchesActivation table typing ls a placement d) (some_inverse {a = checked} {b = after} e) (subst (λ d. PlacementMatchesActivation table typing ls checked placement d) (some_inverse {a = active} {b = d} e') h)
   constants-placed typing ls (more (declares_constant x c) cs) checked after placement active d e e' h =
       let (v, ev, e₁) = then_some (constant_value (meanings table.naming checked) c) (λ v. declare_constants table.naming ((x, a_constant v) ∷ checked) cs) after e in
       let (w, ew, e₂) = then_some (constant_value (meanings table.naming active) c) (λ v. declare_constants table.naming ((x, a_constant v) ∷ active) cs) d e' in
       constants-placed typing ls cs ((x, a_constant v) ∷ checked) after ((x, nowhere) ∷ placement) ((x, a_constant w) ∷ active) d e₁ e₂ record { activation_name_agrees = refl; placement_name_agrees = refl; here = tt; further = h }
 
   pub types-placed : (typing : StoreTyping) (ls : Levels) (k : ℕ) (ds : Tree N (items type_definition)) (checked after : TypeEnvironment N) (placement : Placement N) (active d : Activation N) → declare_types table.naming checked k ds ≡ Some after → declare_types table.naming active k ds ≡ Some d
-      → PlacementFitsActivation table typing ls checked placement active → PlacementFitsActivation table typing ls after (bind_without_place (declared_type_names ds) placement) d
+      → PlacementMatchesActivation table typing ls checked placement active → PlacementMatchesActivation table typing ls after (bind_without_place (declared_type_names ds) placement) d
   unfolding declare_types
   types-placed typing ls k end checked after placement active d e e' h =
-      subst (λ a. PlacementFitsActivation table typing ls a placement d) (some_inverse {a = checked} {b = after} e) (subst (λ d. PlacementFitsActivation table typing ls checked placement d) (some_inverse {a = active} {b = d} e') h)
+      subst (λ a. PlacementMatchesActivation table typing ls a placement d) (some_inverse {a = checked} {b = after} e) (subst (λ d. PlacementMatchesActivation table typing ls checked placement d) (some_inverse {a = active} {b = d} e') h)
   types-placed typing ls k (more (declares_type x u) ds) checked after placement active d e e' h =
       let (v, ev, e₁) = then_some (denoted_type (meanings table.naming checked) k u) (λ s. declare_types table.naming ((x, a_type s) ∷ checked) (k + constructor_count u) ds) after e in
       let (w, ew, e₂) = then_some (denoted_type (meanings table.naming active) k u) (λ s. declare_types table.naming ((x, a_type s) ∷ active) (k + constructor_count u) ds) d e' in
       types-placed typing ls (k + constructor_count u) ds ((x, a_type v) ∷ checked) after ((x, nowhere) ∷ placement) ((x, a_type w) ∷ active) d e₁ e₂ record { activation_name_agrees = refl; placement_name_agrees = refl; here = tt; further = h }
 
   -- one variable more, at the end of the store
-  pub variable-placed : (typing : StoreTyping) (ls : Levels) (base : ℕ) (checked : TypeEnvironment N) (p : PlacementState N) (f : Frame N) (x : N) (slot : Slot) (s : Shape) (v : Value) → slot_address ls slot ≡ base + p.cells → HasShape v s → FramePlaced table typing ls base checked p f
-      → FramePlaced table (typing ++ s ∷ []) ls base ((x, a_variable s) ∷ checked) (record p { placement = (x, in_slot slot) ∷ p.placement; cells = p.cells + size s }) (record { env = (x, a_variable record { variable = length f.store; path = [] }) ∷ f.env; store = f.store ++ v ∷ [] })
+  pub variable-placed : (typing : StoreTyping) (ls : Levels) (base : ℕ) (checked : TypeEnvironment N) (p : PlacementState N) (f : Frame N) (x : N) (slot : Slot) (s : Shape) (n : ℕ) (v : Value) → n ≡ size s → slot_address ls slot ≡ base + p.cells → HasShape v s → FramePlaced table typing ls base checked p f
+      → FramePlaced table (typing ++ s ∷ []) ls base ((x, a_variable s) ∷ checked) (record p { placement = (x, in_slot slot) ∷ p.placement; cells = p.cells + n }) (record { env = (x, a_variable record { variable = length f.store; path = [] }) ∷ f.env; store = f.store ++ v ∷ [] })
       × (cells_of_store (f.store ++ v ∷ []) ≡ cells_of_store f.store ++ cells_of v)
-  variable-placed typing ls base checked p f x slot s v at hv h =
+  variable-placed typing ls base checked p f x slot s n v sized at hv h =
       let added = variables_are_added typing f.store s v h.store_fits hv in
-      let counted : base + p.cells ≡ store_size typing = h.cells_counted in
-      let total : store_size (typing ++ s ∷ []) ≡ store_size typing + size s = store_size-append typing s in (
+      let counted : base + p.cells ≡ store_cell_count typing = h.cells_counted in
+      let total : store_cell_count (typing ++ s ∷ []) ≡ store_cell_count typing + size s = store_cell_count-append typing s in (
         record {
           store_fits = added.store_fits;
           environment_fits = (refl, added.place_fits, environments-grow table.naming typing (s ∷ []) checked f.env h.environment_fits);
           placing_fits = record { activation_name_agrees = refl; placement_name_agrees = refl; here = (added.place_fits, at ∙ (counted ∙ sym added.address_is)); further = placement-grows table typing (s ∷ []) checked f.env ls p.placement h.placing_fits };
-          cells_counted = omega (arith, counted, total);
+          cells_counted = omega (arith, counted, total, sized);
         },
         added.cells_added,
       )
 
-  pub names-placed : (typing : StoreTyping) (ls : Levels) (base : ℕ) (at : ℕ → Slot) → ((c : ℕ) → slot_address ls (at c) ≡ base + c) → (xs : List N) (s : Shape) (checked : TypeEnvironment N) (p : PlacementState N) (f : Frame N) → FramePlaced table typing ls base checked p f
-      → (n : ℕ) × ((add_names_to_placement at xs (size s) p).cells ≡ p.cells + n) × Extends table typing ls base (bind_names xs (a_variable s) checked) (add_names_to_placement at xs (size s) p) f.store (replicate n (pos 0)) (allocate xs (initial_value s) f)
-  names-placed typing ls base at is [] s checked p f h = (0, omega arith, extends-here typing ls base checked p f h)
-  names-placed typing ls base at is (x ∷ xs) s checked p f h =
+  variables-sized : (size_of : N → ℕ) (k : ℕ) (gs : Tree N (items variable)) (env inner : TypeEnvironment N) → declare_typed_variables table.naming k gs env ≡ Some inner → AreSized size_of inner → AreSized size_of env
+  unfolding declare_typed_variables
+  variables-sized size_of k end env inner e sized = subst (AreSized size_of) (sym (some_inverse {a = env} {b = inner} e)) sized
+  variables-sized size_of k (more (declares_variable ns u) gs) env inner e sized =
+      let (s, es, e₁) = then_some (denoted_type (meanings table.naming env) k u) (λ s. declare_typed_variables table.naming (k + constructor_count u) gs (bind_names (names_in_list ns) (a_variable s) env)) inner e in
+      names-sized size_of (names_in_list ns) s env (variables-sized size_of (k + constructor_count u) gs (bind_names (names_in_list ns) (a_variable s) env) inner e₁ sized)
+
+  pub names-placed : (typing : StoreTyping) (ls : Levels) (base : ℕ) (at : ℕ → Slot) → ((c : ℕ) → slot_address ls (at c) ≡ base + c) → (size_of : N → ℕ) (xs : List N) (s : Shape) (checked : TypeEnvironment N) (p : PlacementState N) (f : Frame N) → AreSized size_of (bind_names xs (a_variable s) checked) → FramePlaced table typing ls base checked p f
+      → (n : ℕ) × ((add_declared_names_to_placement at size_of by_value xs p).cells ≡ p.cells + n) × Extends table typing ls base (bind_names xs (a_variable s) checked) (add_declared_names_to_placement at size_of by_value xs p) f.store (replicate n (pos 0)) (add_variables_to_frame xs (initial_value s) f)
+  names-placed typing ls base at is size_of [] s checked p f sized h = (0, omega arith, extends-here typing ls base checked p f h)
+  names-placed typing ls base at is size_of (x ∷ xs) s checked p f sized h =
       let (fits, zero_cells) = initial_cells_are_zero s in
-      let (one, cells) = variable-placed typing ls base checked p f x (at p.cells) s (initial_value s) (is p.cells) fits h in
-      let (n, count, more_of) = names-placed (typing ++ s ∷ []) ls base at is xs s ((x, a_variable s) ∷ checked) (record p { placement = (x, in_slot (at p.cells)) ∷ p.placement; cells = p.cells + size s }) (record { env = (x, a_variable record { variable = length f.store; path = [] }) ∷ f.env; store = f.store ++ initial_value s ∷ [] }) one in (
+      let has_size : size_of x ≡ size s = (names-sized size_of xs s ((x, a_variable s) ∷ checked) sized).0 in
+      let q : PlacementState N = add_name_to_placement at by_value x (size_of x) p in
+      let (one, cells) = variable-placed typing ls base checked p f x (at p.cells) s (size_of x) (initial_value s) has_size (is p.cells) fits h in
+      let (n, count, more_of) = names-placed (typing ++ s ∷ []) ls base at is size_of xs s ((x, a_variable s) ∷ checked) q (record { env = (x, a_variable record { variable = length f.store; path = [] }) ∷ f.env; store = f.store ++ initial_value s ∷ [] }) sized one in (
         size s + n,
-        omega (arith, count),
-        extends-by typing ls base (bind_names xs (a_variable s) ((x, a_variable s) ∷ checked)) (add_names_to_placement at (x ∷ xs) (size s) p) f.store (replicate (size s) (pos 0) ++ replicate n (pos 0)) (replicate (size s + n) (pos 0)) (allocate (x ∷ xs) (initial_value s) f) (replicate-append-replicate (size s) n (pos 0))
-            (extends-then typing (typing ++ s ∷ []) (s ∷ []) ls base (bind_names xs (a_variable s) ((x, a_variable s) ∷ checked)) (add_names_to_placement at (x ∷ xs) (size s) p) f.store (f.store ++ initial_value s ∷ []) (replicate (size s) (pos 0)) (replicate n (pos 0)) (allocate (x ∷ xs) (initial_value s) f) refl (cells ∙ ap (λ l. cells_of_store f.store ++ l) zero_cells) more_of),
+        omega (arith, count, has_size),
+        extends-by typing ls base (bind_names xs (a_variable s) ((x, a_variable s) ∷ checked)) (add_declared_names_to_placement at size_of by_value xs q) f.store (replicate (size s) (pos 0) ++ replicate n (pos 0)) (replicate (size s + n) (pos 0)) (add_variables_to_frame (x ∷ xs) (initial_value s) f) (replicate-append-replicate (size s) n (pos 0))
+            (extends-then typing (typing ++ s ∷ []) (s ∷ []) ls base (bind_names xs (a_variable s) ((x, a_variable s) ∷ checked)) (add_declared_names_to_placement at size_of by_value xs q) f.store (f.store ++ initial_value s ∷ []) (replicate (size s) (pos 0)) (replicate n (pos 0)) (add_variables_to_frame (x ∷ xs) (initial_value s) f) refl (cells ∙ ap (λ l. cells_of_store f.store ++ l) zero_cells) more_of),
       )
 
-  pub variables-placed : (typing : StoreTyping) (ls : Levels) (base : ℕ) (at : ℕ → Slot) → ((c : ℕ) → slot_address ls (at c) ≡ base + c) → (k : ℕ) (gs : Tree N (items variable)) (checked inner : TypeEnvironment N) (p q : PlacementState N) (f : Frame N) → FramePlaced table typing ls base checked p f
-      → declare_typed_variables table.naming k gs checked ≡ Some inner → place_variables table.naming at checked k gs p ≡ Some q
-      → (g : Frame N) × (n : ℕ) × (declare_variables table.naming k gs f ≡ Some g) × (q.cells ≡ p.cells + n) × Extends table typing ls base inner q f.store (replicate n (pos 0)) g
-  unfolding declare_typed_variables declare_variables place_variables
-  variables-placed typing ls base at is k end checked inner p q f h e e' =
-      let same : p ≡ q = some_inverse e' in
-      (f, 0, refl, ap (λ q. q.cells) (sym same) ∙ omega arith, subst (λ q. Extends table typing ls base inner q f.store [] f) same (subst (λ c. Extends table typing ls base c p f.store [] f) (some_inverse {a = checked} {b = inner} e) (extends-here typing ls base checked p f h)))
-  variables-placed typing ls base at is k (more (declares_variable ns u) gs) checked inner p q f h e e' =
+  pub variables-placed : (typing : StoreTyping) (ls : Levels) (base : ℕ) (at : ℕ → Slot) → ((c : ℕ) → slot_address ls (at c) ≡ base + c) → (size_of : N → ℕ) (k : ℕ) (gs : Tree N (items variable)) (checked inner : TypeEnvironment N) (p : PlacementState N) (f : Frame N) → FramePlaced table typing ls base checked p f
+      → declare_typed_variables table.naming k gs checked ≡ Some inner → AreSized size_of inner
+      → (g : Frame N) × (n : ℕ) × (declare_variables table.naming k gs f ≡ Some g) × ((place_variable_declarations at size_of gs p).cells ≡ p.cells + n) × Extends table typing ls base inner (place_variable_declarations at size_of gs p) f.store (replicate n (pos 0)) g
+  unfolding declare_typed_variables declare_variables
+  variables-placed typing ls base at is size_of k end checked inner p f h e sized =
+      (f, 0, refl, omega arith, subst (λ c. Extends table typing ls base c p f.store [] f) (some_inverse {a = checked} {b = inner} e) (extends-here typing ls base checked p f h))
+  variables-placed typing ls base at is size_of k (more (declares_variable ns u) gs) checked inner p f h e sized =
       let (s, es, e₁) = then_some (denoted_type (meanings table.naming checked) k u) (λ s. declare_typed_variables table.naming (k + constructor_count u) gs (bind_names (names_in_list ns) (a_variable s) checked)) inner e in
-      let e₂ : place_variables table.naming at (bind_names (names_in_list ns) (a_variable s) checked) (k + constructor_count u) gs (add_names_to_placement at (names_in_list ns) (size s) p) ≡ Some q =
-      sym (ap (option_and_then (λ s. place_variables table.naming at (bind_names (names_in_list ns) (a_variable s) checked) (k + constructor_count u) gs (add_names_to_placement at (names_in_list ns) (size s) p))) es) ∙ e' in
-      let (m, count, part) = names-placed typing ls base at is (names_in_list ns) s checked p f h in
-      let (g, n, eg, counts, rest) = variables-placed part.typing_now ls base at is (k + constructor_count u) gs (bind_names (names_in_list ns) (a_variable s) checked) inner (add_names_to_placement at (names_in_list ns) (size s) p) q (allocate (names_in_list ns) (initial_value s) f) part.frame e₁ e₂ in (
+      let q : PlacementState N = add_declared_names_to_placement at size_of by_value (names_in_list ns) p in
+      let (m, count, part) = names-placed typing ls base at is size_of (names_in_list ns) s checked p f (variables-sized size_of (k + constructor_count u) gs (bind_names (names_in_list ns) (a_variable s) checked) inner e₁ sized) h in
+      let (g, n, eg, counts, rest) = variables-placed part.typing_now ls base at is size_of (k + constructor_count u) gs (bind_names (names_in_list ns) (a_variable s) checked) inner q (add_variables_to_frame (names_in_list ns) (initial_value s) f) part.frame e₁ sized in (
         g,
         m + n,
-        ap (option_and_then (λ s. declare_variables table.naming (k + constructor_count u) gs (allocate (names_in_list ns) (initial_value s) f))) (denoted_type-same table.naming typing checked f.env h.environment_fits k u ∙ es) ∙ eg,
+        ap (option_and_then (λ s. declare_variables table.naming (k + constructor_count u) gs (add_variables_to_frame (names_in_list ns) (initial_value s) f))) (denoted_type-same table.naming typing checked f.env h.environment_fits k u ∙ es) ∙ eg,
         omega (arith, count, counts),
-        extends-by typing ls base inner q f.store (replicate m (pos 0) ++ replicate n (pos 0)) (replicate (m + n) (pos 0)) g (replicate-append-replicate m n (pos 0))
-            (extends-then typing part.typing_now part.others ls base inner q f.store (allocate (names_in_list ns) (initial_value s) f).store (replicate m (pos 0)) (replicate n (pos 0)) g part.is_grown part.cells_added rest),
+        extends-by typing ls base inner (place_variable_declarations at size_of gs q) f.store (replicate m (pos 0) ++ replicate n (pos 0)) (replicate (m + n) (pos 0)) g (replicate-append-replicate m n (pos 0))
+            (extends-then typing part.typing_now part.others ls base inner (place_variable_declarations at size_of gs q) f.store (add_variables_to_frame (names_in_list ns) (initial_value s) f).store (replicate m (pos 0)) (replicate n (pos 0)) g part.is_grown part.cells_added rest),
       )
 
   -- procedures
 
-  pub procedures-placed : (typing : StoreTyping) (ls : Levels) (k : ℕ) (code : lowered.Instructions) (statements : Tree N (maybe body)) (ps : Tree N (items procedure)) (checked : TypeEnvironment N) (placement : Placement N) (active : Activation N) → RunEnvironmentAgrees table.naming typing checked active
-      → PlacementFitsActivation table typing ls checked placement active → procedures_are_well_typed table.naming checked k statements ps ≡ true → RoutinesMeanProcedures table checked placement k code statements ps
-      → (after : TypeEnvironment N) × (placed : Placement N) × RunEnvironmentAgrees table.naming typing after (declare_procedures k ps active) × PlacementFitsActivation table typing ls after placed (declare_procedures k ps active) × CodeMeansBody table.naming after placed code statements
+  pub procedures-placed : (typing : StoreTyping) (ls : Levels) (k : ℕ) (code : lowered.Instructions) (statements : Tree N (maybe body)) (ps : Tree N (items procedure)) (checked : TypeEnvironment N) (placement : Placement N) (active : Activation N) → RunEnvironmentAgreesWithCheckedEnvironment table.naming typing checked active
+      → PlacementMatchesActivation table typing ls checked placement active → procedures_are_well_typed table.naming checked k statements ps ≡ true → RoutinesMeanProcedures table checked placement k code statements ps
+      → (after : TypeEnvironment N) × (placed : Placement N) × RunEnvironmentAgreesWithCheckedEnvironment table.naming typing after (declare_procedures k ps active) × PlacementMatchesActivation table typing ls after placed (declare_procedures k ps active) × CodeMeansBody table.naming after placed code statements
   unfolding block_is_well_typed
   procedures-placed typing ls k code statements end checked placement active env h e means = (checked, placement, env, h, means)
   procedures-placed typing ls k code statements (more p rest) checked placement active env h e means =
@@ -162,8 +174,6 @@ module _ {N : Type 0} (table : RoutineTable N) where
       let b : Tree N block = forms_block (declares cs ts vs ps) statements in
       let first : TypeEnvironment N = means.first in
       let inner : TypeEnvironment N = means.inner in
-      let q : PlacementState N = means.placed in
-      let total : p.cells + cells ≡ q.cells = means.cells_counted in
       let fits : procedures_are_well_typed table.naming inner (constructors_before_procedures k b) statements ps ≡ true =
       subst (λ o. option_satisfies o (λ inner. procedures_are_well_typed table.naming inner (constructors_before_procedures k b) statements ps) ≡ true) (ap (option_and_then (declare_typed_variables table.naming (constructors_before_variables k b) (section_variables vs))) means.first_declared ∙ means.variables_declared) e in
       let (consts, ec, e₄) = then_some (declare_constants table.naming checked (section_constants cs)) (λ env. declare_types table.naming env k (section_types ts)) first means.first_declared in
@@ -172,8 +182,10 @@ module _ {N : Type 0} (table : RoutineTable N) where
       let (d₂, ed₂, fit₂) = types-run table.naming typing consts d₁ k (section_types ts) first fit₁ e₄ in
       let placed₂ = types-placed typing ls k (section_types ts) consts first (bind_without_place (constant_names (section_constants cs)) p.placement) d₁ d₂ e₄ ed₂ placed₁ in
       let p₂ : PlacementState N = record p { placement = bind_without_place (declared_type_names (section_types ts)) (bind_without_place (constant_names (section_constants cs)) p.placement) } in
+      let q : PlacementState N = place_variable_declarations at means.size_of (section_variables vs) p₂ in
+      let total : p.cells + cells ≡ q.cells = means.cells_counted in
       let f₂ : Frame N = record { env = d₂; store = f.store } in
-      let (g, n, eg, counts, part) = variables-placed typing ls base at is (constructors_before_variables k b) (section_variables vs) first inner p₂ q f₂ record { store_fits = h.store_fits; environment_fits = fit₂; placing_fits = placed₂; cells_counted = h.cells_counted } means.variables_declared means.variables_placed in
+      let (g, n, eg, counts, part) = variables-placed typing ls base at is means.size_of (constructors_before_variables k b) (section_variables vs) first inner p₂ f₂ record { store_fits = h.store_fits; environment_fits = fit₂; placing_fits = placed₂; cells_counted = h.cells_counted } means.variables_declared means.are_sized in
       let (after, placed, fit₄, placed₄, body_means) = procedures-placed part.typing_now ls (constructors_before_procedures k b) code statements ps inner q.placement g.env part.frame.environment_fits part.frame.placing_fits fits means.inside in
       let n_is : n ≡ cells = omega (arith, counts, total) in (
         declare_procedures_in_frame (constructors_before_procedures k b) ps g,
@@ -222,7 +234,7 @@ module _ {N : Type 0} (table : RoutineTable N) where
       )
   parameters-placed typing l ls (q ∷ ps) (value_argument v ∷ args) checked p f h fit there =
       let s = q.formal.shape in
-      let (one, cells) = variable-placed table typing (l ∷ ls) l.base checked p f q.name (in_activation 0 p.cells) s v refl fit.1 h in
+      let (one, cells) = variable-placed table typing (l ∷ ls) l.base checked p f q.name (in_activation 0 p.cells) s (size s) v refl refl fit.1 h in
       let p₁ : PlacementState N = record p { placement = (q.name, in_slot (in_activation 0 p.cells)) ∷ p.placement; cells = p.cells + size s } in
       let f₁ : Frame N = record { env = (q.name, a_variable record { variable = length f.store; path = [] }) ∷ f.env; store = f.store ++ v ∷ [] } in
       let (g, eg, part) = parameters-placed (typing ++ s ∷ []) l ls ps args ((q.name, a_variable s) ∷ checked) p₁ f₁ one (ArgumentsMatchSignature-grows typing (s ∷ []) (map (λ p. p.formal) ps) args fit.2) (there ∙ sym (arguments-stay typing (s ∷ []) (map (λ p. p.formal) ps) args fit.2)) in (

@@ -6,11 +6,11 @@ use Rattle.ob0_language_types.proofs.Conditions.{of_some}
 use Rattle.ob0_language_types.proofs.TypedElsewhere.{then_some}
 use Rattle.ob0_language_runs.proofs.Sound.{is_number, is_truth}
 use Rattle.ob0_language_runs.proofs.SoundStatements.{PlaceHasType-grows, set-fits, slice_get-grows, with_path-fits}
-use Rattle.ob0_run_cells.specs.Cells.{address, cells_of_store, cells_at, cells_of, cells_after_overwrite, offset, size, store_size, truth_cell}
+use Rattle.ob0_run_cells.specs.Cells.{address, cells_of_store, cells_at, cells_of, cells_after_overwrite, offset, size, store_cell_count, truth_cell}
 use Rattle.ob0_run_cells.proofs.Parts.{cells-size, lies-inside, path-lies}
 use Rattle.ob0_run_cells.proofs.Splits.{Lies, lies-following, lies-first, lies-within, split-at, split-get, split-set, split-with}
 
-pub store-size : (typing : StoreTyping) (store : Store) → StoreHasTypes typing store → length (cells_of_store store) ≡ store_size typing
+pub store-size : (typing : StoreTyping) (store : Store) → StoreHasTypes typing store → length (cells_of_store store) ≡ store_cell_count typing
 store-size [] [] h = refl
 store-size (s ∷ typing) (v ∷ store) h =
     length-append (cells_of v) (cells_of_store store) ∙ (ap (λ n. n + length (cells_of_store store)) (cells-size v s h.0) ∙ ap (λ n. size s + n) (store-size typing store h.1))
@@ -18,13 +18,13 @@ store-size _ _ h = absurd h
 
 -- a variable lies after the older ones
 pub variable-lies : (typing : StoreTyping) (store : Store) (n : ℕ) (s : Shape) → StoreHasTypes typing store → slice_get typing n ≡ Some s
-    → (v : Value) × (slice_get store n ≡ Some v) × HasShape v s × Lies cells_of_store store v (slice_set store n) (store_size (take n typing))
+    → (v : Value) × (slice_get store n ≡ Some v) × HasShape v s × Lies cells_of_store store v (slice_set store n) (store_cell_count (take n typing))
 variable-lies [] [] n s h e = absurd (cc)
 variable-lies (t ∷ typing) (v ∷ store) zero s h e =
     (v, refl, of_some (λ s. HasShape v s) e h.0, lies-first cells_of_store (v ∷ store) v (slice_set (v ∷ store) zero) (cells_of_store store) refl (λ new. refl))
 variable-lies (t ∷ typing) (v ∷ store) (suc n) s h e =
     let (w, ew, hw, l) = variable-lies typing store n s h.1 e in
-    (w, ew, hw, lies-following cells_of_store cells_of_store (v ∷ store) store w (slice_set (v ∷ store) (suc n)) (slice_set store n) (cells_of v) (size t) (store_size (take n typing)) refl (λ new. refl) (cells-size v t h.0) l)
+    (w, ew, hw, lies-following cells_of_store cells_of_store (v ∷ store) store w (slice_set (v ∷ store) (suc n)) (slice_set store n) (cells_of v) (size t) (store_cell_count (take n typing)) refl (λ new. refl) (cells-size v t h.0) l)
 variable-lies _ _ n s h e = absurd h
 
 -- what lies at a place, and what writing it makes of the store
@@ -46,13 +46,13 @@ place-lies typing store p s h e =
       (λ new hn. let (u, eu, hu) = with_path-fits p.path v t s new hv e₁ hn in
           let same : u ≡ write new = ap (λ o. unwrap_or o (write new)) (sym eu ∙ made new) in
           set-fits typing store p.variable t (write new) h et (subst (λ u. HasShape u t) same hu)),
-      subst (λ o. Lies cells_of_store store w (λ new. slice_set store p.variable (write new)) (store_size (take p.variable typing) + unwrap_or (option_map (offset p.path) o) 0)) (sym et)
-          (lies-within cells_of_store store v w (slice_set store p.variable) write (store_size (take p.variable typing)) (offset p.path t) l k),
+      subst (λ o. Lies cells_of_store store w (λ new. slice_set store p.variable (write new)) (store_cell_count (take p.variable typing) + unwrap_or (option_map (offset p.path) o) 0)) (sym et)
+          (lies-within cells_of_store store v w (slice_set store p.variable) write (store_cell_count (take p.variable typing)) (offset p.path t) l k),
     )
 
 -- a place holds a value of a type, whose cells are those of the store from the place's address on
 pub record HoldsSlice (typing : StoreTyping) (store : Store) (p : Place) (s : Shape) : Type 0 where
-  pub within : address typing p + size s ≤ store_size typing
+  pub within : address typing p + size s ≤ store_cell_count typing
   pub value : Value
   pub is_read : read_place store p ≡ Some value
   pub has_shape : HasShape value s
@@ -61,7 +61,7 @@ pub record HoldsSlice (typing : StoreTyping) (store : Store) (p : Place) (s : Sh
 pub places_are_slices : (typing : StoreTyping) (store : Store) (p : Place) (s : Shape) → StoreHasTypes typing store → PlaceHasType typing p s → HoldsSlice typing store p s
 places_are_slices typing store p s h e =
     let (v, ev, hv, write, made, fits, l) = place-lies typing store p s h e in record {
-      within = lies-inside cells_of_store store v write (address typing p) (size s) (store_size typing) l (cells-size v s hv) (store-size typing store h);
+      within = lies-inside cells_of_store store v write (address typing p) (size s) (store_cell_count typing) l (cells-size v s hv) (store-size typing store h);
       value = v;
       is_read = ev;
       has_shape = hv;
@@ -145,6 +145,6 @@ pub addresses_stay : (typing others : StoreTyping) (p : Place) (s : Shape) → P
 addresses_stay typing others p s fit =
     let (t, et, e₁) = then_some (slice_get typing p.variable) (shape_at_path p.path) s fit in (
       PlaceHasType-grows typing others p s fit,
-      ap (λ l. store_size l + unwrap_or (option_map (offset p.path) (slice_get (typing ++ others) p.variable)) 0) (taken-stays typing others p.variable t et)
-          ∙ ap (λ o. store_size (take p.variable typing) + unwrap_or (option_map (offset p.path) o) 0) (slice_get-grows typing others p.variable t et ∙ sym et),
+      ap (λ l. store_cell_count l + unwrap_or (option_map (offset p.path) (slice_get (typing ++ others) p.variable)) 0) (taken-stays typing others p.variable t et)
+          ∙ ap (λ o. store_cell_count (take p.variable typing) + unwrap_or (option_map (offset p.path) o) 0) (slice_get-grows typing others p.variable t et ∙ sym et),
     )

@@ -1,5 +1,5 @@
 -- Steps that states of lowered code and of the definition make alike.
-use Rattle.std.proofs.Common.{◌≡◌, ℕ, zero, suc, Bool, true, false, List, [], ◌∷◌, ◌++◌, take, drop, ℤ, slice_set, sym, refl, ap, ◌∙◌, subst, append-nil}
+use Rattle.std.proofs.Common.{◌≡◌, ℕ, zero, suc, Bool, true, false, List, [], ◌∷◌, ◌++◌, ℤ, slice_set, sym, refl, ap, ◌∙◌, subst}
 use Rattle.std.proofs.lemmas.List.{map-append}
 use Rattle.ob0_language_types.specs.WellTyped.{TypeMeanings}
 use Rattle.ob0_language_values.specs.Values.{Outcome, Place, Shape, Store, TurnBound, Value, boolean_shape, ends_run_with, succeeds_with, integer_shape, number, or_stuck, truth}
@@ -9,7 +9,7 @@ use Rattle.ob0_run_machine.specs.Evaluation as machine
 use Rattle.ob0_run_machine.specs.Execution as execution
 use Rattle.ob0_run_machine.specs.Lowered as lowered
 use Rattle.ob0_run_cells.specs.Cells.{address, cells_of_store, truth_cell}
-use Rattle.ob0_run_cells.specs.LoweredStatements.{BodyContext, ProgressRepresents, StateRepresents, IsBodyOfModule, Target, printed_item_of}
+use Rattle.ob0_run_cells.specs.LoweredStatements.{BodyContext, ProgressRepresents, StateRepresents, IsBodyOfModule, Target, moment, printed_item_of}
 use Rattle.ob0_run_cells.specs.Lowering.{OutcomeByMoment, Moment, NumberMeans, PlaceMeans, IsMomentOfModule, Slot, TruthMeans, end_of, outcome_of}
 use Rattle.ob0_run_cells.proofs.LoweredOutcomes.{Led, ended-same, given-same}
 use Rattle.ob0_run_cells.proofs.Places.{numbers_are_cells, truths_are_cells}
@@ -111,47 +111,19 @@ put-represents typing low s i h = record {
   same_output = map-append printed_item_of low.output (i ∷ []) ∙ ap (λ l. l ++ printed_item_of i ∷ []) h.same_output;
 }
 
--- moments of a body
-
-abbrev pub moment : {N : Type 0} → BodyContext N → Store → List ℤ → Moment N
-moment b store passed = record { typing = b.typing; store = store; passed_cells = passed; active = b.active; levels = b.levels }
+-- evaluations at a moment of a body
 
 module _ {N : Type 0} (checked : TypeMeanings N) (slots : N → Slot) (targets : N → Target) (b : BodyContext N) (shown : IsBodyOfModule checked slots targets b) where
-  pub moment-shown : (store : Store) (passed : List ℤ) → StoreHasTypes b.typing store → IsMomentOfModule checked slots (moment b store passed)
-  moment-shown store passed fits = record {
-    store_fits = fits;
-    names_fit = shown.names_fit;
-    variables_in_slots = shown.variables_in_slots;
-    store_is_addressable = shown.store_is_addressable;
-  }
-
-  pub number-at : (n : lowered.Number) (w : OutcomeByMoment N Value) → NumberMeans checked slots n w → (store : Store) (passed cells : List ℤ) → StoreHasTypes b.typing store → cells ≡ cells_of_store store ++ passed
-      → outcome_of number (machine.number b.levels cells n) ≡ w (moment b store passed)
-  number-at n w hn store passed cells fits e =
-      subst (λ l. outcome_of number (machine.number b.levels l n) ≡ w (moment b store passed)) (sym e) (hn (moment b store passed) (moment-shown store passed fits))
-
-  pub truth-at : (t : lowered.Truth) (w : OutcomeByMoment N Value) → TruthMeans checked slots t w → (store : Store) (passed cells : List ℤ) → StoreHasTypes b.typing store → cells ≡ cells_of_store store ++ passed
-      → outcome_of truth (machine.truth b.levels cells t) ≡ w (moment b store passed)
-  truth-at t w ht store passed cells fits e =
-      subst (λ l. outcome_of truth (machine.truth b.levels l t) ≡ w (moment b store passed)) (sym e) (ht (moment b store passed) (moment-shown store passed fits))
-
-  pub place-at : (q : lowered.Place) (shape : Shape) (w : OutcomeByMoment N Place) → PlaceMeans checked slots q shape w → (store : Store) (passed cells : List ℤ) → StoreHasTypes b.typing store → cells ≡ cells_of_store store ++ passed
-      → Led b.typing shape (machine.address b.levels cells q) (w (moment b store passed))
-  place-at q shape w hq store passed cells fits e =
-      let m = hq (moment b store passed) (moment-shown store passed fits) in
-      subst (λ l. Led b.typing shape (machine.address b.levels l q) (w (moment b store passed))) (sym e) record { is_same = m.0; is_place = m.1 }
-
-  -- the same in a state, with nothing passed
-
-  pub alone-cells : (low : execution.MachineState) (s : State) → StateRepresents b.typing low s → low.cells ≡ cells_of_store s.store ++ []
-  alone-cells low s h = h.same_cells ∙ sym (append-nil (cells_of_store s.store))
-
   pub number-in : (n : lowered.Number) (w : OutcomeByMoment N Value) → NumberMeans checked slots n w → (low : execution.MachineState) (s : State) → StateRepresents b.typing low s
-      → outcome_of number (machine.number b.levels low.cells n) ≡ w (moment b s.store [])
-  number-in n w hn low s h = number-at n w hn s.store [] low.cells h.store_fits (alone-cells low s h)
+      → outcome_of number (machine.number b.levels low.cells n) ≡ w (moment b s.store)
+  number-in n w hn low s h =
+      subst (λ l. outcome_of number (machine.number b.levels l n) ≡ w (moment b s.store)) (sym h.same_cells) (hn (moment b s.store) (shown.is_moment s.store h.store_fits))
 
-  pub truth-in : (t : lowered.Truth) (w : OutcomeByMoment N Value) → TruthMeans checked slots t w → (low : execution.MachineState) (s : State) → StateRepresents b.typing low s → outcome_of truth (machine.truth b.levels low.cells t) ≡ w (moment b s.store [])
-  truth-in t w ht low s h = truth-at t w ht s.store [] low.cells h.store_fits (alone-cells low s h)
+  pub truth-in : (t : lowered.Truth) (w : OutcomeByMoment N Value) → TruthMeans checked slots t w → (low : execution.MachineState) (s : State) → StateRepresents b.typing low s → outcome_of truth (machine.truth b.levels low.cells t) ≡ w (moment b s.store)
+  truth-in t w ht low s h =
+      subst (λ l. outcome_of truth (machine.truth b.levels l t) ≡ w (moment b s.store)) (sym h.same_cells) (ht (moment b s.store) (shown.is_moment s.store h.store_fits))
 
-  pub place-in : (q : lowered.Place) (shape : Shape) (w : OutcomeByMoment N Place) → PlaceMeans checked slots q shape w → (low : execution.MachineState) (s : State) → StateRepresents b.typing low s → Led b.typing shape (machine.address b.levels low.cells q) (w (moment b s.store []))
-  place-in q shape w hq low s h = place-at q shape w hq s.store [] low.cells h.store_fits (alone-cells low s h)
+  pub place-in : (q : lowered.Place) (shape : Shape) (w : OutcomeByMoment N Place) → PlaceMeans checked slots q shape w → (low : execution.MachineState) (s : State) → StateRepresents b.typing low s → Led b.typing shape (machine.address b.levels low.cells q) (w (moment b s.store))
+  place-in q shape w hq low s h =
+      let m = hq (moment b s.store) (shown.is_moment s.store h.store_fits) in
+      subst (λ l. Led b.typing shape (machine.address b.levels l q) (w (moment b s.store))) (sym h.same_cells) record { is_same = m.0; is_place = m.1 }

@@ -4,7 +4,7 @@ use Rattle.std.proofs.lemmas.List.{replicate-append-replicate, take_at}
 use Rattle.ob0_language_values.specs.Values.{FieldShapes, Shape, Store, Value, array_shape, copies, initial_value, initial_members, next_field_shape, no_field_shape, record_shape}
 use Rattle.ob0_language_runs.specs.TypeAgreement.{HasShape, PlaceHasType, StoreHasTypes, StoreTyping, shape_at_path}
 use Rattle.ob0_language_runs.proofs.SoundCalls.{initial-fits, last-shape, store-appends}
-use Rattle.ob0_run_cells.specs.Cells.{address, cells_of_store, cells_of, element_cells, total_field_size, member_cells, offset, size, store_size}
+use Rattle.ob0_run_cells.specs.Cells.{address, cells_of_store, cells_of, element_cells, total_field_size, member_cells, offset, size, store_cell_count}
 use Rattle.ob0_run_cells.proofs.Places.{store-size}
 
 pub zeros-join : (m n : ℕ) (a b : List ℤ) → a ≡ replicate m (pos 0) → b ≡ replicate n (pos 0) → a ++ b ≡ replicate (m + n) (pos 0)
@@ -34,7 +34,7 @@ cells-append [] b = refl
 cells-append (v ∷ a) b = ap (λ l. cells_of v ++ l) (cells-append a b) ∙ sym (append_assoc (cells_of v) (cells_of_store a) (cells_of_store b))
 
 -- a type added is the one at the place of a variable added
-pub taken-all : (typing : StoreTyping) (store : Store) (s : Shape) → StoreHasTypes typing store → store_size (take (length store) (typing ++ s ∷ [])) ≡ store_size typing
+pub taken-all : (typing : StoreTyping) (store : Store) (s : Shape) → StoreHasTypes typing store → store_cell_count (take (length store) (typing ++ s ∷ [])) ≡ store_cell_count typing
 taken-all [] [] s h = refl
 taken-all (t ∷ typing) (v ∷ store) s h = ap (λ n. size t + n) (taken-all typing store s h.1)
 taken-all _ _ s h = absurd h
@@ -44,12 +44,12 @@ pub record AddsVariable (typing : StoreTyping) (store : Store) (s : Shape) (v : 
   pub store_fits : StoreHasTypes (typing ++ s ∷ []) (store ++ v ∷ [])
   pub cells_added : cells_of_store (store ++ v ∷ []) ≡ cells_of_store store ++ cells_of v
   pub place_fits : PlaceHasType (typing ++ s ∷ []) record { variable = length store; path = [] } s
-  pub address_is : address (typing ++ s ∷ []) record { variable = length store; path = [] } ≡ store_size typing
+  pub address_is : address (typing ++ s ∷ []) record { variable = length store; path = [] } ≡ store_cell_count typing
 
 pub variables_are_added : (typing : StoreTyping) (store : Store) (s : Shape) (v : Value) → StoreHasTypes typing store → HasShape v s → AddsVariable typing store s v
 variables_are_added typing store s v h hv =
     let e : slice_get (typing ++ s ∷ []) (length store) ≡ Some s = last-shape typing store s h in
-    let b : store_size (take (length store) (typing ++ s ∷ [])) ≡ store_size typing = taken-all typing store s h in
+    let b : store_cell_count (take (length store) (typing ++ s ∷ [])) ≡ store_cell_count typing = taken-all typing store s h in
     let o : unwrap_or (option_map (offset []) (slice_get (typing ++ s ∷ []) (length store))) 0 ≡ 0 = ap (λ o. unwrap_or (option_map (offset []) o) 0) e in record {
       store_fits = store-appends typing store s v h hv;
       cells_added = cells-append store (v ∷ []) ∙ ap (λ l. cells_of_store store ++ l) (append-nil (cells_of v));

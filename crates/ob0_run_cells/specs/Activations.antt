@@ -4,19 +4,18 @@
 -- `of_module`, at offsets that begin with 0. Variables of a procedure are `in_activation 0`, after
 -- its value parameters. VAR parameters are `by_reference 0`, by their index among the VAR
 -- parameters. A procedure may have any index, if the entry of the routine table at this index is
--- correct code for the procedure's block. `PlacementFitsActivation` states that each binding of an activation
+-- correct code for the procedure's block. `PlacementMatchesActivation` states that each binding of an activation
 -- has the right place. For a procedure, this is stated with the placement at its declaration
 -- (`BindingIsPlaced`). So no slot has to be translated back to an outer level.
 -- Rule: docs/LANGUAGE.md, Runs 1, 6.
-use Rattle.std.specs.Prelude.{◌≡◌, ℕ, suc, ◌+◌, ◌≤◌, true, false, List, [], ◌∷◌, drop, slice_get, Some, Option, option_and_then}
+use Rattle.std.specs.Prelude.{◌≡◌, ℕ, suc, ◌+◌, true, false, List, [], ◌∷◌, drop, slice_get, Some}
 use Rattle.ob0_tree.specs.Tree.{Tree, begins, block, body, declares, declares_procedure, declares_variable, end, forms_block, item, items, maybe, module_text, more, none, one, procedure, variable}
 use Rattle.ob0_language_names.specs.Names.{Label, Naming, naming_by_label}
 use Rattle.ob0_language_names.specs.Parts.{block_constants, block_types, block_variables, constant_names, formal_sections, module_block, declared_type_names, names_in_list, procedure_formals, procedure_name}
 use Rattle.ob0_language_types.specs.Declarations.{constructors_before_variables, constructors_before_procedures, declare_constants_and_types, formals_constructor_count, procedure_constructor_count}
 use Rattle.ob0_language_types.specs.Environments.{meanings, outermost_environment}
 use Rattle.ob0_language_types.specs.Expressions.{Object, a_constant, a_procedure, a_standard, a_type, a_variable}
-use Rattle.ob0_language_types.specs.Typing.{constructor_count, denoted_type}
-use Rattle.ob0_language_types.specs.WellTyped.{Mode, Signature, TypeEnvironment, TypedParameter, bind_names, bind_typed_parameters, by_place, by_value, declare_typed_variables, bind_procedure, typed_parameters}
+use Rattle.ob0_language_types.specs.WellTyped.{Mode, Signature, TypeEnvironment, TypedParameter, bind_typed_parameters, by_place, by_value, declare_typed_variables, bind_procedure, typed_parameters}
 use Rattle.ob0_language_values.specs.Values.{Place, Shape}
 use Rattle.ob0_language_runs.specs.TypeAgreement.{PlaceHasType, StoreTyping}
 use Rattle.ob0_language_runs.specs.Runs.{Activation, ProcedureText}
@@ -46,28 +45,28 @@ placement_from_binding naming (b ∷ placement) x =
     elim (naming.same x b.0) [ true ↦ b ∷ placement | false ↦ placement_from_binding naming placement x ]
 
 -- returns the slot of a variable, or the module's first cell if the place isn't a slot
-abbrev pub slot_of : BindingPlace → Slot
-slot_of nowhere = of_module 0
-slot_of (in_slot s) = s
-slot_of (at_target t) = of_module 0
+abbrev pub slot_of_binding_place : BindingPlace → Slot
+slot_of_binding_place nowhere = of_module 0
+slot_of_binding_place (in_slot s) = s
+slot_of_binding_place (at_target t) = of_module 0
 
 -- returns the target of a procedure, or index 0 and 0 levels out if the place isn't a target
-abbrev pub target_of : BindingPlace → Target
-target_of nowhere = record { procedure = 0; up = 0 }
-target_of (in_slot s) = record { procedure = 0; up = 0 }
-target_of (at_target t) = t
+abbrev pub target_of_binding_place : BindingPlace → Target
+target_of_binding_place nowhere = record { procedure = 0; up = 0 }
+target_of_binding_place (in_slot s) = record { procedure = 0; up = 0 }
+target_of_binding_place (at_target t) = t
 
 -- returns the slot of the first binding of a placement, or the module's first cell if this binding
 -- has no slot or the placement is empty
 abbrev pub slot_of_first_binding : {N : Type 0} → Placement N → Slot
 slot_of_first_binding [] = of_module 0
-slot_of_first_binding (b ∷ placement) = slot_of b.1
+slot_of_first_binding (b ∷ placement) = slot_of_binding_place b.1
 
 -- returns the target of the first binding of a placement, or index 0 and 0 levels out if this
 -- binding has no target or the placement is empty
 abbrev pub target_of_first_binding : {N : Type 0} → Placement N → Target
 target_of_first_binding [] = record { procedure = 0; up = 0 }
-target_of_first_binding (b ∷ placement) = target_of b.1
+target_of_first_binding (b ∷ placement) = target_of_binding_place b.1
 
 -- returns the slot of a name in a placement, or the module's first cell if the name has no slot
 abbrev pub slot_in_placement : {N : Type 0} → Naming N → Placement N → N → Slot
@@ -114,27 +113,24 @@ add_name_to_placement at by_place x n p =
       var_parameters_so_far = suc p.var_parameters_so_far;
     }
 
--- Adds the names of variables with one type to a placement. Each variable gets `n` cells.
-abbrev pub add_names_to_placement : {N : Type 0} → (ℕ → Slot) → List N → ℕ → PlacementState N → PlacementState N
-add_names_to_placement at [] n p = p
-add_names_to_placement at (x ∷ xs) n p = add_names_to_placement at xs n (add_name_to_placement at by_value x n p)
+-- Adds the names of one declaration to a placement, one by one. `size_of` returns the number of
+-- cells of a name, and `at` converts the offset of a variable to its slot.
+abbrev pub add_declared_names_to_placement : {N : Type 0} → (ℕ → Slot) → (N → ℕ) → Mode → List N → PlacementState N
+    → PlacementState N
+add_declared_names_to_placement at size_of mode [] p = p
+add_declared_names_to_placement at size_of mode (x ∷ xs) p =
+    add_declared_names_to_placement at size_of mode xs (add_name_to_placement at mode x (size_of x) p)
 
--- Adds the variables of a block to a placement. `k` is the number of words ARRAY and RECORD before
--- these variables. Returns None if the type expression of a variable denotes no type.
-unfoldable pub place_variables : {N : Type 0}
-    → Naming N
+-- adds the variables of a block to a placement, one by one
+abbrev pub place_variable_declarations : {N : Type 0}
     → (ℕ → Slot)
-    → TypeEnvironment N
-    → ℕ
+    → (N → ℕ)
     → Tree N (items variable)
     → PlacementState N
-    → Option (PlacementState N)
-unfolding denoted_type
-place_variables naming at checked k end p = Some p
-place_variables naming at checked k (more (declares_variable ns u) gs) p =
-    option_and_then (λ s. place_variables naming at
-    (bind_names (names_in_list ns) (a_variable s) checked) (k + constructor_count u) gs
-    (add_names_to_placement at (names_in_list ns) (size s) p)) (denoted_type (meanings naming checked) k u)
+    → PlacementState N
+place_variable_declarations at size_of end p = p
+place_variable_declarations at size_of (more (declares_variable ns u) gs) p =
+    place_variable_declarations at size_of gs (add_declared_names_to_placement at size_of by_value (names_in_list ns) p)
 
 -- Adds the parameters of a procedure to a placement, one by one.
 abbrev pub place_parameters : {N : Type 0} → List (TypedParameter N) → PlacementState N → PlacementState N
@@ -147,6 +143,26 @@ place_parameters (q ∷ ps) p =
 abbrev pub bind_without_place : {N : Type 0} → List N → Placement N → Placement N
 bind_without_place [] placement = placement
 bind_without_place (x ∷ xs) placement = bind_without_place xs ((x, nowhere) ∷ placement)
+
+-- Adds the names that a block declares to a placement, except the names of its procedures.
+abbrev pub place_declarations : {N : Type 0} → (ℕ → Slot) → (N → ℕ) → Tree N block → PlacementState N
+    → PlacementState N
+place_declarations at size_of b p =
+    place_variable_declarations at size_of (block_variables b) record p {
+      placement
+          = bind_without_place (declared_type_names (block_types b))
+          (bind_without_place (constant_names (block_constants b)) p.placement);
+    }
+
+-- States that an object is a variable of `n` cells, or no variable.
+abbrev pub HasSize : ℕ → Object Shape Signature → Type 0
+HasSize n (a_variable s) = n ≡ size s
+HasSize n other = Unit {0}
+
+-- States that `size_of` returns the number of cells of each variable in an environment.
+abbrev pub AreSized : {N : Type 0} → (N → ℕ) → TypeEnvironment N → Type 0
+AreSized size_of [] = Unit {0}
+AreSized size_of (b ∷ env) = HasSize (size_of b.0) b.1 × AreSized size_of env
 
 -- returns the target of the procedure with this index, as seen from the activation in which the
 -- procedure is declared
@@ -186,7 +202,7 @@ routine_table_by_label routines = record { routines = routines; naming = naming_
 -- (`text`). The procedure is declared in the environment `checked`, with the placement `placement`.
 -- `Means` says that a routine is correct, in the environment and the placement that include the
 -- procedure and its parameters.
-pub record HasRoutine {N : Type 0} (table : RoutineTable N) (checked : TypeEnvironment N)
+pub record RoutineAtIndexMeansProcedure {N : Type 0} (table : RoutineTable N) (checked : TypeEnvironment N)
     (placement : Placement N) (x : N) (k : ℕ) (text : Tree N (item procedure)) (index : ℕ)
     (Means : TypeEnvironment N → PlacementState N → lowered.Routine → Type 0) : Type 0 where
   pub parameters : List (TypedParameter N)
@@ -198,26 +214,21 @@ pub record HasRoutine {N : Type 0} (table : RoutineTable N) (checked : TypeEnvir
       (placement_inside_procedure parameters ((x, local_procedure_target index) ∷ placement)) routine
 
 -- Runs 1 and 6: states that the variables of a block have `cells` cells, which follow the cells of
--- `p`. `Inside` is the fact that has to hold for the procedures and statements of the block, in the
--- environment and the placement that include the block's declarations.
+-- `p`. `size_of` returns the number of cells of each variable. `Inside` is the fact that has to hold
+-- for the procedures and statements of the block, in the environment and the placement that include
+-- the block's declarations.
 pub record BlockIsPlaced {N : Type 0} (table : RoutineTable N) (at : ℕ → Slot)
     (checked : TypeEnvironment N) (p : PlacementState N) (k cells : ℕ) (b : Tree N block)
     (Inside : TypeEnvironment N → Placement N → Type 0) : Type 0 where
   pub first : TypeEnvironment N
   pub inner : TypeEnvironment N
-  pub placed : PlacementState N
+  pub size_of : N → ℕ
   pub first_declared : declare_constants_and_types table.naming checked k b ≡ Some first
   pub variables_declared : declare_typed_variables table.naming (constructors_before_variables k b) (block_variables b) first
       ≡ Some inner
-  pub variables_placed : place_variables table.naming at first (constructors_before_variables k b)
-      (block_variables b) record p {
-        placement
-            = bind_without_place (declared_type_names (block_types b))
-            (bind_without_place (constant_names (block_constants b)) p.placement);
-      }
-      ≡ Some placed
-  pub cells_counted : p.cells + cells ≡ placed.cells
-  pub inside : Inside inner placed.placement
+  pub are_sized : AreSized size_of inner
+  pub cells_counted : p.cells + cells ≡ (place_declarations at size_of b p).cells
+  pub inside : Inside inner (place_declarations at size_of b p).placement
 
 -- States that code is correct for a block, for its procedures, and for the procedures inside them.
 -- `cells` is the number of cells of the variables that the block declares outside its procedures.
@@ -255,7 +266,7 @@ abbrev mutual
       CodeMeansBody table.naming checked placement code statements
   RoutinesMeanProcedures {N} table checked placement k code statements (more p rest) =
       (index : ℕ)
-      × (here : HasRoutine table checked placement (procedure_name p) k p index
+      × (here : RoutineAtIndexMeansProcedure table checked placement (procedure_name p) k p index
       (λ checked placed routine. RoutineMeansProcedure table checked placed k routine p))
       × RoutinesMeanProcedures table (bind_procedure (procedure_name p) here.parameters checked)
       ((procedure_name p, local_procedure_target index) ∷ placement) (k + procedure_constructor_count p) code
@@ -296,7 +307,7 @@ BindingIsPlaced {N} table typing ls checked Fits x (a_procedure signature) (at_t
     =
     (outer : Placement N)
     × Fits (drop t.up ls) outer
-    × HasRoutine table checked outer x code.constructors_before code.text t.procedure
+    × RoutineAtIndexMeansProcedure table checked outer x code.constructors_before code.text t.procedure
     (λ checked placed routine. RoutineMeansProcedure table checked placed code.constructors_before routine
     code.text)
 BindingIsPlaced table typing ls checked Fits x (a_type s) nowhere (a_type u) = Unit {0}
@@ -317,7 +328,7 @@ pub record FirstBindingsAgree {N : Type 0} (checked placed active : N) (Here Fur
 -- Runs 1 and 6: states that each binding of an activation has the right place (`BindingIsPlaced`),
 -- as seen from the activations `ls`. The environment, the placement and the activation have to bind
 -- the same names.
-abbrev pub PlacementFitsActivation : {N : Type 0}
+abbrev pub PlacementMatchesActivation : {N : Type 0}
     → RoutineTable N
     → StoreTyping
     → Levels
@@ -325,13 +336,13 @@ abbrev pub PlacementFitsActivation : {N : Type 0}
     → Placement N
     → Activation N
     → Type 0
-PlacementFitsActivation table typing ls [] [] [] = Unit {0}
-PlacementFitsActivation table typing ls (b ∷ checked) (w ∷ placement) (d ∷ active) =
+PlacementMatchesActivation table typing ls [] [] [] = Unit {0}
+PlacementMatchesActivation table typing ls (b ∷ checked) (w ∷ placement) (d ∷ active) =
     FirstBindingsAgree b.0 w.0 d.0
     (BindingIsPlaced table typing ls checked
-    (λ ls placement. PlacementFitsActivation table typing ls checked placement active) b.0 b.1 w.1 d.1)
-    (PlacementFitsActivation table typing ls checked placement active)
-PlacementFitsActivation table typing ls _ _ _ = ⊥
+    (λ ls placement. PlacementMatchesActivation table typing ls checked placement active) b.0 b.1 w.1 d.1)
+    (PlacementMatchesActivation table typing ls checked placement active)
+PlacementMatchesActivation table typing ls _ _ _ = ⊥
 
 -- returns the placement of the predeclared names, each with the place `nowhere`
 abbrev pub outermost_placement : {N : Type 0} → Naming N → Placement N

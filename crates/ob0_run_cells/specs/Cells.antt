@@ -52,9 +52,9 @@ abbrev mutual
   total_field_size (next_field_shape x s rest) = size s + total_field_size rest
 
 -- returns the number of cells of all variables in a store with these types
-abbrev pub store_size : StoreTyping → ℕ
-store_size [] = 0
-store_size (s ∷ typing) = size s + store_size typing
+abbrev pub store_cell_count : StoreTyping → ℕ
+store_cell_count [] = 0
+store_cell_count (s ∷ typing) = size s + store_cell_count typing
 
 -- Returns the offset of a field in its record: the number of cells of the fields before it. If
 -- there is no such field, this is the size of the record.
@@ -81,7 +81,7 @@ offset (step ∷ path) s =
 -- whose variables have these types
 abbrev pub address : StoreTyping → Place → ℕ
 address typing p =
-    store_size (take p.variable typing)
+    store_cell_count (take p.variable typing)
     + unwrap_or (option_map (offset p.path) (slice_get typing p.variable)) 0
 
 -- returns the `n` cells that begin at an address, or fewer if the list ends earlier

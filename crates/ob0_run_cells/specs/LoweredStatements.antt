@@ -1,20 +1,19 @@
 -- States when lowered statements are correct: they change the machine's cells, input and output as
 -- a module's statements change the module's store, input and output.
 -- Rule: docs/LANGUAGE.md, Runs 5 to 9.
-use Rattle.std.specs.Prelude.{◌≡◌, ℕ, ◌^◌, ◌<◌, true, List, [], ◌∷◌, ◌++◌, length, map, ℤ, Some}
+use Rattle.std.specs.Prelude.{◌≡◌, ℕ, List, [], ◌∷◌, ◌++◌, length, map, ℤ, Some}
 use Rattle.ob0_tree.specs.Tree.{Tree, else_part, elsif_part, expression, further_statement, items, maybe, selector, sequence, statement}
 use Rattle.ob0_language_types.specs.Expressions.{Meanings, a_procedure, a_variable}
 use Rattle.ob0_language_types.specs.Typing.{lone_designator}
 use Rattle.ob0_language_types.specs.WellTyped.{FormalParameter, Mode, Signature, TypeMeanings, by_place, by_value}
-use Rattle.ob0_language_values.specs.Values.{Place, Shape, boolean_shape, integer_shape}
-use Rattle.ob0_language_runs.specs.TypeAgreement.{ArgumentsMatchSignature, RunMeaningsAgree, StoreHasTypes, StoreTyping}
+use Rattle.ob0_language_values.specs.Values.{Place, Shape, Store, boolean_shape, integer_shape}
+use Rattle.ob0_language_runs.specs.TypeAgreement.{ArgumentsMatchSignature, StoreHasTypes, StoreTyping}
 use Rattle.ob0_language_runs.specs.Runs.{Argument, CallFunction, Progress, State, PrintedItem, execute, execute_sequence, execute_else, execute_elsifs, execute_further_statements, line_out, number_out, place_argument, running, stopped, value_argument}
-use Rattle.ob0_run_machine.specs.Evaluation as machine
 use Rattle.ob0_run_machine.specs.Evaluation.{Levels}
 use Rattle.ob0_run_machine.specs.Execution as execution
 use Rattle.ob0_run_machine.specs.Lowered as lowered
-use Rattle.ob0_run_cells.specs.Cells.{address, cells_of_store, cells_of, size, store_size}
-use Rattle.ob0_run_cells.specs.Lowering.{NumberMeans, PlaceMeans, Slot, TruthMeans, PlaceHoldsValue, end_of, place_of_designator, slot_address, value_of_expression}
+use Rattle.ob0_run_cells.specs.Cells.{address, cells_of_store, cells_of, size}
+use Rattle.ob0_run_cells.specs.Lowering.{IsMomentOfModule, Moment, NumberMeans, PlaceMeans, Slot, TruthMeans, PlaceHoldsValue, end_of, place_of_designator, value_of_expression}
 
 -- converts an item of the machine's output to an item of a module's output
 abbrev pub printed_item_of : execution.OutputItem → PrintedItem
@@ -85,16 +84,17 @@ CallsRepresent {N} checked targets b =
     (execution.levels_in_call b.levels (length low.cells) (targets x).up p) record low
     { cells = p.cells }) (b.enters x args s)
 
--- States that a body belongs to a checked module. Its variables are in their slots, and its store
--- has fewer than 2^64 cells. A lowered call of a procedure's target has the effect of a call of the
--- procedure.
+-- returns the moment of a body at which it has this store
+abbrev pub moment : {N : Type 0} → BodyContext N → Store → Moment N
+moment b store = record { typing = b.typing; store = store; active = b.active; levels = b.levels }
+
+-- States that a body belongs to a checked module: all its moments do (`IsMomentOfModule`), and a
+-- lowered call of a procedure's target has the effect of a call of the procedure.
 pub record IsBodyOfModule {N : Type 0} (checked : TypeMeanings N) (slots : N → Slot) (targets : N → Target)
     (b : BodyContext N) : Type 0 where
-  pub names_fit : RunMeaningsAgree b.typing checked b.active
-  pub variables_in_slots : (x : N) (p : Place)
-      → b.active.object_for x ≡ Some (a_variable p)
-      → slot_address b.levels (slots x) ≡ address b.typing p
-  pub store_is_addressable : store_size b.typing < 2 ^ 64
+  pub is_moment : (store : Store)
+      → StoreHasTypes b.typing store
+      → IsMomentOfModule checked slots (moment b store)
   pub calls_represent : CallsRepresent checked targets b
 
 -- states that a lowered step has the effect of a step of the module, in each body that belongs to

@@ -3,22 +3,20 @@
 -- example `NumberMeans`, relates lowered code to a function from moments to outcomes
 -- (`OutcomeByMoment`). The fact doesn't mention the tree of an expression, so operators need no
 -- types. Only places and variables need types. The value of an array or a record is in the cells at
--- a place (`PlaceHoldsValue`), even if its expression is in parentheses. A moment may be one at which
--- arguments are passed. The cells of these arguments then follow the cells of the store
--- (`passed_cells`).
+-- a place (`PlaceHoldsValue`), even if its expression is in parentheses.
 -- Rule: docs/LANGUAGE.md, Runs 2 to 4.
-use Rattle.std.specs.Prelude.{◌≡◌, ℕ, zero, suc, ◌+◌, ◌^◌, ◌<◌, true, List, ◌++◌, ℤ, slice_index_or, Some}
+use Rattle.std.specs.Prelude.{◌≡◌, ℕ, zero, suc, ◌+◌, ◌^◌, ◌<◌, List, ◌++◌, slice_index_or, Some}
 use Rattle.ob0_tree.specs.declared.tree.Relation.{Relation}
 use Rattle.ob0_tree.specs.declared.tree.Relation.TheVariants as relation
 use Rattle.ob0_tree.specs.Tree.{Tree, addend, expression, factor, items, multiplier, selector, simple, term}
 use Rattle.ob0_language_types.specs.Expressions.{Meanings, a_variable, designated_place, evaluate, evaluate_addends, evaluate_factor, evaluate_multipliers, evaluate_simple, evaluate_term, evaluate_selectors}
 use Rattle.ob0_language_types.specs.WellTyped.{Mode, TypeMeanings}
 use Rattle.ob0_language_values.specs.Values.{CallBound, Divisor, Done, End, Index, InputEnd, Outcome, Overflow, Place, Shape, Step, Store, TurnBound, Value, ends_run_with, succeeds_with, number, or_stuck, read_place, truth, ◌>>=◌}
-use Rattle.ob0_language_runs.specs.TypeAgreement.{RunMeaningsAgree, PlaceHasType, StoreHasTypes, StoreTyping}
+use Rattle.ob0_language_runs.specs.TypeAgreement.{RunMeaningsAgreeWithCheckedMeanings, PlaceHasType, StoreHasTypes, StoreTyping}
 use Rattle.ob0_run_machine.specs.Evaluation as machine
 use Rattle.ob0_run_machine.specs.Evaluation.{Levels, level_at}
 use Rattle.ob0_run_machine.specs.Lowered as lowered
-use Rattle.ob0_run_cells.specs.Cells.{address, cells_of_store, store_size}
+use Rattle.ob0_run_cells.specs.Cells.{address, cells_of_store, store_cell_count}
 
 -- The slot of a variable: where running code finds the variable. A variable is at an offset in the
 -- cells of the module or of the activation `up` levels out. A VAR parameter is found by the number
@@ -50,30 +48,24 @@ place_at_offset (lowered.outside up at) k = lowered.outside up (machine.add_offs
 place_at_offset (lowered.passed up index at) k = lowered.passed up index (machine.add_offset at k)
 place_at_offset (lowered.element q i n s at) k = lowered.element q i n s (machine.add_offset at k)
 
--- A moment of a run: the store and its types, the cells of arguments that are being passed, the
--- meanings of names, and the activations that lowered code can see.
+-- A moment of a run: the store and its types, the meanings of names, and the activations that
+-- lowered code can see.
 pub record Moment (N : Type 0) : Type 0 where
   pub typing : StoreTyping
   pub store : Store
-  pub passed_cells : List ℤ
   pub active : Meanings N Place (List Mode)
   pub levels : Levels
-
--- returns all cells at a moment: the cells of the store, then the cells of the arguments that are
--- being passed
-abbrev pub cells_at_moment : {N : Type 0} → Moment N → List ℤ
-cells_at_moment m = cells_of_store m.store ++ m.passed_cells
 
 -- States that a moment belongs to a run of the checked module. The values in its store have the
 -- store's types, and its names have the meanings that the checker found. Each variable is in its
 -- slot, and the store has fewer than 2^64 cells.
 pub record IsMomentOfModule {N : Type 0} (checked : TypeMeanings N) (slots : N → Slot) (m : Moment N) : Type 0 where
   pub store_fits : StoreHasTypes m.typing m.store
-  pub names_fit : RunMeaningsAgree m.typing checked m.active
+  pub names_fit : RunMeaningsAgreeWithCheckedMeanings m.typing checked m.active
   pub variables_in_slots : (x : N) (p : Place)
       → m.active.object_for x ≡ Some (a_variable p)
       → slot_address m.levels (slots x) ≡ address m.typing p
-  pub store_is_addressable : store_size m.typing < 2 ^ 64
+  pub store_is_addressable : store_cell_count m.typing < 2 ^ 64
 
 -- converts an end of the machine's run to an end of a module's run
 abbrev pub end_of : machine.Halt → End
@@ -105,7 +97,7 @@ abbrev pub NumberMeans : {N : Type 0}
 NumberMeans {N} checked slots n value =
     (m : Moment N)
     → IsMomentOfModule checked slots m
-    → outcome_of number (machine.number m.levels (cells_at_moment m) n) ≡ value m
+    → outcome_of number (machine.number m.levels (cells_of_store m.store) n) ≡ value m
 
 -- states that a truth of lowered code and the evaluation `value` have the same outcome, at each
 -- moment that belongs to the checked module (`IsMomentOfModule`)
@@ -118,7 +110,7 @@ abbrev pub TruthMeans : {N : Type 0}
 TruthMeans {N} checked slots t value =
     (m : Moment N)
     → IsMomentOfModule checked slots m
-    → outcome_of truth (machine.truth m.levels (cells_at_moment m) t) ≡ value m
+    → outcome_of truth (machine.truth m.levels (cells_of_store m.store) t) ≡ value m
 
 -- States that an outcome is an end of the run, or a place whose values have the type `s`.
 abbrev pub PlaceOutcomeHasType : StoreTyping → Shape → Outcome Place → Type 0
@@ -137,7 +129,7 @@ abbrev pub PlaceMeans : {N : Type 0}
     → Type 0
 PlaceMeans {N} checked slots q s value =
     (m : Moment N) → IsMomentOfModule checked slots m
-    → (outcome_of (λ a. a) (machine.address m.levels (cells_at_moment m) q)
+    → (outcome_of (λ a. a) (machine.address m.levels (cells_of_store m.store) q)
     ≡ (value m >>= (λ p. succeeds_with (address m.typing p))))
     × PlaceOutcomeHasType m.typing s (value m)
 
@@ -203,14 +195,14 @@ outcome_of_remaining_selectors rest m p =
 
 -- States that `rest` completes a chain: there is an evaluation `so_far` of the first part, for
 -- which `Means` holds, and `so_far` followed by `rest` has the outcome `whole` of the whole chain.
-abbrev pub StartsChain : {N A : Type 0}
+abbrev pub RestCompletesChain : {N A : Type 0}
     → TypeMeanings N
     → (N → Slot)
     → (OutcomeByMoment N A → Type 0)
     → RestOfChain N A
     → OutcomeByMoment N A
     → Type 0
-StartsChain {N} {A} checked slots Means rest whole =
+RestCompletesChain {N} {A} checked slots Means rest whole =
     (so_far : OutcomeByMoment N A)
     × Means so_far
     × ((m : Moment N) → IsMomentOfModule checked slots m → (so_far m >>= rest m) ≡ whole m)
@@ -226,7 +218,7 @@ abbrev pub PlaceStartsChain : {N : Type 0}
     → OutcomeByMoment N Place
     → Type 0
 PlaceStartsChain checked slots q s rest =
-    StartsChain checked slots (PlaceMeans checked slots q s) (outcome_of_remaining_selectors rest)
+    RestCompletesChain checked slots (PlaceMeans checked slots q s) (outcome_of_remaining_selectors rest)
 
 -- States that the lowered number `n` is correct code for the first part of a chain. Given its
 -- value, the rest of the chain has the value of the whole chain.
@@ -237,7 +229,7 @@ abbrev pub NumberStartsChain : {N : Type 0}
     → RestOfChain N Value
     → OutcomeByMoment N Value
     → Type 0
-NumberStartsChain checked slots n = StartsChain checked slots (NumberMeans checked slots n)
+NumberStartsChain checked slots n = RestCompletesChain checked slots (NumberMeans checked slots n)
 
 -- States that the lowered truth `t` is correct code for the first part of a chain. Given its value,
 -- the rest of the chain has the value of the whole chain.
@@ -248,7 +240,7 @@ abbrev pub TruthStartsChain : {N : Type 0}
     → RestOfChain N Value
     → OutcomeByMoment N Value
     → Type 0
-TruthStartsChain checked slots t = StartsChain checked slots (TruthMeans checked slots t)
+TruthStartsChain checked slots t = RestCompletesChain checked slots (TruthMeans checked slots t)
 
 -- converts a relation of the language to the machine's comparator
 abbrev pub relation_of : Relation → lowered.Comparator

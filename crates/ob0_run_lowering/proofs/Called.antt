@@ -9,7 +9,7 @@ use Rattle.ob0_tree.specs.declared.tree.Expression.{Expression}
 use Rattle.ob0_language_names.specs.Names.{Label}
 use Rattle.ob0_scope_table.specs.Resolution.{Resolution}
 use Rattle.ob0_types_table.specs.KnownTables.{shapes_of}
-use Rattle.ob0_types_table.specs.Tables.{formal_view}
+use Rattle.ob0_types_table.specs.DeclarationTableView.{formal_view}
 use Rattle.ob0_types_table.specs.declared.known.FormalParameter as formal
 use Rattle.ob0_types_table.specs.Designators.{labelled_expressions}
 use Rattle.ob0_scope_table.specs.LabelledTrees.{tree_with_labels}
@@ -29,10 +29,10 @@ use Rattle.ob0_run_cells.specs.Lowering.{Slot}
 use Rattle.ob0_run_cells.proofs.LoweredAssignments.{line-means, reads-mean, writes-mean}
 use Rattle.ob0_run_cells.proofs.PassedArguments.{call-means}
 use Rattle.ob0_run_lowering.specs.LoweredMeans.{LocatesLoneDesignator, LowersArgument, LowersNumber}
-use Rattle.ob0_run_lowering.specs.Scenes.{SceneAgrees, object_of_label, target_of_label}
+use Rattle.ob0_run_lowering.specs.Scenes.{SceneAgreesWithChecker, object_of_label, target_of_label}
 use Rattle.ob0_run_lowering.specs.declared.lowered.TypedPlace.{TypedPlace}
 use Rattle.ob0_run_lowering.specs.declared.scene.Scene.{Scene}
-use Rattle.ob0_run_lowering.specs.LoweredBodies.{LowersArguments, LowersStatement, given_arguments}
+use Rattle.ob0_run_lowering.specs.LoweredBodies.{LowersArguments, LowersStatement, arguments_or_empty_list}
 
 -- what is called means something
 found : (checked : TypeMeanings Label) (x : Label) (es : List (Tree Label expression)) (o : Option (Object Shape Signature)) → checked.object_for x ≡ o → call_is_well_typed checked (signature_of o) es ≡ true → (p : Object Shape Signature) × (checked.object_for x ≡ Some p)
@@ -42,12 +42,12 @@ found checked x es (Some p) e h = (p, e)
 
 -- so it means what its declaration is
 module _ (scene : Scene) (x : Label) (es : Tree Label (maybe arguments)) (o : Option (Object Shape Signature)) (declared : object_of_label scene.types.now x ≡ o) where
-  called_as : (checked : TypeMeanings Label) (slots : Label → Slot) (targets : Label → Target) → SceneAgrees scene checked slots targets → statement_is_well_typed checked (calls x es) ≡ true → checked.object_for x ≡ o
+  called_as : (checked : TypeMeanings Label) (slots : Label → Slot) (targets : Label → Target) → SceneAgreesWithChecker scene checked slots targets → statement_is_well_typed checked (calls x es) ≡ true → checked.object_for x ≡ o
   unfolding statement_is_well_typed
   called_as checked slots targets sees fits =
       let (p, e) = found checked x (call_arguments es) (checked.object_for x) refl fits in e ∙ sym (sees.bound x p e) ∙ declared
 
-  called_with : (checked : TypeMeanings Label) (slots : Label → Slot) (targets : Label → Target) → SceneAgrees scene checked slots targets → statement_is_well_typed checked (calls x es) ≡ true → call_is_well_typed checked (signature_of o) (call_arguments es) ≡ true
+  called_with : (checked : TypeMeanings Label) (slots : Label → Slot) (targets : Label → Target) → SceneAgreesWithChecker scene checked slots targets → statement_is_well_typed checked (calls x es) ≡ true → call_is_well_typed checked (signature_of o) (call_arguments es) ≡ true
   unfolding statement_is_well_typed
   called_with checked slots targets sees fits = sym (ap (λ o. call_is_well_typed checked (signature_of o) (call_arguments es)) (called_as checked slots targets sees fits)) ∙ fits
 
@@ -75,7 +75,7 @@ called scene x es signature cs procedure up declared hs there checked slots targ
     subst P (sees.procedures x signature is_there ∙ sym there) (call-means checked slots targets x es signature cs is_there args)
 
 -- arguments as they are written
-pub given_listed : (r : Resolution) (given : Option (Vec Expression Global)) → call_arguments (tree_with_labels r (arguments_of given)) ≡ labelled_expressions r (given_arguments given)
+pub given_listed : (r : Resolution) (given : Option (Vec Expression Global)) → call_arguments (tree_with_labels r (arguments_of given)) ≡ labelled_expressions r (arguments_or_empty_list given)
 given_listed r None = refl
 given_listed r (Some es) = all_listed r es.items
 
@@ -114,40 +114,40 @@ module _ (scene : Scene) (x : Label) (given : Option (Vec Expression Global)) wh
   abbrev written_arguments : Tree Label (maybe arguments)
   written_arguments = tree_with_labels scene.resolved.now (arguments_of given)
 
-  all_fit : (s : Object Shape Signature) (signature : Signature) → signature_of (Some s) ≡ Some signature → object_of_label scene.types.now x ≡ Some s → (checked : TypeMeanings Label) (slots : Label → Slot) (targets : Label → Target) → SceneAgrees scene checked slots targets → statement_is_well_typed checked (calls x written_arguments) ≡ true
-      → arguments_match checked signature (labelled_expressions scene.resolved.now (given_arguments given)) ≡ true
+  all_fit : (s : Object Shape Signature) (signature : Signature) → signature_of (Some s) ≡ Some signature → object_of_label scene.types.now x ≡ Some s → (checked : TypeMeanings Label) (slots : Label → Slot) (targets : Label → Target) → SceneAgreesWithChecker scene checked slots targets → statement_is_well_typed checked (calls x written_arguments) ≡ true
+      → arguments_match checked signature (labelled_expressions scene.resolved.now (arguments_or_empty_list given)) ≡ true
   all_fit s signature is declared checked slots targets sees fits =
       sym (ap (arguments_match checked signature) (given_listed scene.resolved.now given))
       ∙ signed checked signature (call_arguments written_arguments) (sym (ap (λ s. call_is_well_typed checked s (call_arguments written_arguments)) is) ∙ called_with scene x written_arguments (Some s) declared checked slots targets sees fits)
 
-  pub lower_read : (e : Expression) (l : TypedPlace) → slice_get (given_arguments given) 0 ≡ Some e → LocatesLoneDesignator scene (expression_of e) l → object_of_label scene.types.now x ≡ Some (a_standard read_procedure) → LowersStatement scene (lowered.reads (place_of l.place)) (calls x written_arguments)
+  pub lower_read : (e : Expression) (l : TypedPlace) → slice_get (arguments_or_empty_list given) 0 ≡ Some e → LocatesLoneDesignator scene (expression_of e) l → object_of_label scene.types.now x ≡ Some (a_standard read_procedure) → LowersStatement scene (lowered.reads (place_of l.place)) (calls x written_arguments)
   lower_read e l here hl declared checked slots targets sees fits =
       let f : FormalParameter = record { mode = by_place; shape = integer_shape } in
-      let one = one_fits checked scene.resolved.now f (given_arguments given) e here (all_fit (a_standard read_procedure) (f ∷ []) refl declared checked slots targets sees fits) in
+      let one = one_fits checked scene.resolved.now f (arguments_or_empty_list given) e here (all_fit (a_standard read_procedure) (f ∷ []) refl declared checked slots targets sees fits) in
       let at = (hl checked slots targets sees integer_shape (placed checked (tree_with_labels scene.resolved.now (expression_of e)) one.1)).1 in
       reads-mean checked slots targets x written_arguments (tree_with_labels scene.resolved.now (expression_of e)) (place_of l.place) (called_as scene x written_arguments (Some (a_standard read_procedure)) declared checked slots targets sees fits) (given_listed scene.resolved.now given ∙ one.0) at
 
-  pub written : (e : Expression) (n : Number) → slice_get (given_arguments given) 0 ≡ Some e → LowersNumber scene (expression_of e) n → object_of_label scene.types.now x ≡ Some (a_standard write_procedure) → LowersStatement scene (lowered.writes (number_of n)) (calls x written_arguments)
+  pub written : (e : Expression) (n : Number) → slice_get (arguments_or_empty_list given) 0 ≡ Some e → LowersNumber scene (expression_of e) n → object_of_label scene.types.now x ≡ Some (a_standard write_procedure) → LowersStatement scene (lowered.writes (number_of n)) (calls x written_arguments)
   written e n here hn declared checked slots targets sees fits =
       let f : FormalParameter = record { mode = by_value; shape = integer_shape } in
-      let one = one_fits checked scene.resolved.now f (given_arguments given) e here (all_fit (a_standard write_procedure) (f ∷ []) refl declared checked slots targets sees fits) in
+      let one = one_fits checked scene.resolved.now f (arguments_or_empty_list given) e here (all_fit (a_standard write_procedure) (f ∷ []) refl declared checked slots targets sees fits) in
       let has_value_one = hn checked slots targets sees (valued checked (tree_with_labels scene.resolved.now (expression_of e)) one.1) in
       writes-mean checked slots targets x written_arguments (tree_with_labels scene.resolved.now (expression_of e)) (number_of n) (called_as scene x written_arguments (Some (a_standard write_procedure)) declared checked slots targets sees fits) (given_listed scene.resolved.now given ∙ one.0) has_value_one
 
   pub line_written : object_of_label scene.types.now x ≡ Some (a_standard write_line_procedure) → LowersStatement scene lowered.writes_line (calls x written_arguments)
   line_written declared checked slots targets sees fits =
-      let listed = no_argument_fits checked (labelled_expressions scene.resolved.now (given_arguments given)) (all_fit (a_standard write_line_procedure) [] refl declared checked slots targets sees fits) in
+      let listed = no_argument_fits checked (labelled_expressions scene.resolved.now (arguments_or_empty_list given)) (all_fit (a_standard write_line_procedure) [] refl declared checked slots targets sees fits) in
       line-means checked slots targets x written_arguments (called_as scene x written_arguments (Some (a_standard write_line_procedure)) declared checked slots targets sees fits) (given_listed scene.resolved.now given ∙ listed)
 
-  pub nothing_read : (c : lowered.Instruction) → slice_get (given_arguments given) 0 ≡ None → object_of_label scene.types.now x ≡ Some (a_standard read_procedure) → LowersStatement scene c (calls x written_arguments)
+  pub nothing_read : (c : lowered.Instruction) → slice_get (arguments_or_empty_list given) 0 ≡ None → object_of_label scene.types.now x ≡ Some (a_standard read_procedure) → LowersStatement scene c (calls x written_arguments)
   nothing_read c here declared checked slots targets sees fits =
       let f : FormalParameter = record { mode = by_place; shape = integer_shape } in
-      absurd (none_fits checked scene.resolved.now f (given_arguments given) here (all_fit (a_standard read_procedure) (f ∷ []) refl declared checked slots targets sees fits))
+      absurd (none_fits checked scene.resolved.now f (arguments_or_empty_list given) here (all_fit (a_standard read_procedure) (f ∷ []) refl declared checked slots targets sees fits))
 
-  pub nothing_written : (c : lowered.Instruction) → slice_get (given_arguments given) 0 ≡ None → object_of_label scene.types.now x ≡ Some (a_standard write_procedure) → LowersStatement scene c (calls x written_arguments)
+  pub nothing_written : (c : lowered.Instruction) → slice_get (arguments_or_empty_list given) 0 ≡ None → object_of_label scene.types.now x ≡ Some (a_standard write_procedure) → LowersStatement scene c (calls x written_arguments)
   nothing_written c here declared checked slots targets sees fits =
       let f : FormalParameter = record { mode = by_value; shape = integer_shape } in
-      absurd (none_fits checked scene.resolved.now f (given_arguments given) here (all_fit (a_standard write_procedure) (f ∷ []) refl declared checked slots targets sees fits))
+      absurd (none_fits checked scene.resolved.now f (arguments_or_empty_list given) here (all_fit (a_standard write_procedure) (f ∷ []) refl declared checked slots targets sees fits))
 
 -- arguments that are lowered one after the other
 abbrev pub signature_in : Scene → List formal.FormalParameter → Signature

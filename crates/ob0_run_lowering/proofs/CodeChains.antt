@@ -2,7 +2,7 @@
 -- all give.
 use Rattle.std.proofs.Common.{◌≡◌, ℕ, ◌+◌, ◌<◌, ◌≤◌, List, ◌∷◌, Option, length, get_or, drop, refl, sym, ap, ◌∙◌}
 use Rattle.std.proofs.lemmas.List.{drop_all, drop_more}
-use Rattle.ob0_tree.specs.Tree.{Tree, Item, addend, adds, item, items, end, field, index, more, multiplier, multiplies, selector}
+use Rattle.ob0_tree.specs.Tree.{Tree, GrammarItem, addend, adds, item, items, end, field, index, more, multiplier, multiplies, selector}
 use Rattle.ob0_tree.specs.View.{items_of}
 use Rattle.ob0_language_names.specs.Names.{Label}
 use Rattle.ob0_scope_table.specs.Resolution.{Resolution}
@@ -11,14 +11,14 @@ use Rattle.ob0_run_lowering.specs.Codes.{ExpressionCode, PlaceWithShape, additio
 use Rattle.ob0_run_lowering.specs.Trees.{addends_code, factor_code, multipliers_code, place_after_selector, selected_place, term_code}
 use Rattle.ob0_run_lowering.specs.declared.scene.Scene.{Scene}
 
-pub record IsFold {X : Type 0} {i : Item} (chain : X → Tree Label (items i) → X) (step : X → Tree Label (item i) → X) : Type 0 where
+pub record IsFold {X : Type 0} {i : GrammarItem} (chain : X → Tree Label (items i) → X) (step : X → Tree Label (item i) → X) : Type 0 where
   pub ended : (x : X) → chain x end ≡ x
   pub stepped : (x : X) (t : Tree Label (item i)) (ts : Tree Label (items i)) → chain x (more t ts) ≡ chain (step x t) ts
 
-pub record Folded {X A : Type 0} {i : Item} (chain : X → Tree Label (items i) → X) (r : Resolution) (f : A → Tree ℕ (item i)) (start : X) (xs : List A) (done : ℕ) (out : X) : Type 0 where
+pub record Folded {X A : Type 0} {i : GrammarItem} (chain : X → Tree Label (items i) → X) (r : Resolution) (f : A → Tree ℕ (item i)) (start : X) (xs : List A) (done : ℕ) (out : X) : Type 0 where
   pub so_far : chain out (tree_with_labels r (items_of f (drop done xs))) ≡ chain start (tree_with_labels r (items_of f xs))
 
-pub fold_goes_on : {X A : Type 0} {i : Item} {chain : X → Tree Label (items i) → X} {step : X → Tree Label (item i) → X} {r : Resolution} {f : A → Tree ℕ (item i)} {start : X} {xs : List A} {done : ℕ} {out : X} (x : A) (next : X)
+pub fold_goes_on : {X A : Type 0} {i : GrammarItem} {chain : X → Tree Label (items i) → X} {step : X → Tree Label (item i) → X} {r : Resolution} {f : A → Tree ℕ (item i)} {start : X} {xs : List A} {done : ℕ} {out : X} (x : A) (next : X)
     → IsFold chain step → Folded chain r f start xs done out → done < length xs → x ≡ get_or xs done x → next ≡ step out (tree_with_labels r (f x)) → Folded chain r f start xs (done + 1) next
 fold_goes_on {chain = chain} {step = step} {r = r} {f = f} {xs = xs} {done = done} {out = out} x next h c less here given =
     let split : drop done xs ≡ x ∷ drop (done + 1) xs = drop_more xs done x less ∙ ap (λ y. y ∷ drop (done + 1) xs) (sym here) in
@@ -29,7 +29,7 @@ fold_goes_on {chain = chain} {step = step} {r = r} {f = f} {xs = xs} {done = don
           ∙ c.so_far;
     }
 
-pub fold_ends : {X A : Type 0} {i : Item} {chain : X → Tree Label (items i) → X} {step : X → Tree Label (item i) → X} {r : Resolution} {f : A → Tree ℕ (item i)} {start : X} {xs : List A} {done : ℕ} {out : X}
+pub fold_ends : {X A : Type 0} {i : GrammarItem} {chain : X → Tree Label (items i) → X} {step : X → Tree Label (item i) → X} {r : Resolution} {f : A → Tree ℕ (item i)} {start : X} {xs : List A} {done : ℕ} {out : X}
     → IsFold chain step → Folded chain r f start xs done out → length xs ≤ done → out ≡ chain start (tree_with_labels r (items_of f xs))
 fold_ends {chain = chain} {r = r} {f = f} {xs = xs} {done = done} {out = out} h c all =
     sym (h.ended out) ∙ sym (ap (λ ys. chain out (tree_with_labels r (items_of f ys))) (drop_all done xs all)) ∙ c.so_far

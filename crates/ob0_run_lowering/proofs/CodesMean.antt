@@ -17,7 +17,7 @@ use Rattle.ob0_language_types.proofs.Literals.{some_inverse}
 use Rattle.ob0_language_values.specs.Values.{Outcome, Shape, Value, array_shape, boolean_shape, ends_run_with, succeeds_with, integer_shape, record_shape, ◌>>=◌}
 use Rattle.ob0_run_machine.specs.Lowered as lowered
 use Rattle.ob0_run_cells.specs.Cells.{size}
-use Rattle.ob0_run_cells.specs.Lowering.{OutcomeByMoment, StartsChain, NumberStartsChain, NumberMeans, RestOfChain, Slot, TruthStartsChain, TruthMeans, PlaceHoldsValue, outcome_of_remaining_addends, outcome_of_remaining_multipliers, value_of_expression, value_of_factor, value_of_simple, value_of_term}
+use Rattle.ob0_run_cells.specs.Lowering.{OutcomeByMoment, RestCompletesChain, NumberStartsChain, NumberMeans, RestOfChain, Slot, TruthStartsChain, TruthMeans, PlaceHoldsValue, outcome_of_remaining_addends, outcome_of_remaining_multipliers, value_of_expression, value_of_factor, value_of_simple, value_of_term}
 use Rattle.ob0_run_cells.proofs.LoweredNumbers as numbers
 use Rattle.ob0_run_cells.proofs.LoweredOutcomes.{difference-operates, product-operates, quotient-operates, remainder-operates, sum-operates}
 use Rattle.ob0_run_cells.proofs.LoweredTruths as truths
@@ -27,8 +27,8 @@ use Rattle.ob0_run_lowering.specs.Codes.{ExpressionCode, CodeMeans, a_block, a_n
 abbrev pub CodeLeads : TypeMeanings Label → (Label → Slot) → ExpressionCode → Shape → RestOfChain Label Value → OutcomeByMoment Label Value → Type 0
 CodeLeads checked slots (a_number n) integer_shape rest whole = NumberStartsChain checked slots n rest whole
 CodeLeads checked slots (a_truth t) boolean_shape rest whole = TruthStartsChain checked slots t rest whole
-CodeLeads checked slots (a_block q n) (array_shape k m s) rest whole = (n ≡ size (array_shape k m s)) × StartsChain checked slots (PlaceHoldsValue checked slots q (array_shape k m s)) rest whole
-CodeLeads checked slots (a_block q n) (record_shape k fs) rest whole = (n ≡ size (record_shape k fs)) × StartsChain checked slots (PlaceHoldsValue checked slots q (record_shape k fs)) rest whole
+CodeLeads checked slots (a_block q n) (array_shape k m s) rest whole = (n ≡ size (array_shape k m s)) × RestCompletesChain checked slots (PlaceHoldsValue checked slots q (array_shape k m s)) rest whole
+CodeLeads checked slots (a_block q n) (record_shape k fs) rest whole = (n ≡ size (record_shape k fs)) × RestCompletesChain checked slots (PlaceHoldsValue checked slots q (record_shape k fs)) rest whole
 CodeLeads checked slots _ _ rest whole = ⊥
 
 -- two codes with their variants, and a type
@@ -96,7 +96,7 @@ module _ (checked : TypeMeanings Label) (slots : Label → Slot) where
 
   -- a chain begins with its first operand
 
-  value-begins : (q : lowered.Place) (s : Shape) (f : Tree Label factor) (rest : Tree Label (items multiplier)) → PlaceHoldsValue checked slots q s (value_of_factor f) → StartsChain checked slots (PlaceHoldsValue checked slots q s) (outcome_of_remaining_multipliers rest) (value_of_term (product f rest))
+  value-begins : (q : lowered.Place) (s : Shape) (f : Tree Label factor) (rest : Tree Label (items multiplier)) → PlaceHoldsValue checked slots q s (value_of_factor f) → RestCompletesChain checked slots (PlaceHoldsValue checked slots q s) (outcome_of_remaining_multipliers rest) (value_of_term (product f rest))
   unfolding evaluate
   value-begins q s f rest h = (value_of_factor f, h, λ z shown. refl)
 
@@ -107,7 +107,7 @@ module _ (checked : TypeMeanings Label) (slots : Label → Slot) where
   term-begins (a_block q n) (record_shape k fs) f rest h = (h.0, value-begins q (record_shape k fs) f rest h.1)
   term-begins _ _ f rest h = absurd h
 
-  value-signed_code : (q : lowered.Place) (s : Shape) (e : Tree Label term) (rest : Tree Label (items addend)) → PlaceHoldsValue checked slots q s (value_of_term e) → StartsChain checked slots (PlaceHoldsValue checked slots q s) (outcome_of_remaining_addends rest) (value_of_simple (sum None e rest))
+  value-signed_code : (q : lowered.Place) (s : Shape) (e : Tree Label term) (rest : Tree Label (items addend)) → PlaceHoldsValue checked slots q s (value_of_term e) → RestCompletesChain checked slots (PlaceHoldsValue checked slots q s) (outcome_of_remaining_addends rest) (value_of_simple (sum None e rest))
   unfolding evaluate
   value-signed_code q s e rest h = (value_of_term e, h, λ z shown. refl)
 
@@ -133,7 +133,7 @@ module _ (checked : TypeMeanings Label) (slots : Label → Slot) where
 
   -- where nothing is left, what was found is the whole
 
-  value-whole : (q : lowered.Place) (s : Shape) (rest : RestOfChain Label Value) (whole : OutcomeByMoment Label Value) → ((z : _) (v : Value) → rest z v ≡ succeeds_with v) → StartsChain checked slots (PlaceHoldsValue checked slots q s) rest whole → PlaceHoldsValue checked slots q s whole
+  value-whole : (q : lowered.Place) (s : Shape) (rest : RestOfChain Label Value) (whole : OutcomeByMoment Label Value) → ((z : _) (v : Value) → rest z v ≡ succeeds_with v) → RestCompletesChain checked slots (PlaceHoldsValue checked slots q s) rest whole → PlaceHoldsValue checked slots q s whole
   value-whole q s rest whole ends_here h =
       let (v, hv, ev) = h in
       (hv.0, hv.1, λ z shown. sym (ev z shown) ∙ given-end (v z) (rest z) (ends_here z) ∙ hv.2 z shown)

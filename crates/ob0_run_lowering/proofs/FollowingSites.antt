@@ -5,9 +5,9 @@ use Rattle.std.proofs.lemmas.List.{append-nil, drop_all, drop_more, get_or-set_o
 use Rattle.ob0_types_table.proofs.Sighted.{last_of}
 use Rattle.ob0_run_cells.specs.Activations.{PlacementState, in_slot, add_name_to_placement}
 use Rattle.ob0_run_cells.specs.Lowering.{Slot, by_reference}
-use Rattle.ob0_run_lowering.specs.Scenes.{place_seen_from, location_at}
-use Rattle.ob0_run_lowering.specs.declared.scene.LoweredLocation.{LoweredLocation}
-use Rattle.ob0_run_lowering.specs.declared.scene.LoweredLocation.TheVariants as site
+use Rattle.ob0_run_lowering.specs.Scenes.{place_seen_from, site_in_table}
+use Rattle.ob0_run_lowering.specs.declared.scene.LoweredSite.{LoweredSite}
+use Rattle.ob0_run_lowering.specs.declared.scene.LoweredSite.TheVariants as site
 use Rattle.ob0_tree.specs.Tree.{Tree, further_section, items, more, then_section}
 use Rattle.ob0_tree.specs.View.{names_of, parameter_section_of}
 use Rattle.ob0_tree.specs.declared.tree.ParameterSection.{ParameterSection}
@@ -15,95 +15,95 @@ use Rattle.ob0_scope_table.specs.LabelledTrees.{tree_with_labels}
 use Rattle.ob0_types_table.proofs.LabelledParts.{section-mode, section-names}
 use Rattle.ob0_language_names.specs.Parts.{names_in_list}
 use Rattle.ob0_scope_table.specs.Resolution.{Resolution}
-use Rattle.ob0_types_table.specs.Tables.{mode_of}
+use Rattle.ob0_types_table.specs.DeclarationTableView.{mode_from_flag}
 use Rattle.ob0_language_names.specs.Names.{Label, Name, naming_by_spelling}
 use Rattle.ob0_language_names.specs.Scopes.{label_from_ordinal}
 use Rattle.ob0_language_types.specs.WellTyped.{by_place, by_value}
-use Rattle.ob0_run_lowering.specs.PlacedNames.{OrdinalsAreBelow, HidesMoreLocations, HiddenLocationsAreRestored, LocationsMatchPlacement, FrameMatchesPlacement, IsLocationOfNextVariable, PlacesNames, LocationMatchesPlace, locations_before_hiding, add_declared_names_to_placement, place_sections, locations_after_binding, locations_after_setting, variable_slot}
-use Rattle.ob0_run_lowering.specs.declared.visible_locations.Frame.{Frame}
-use Rattle.ob0_run_lowering.specs.declared.visible_locations.HiddenLocation.{HiddenLocation}
-use Rattle.ob0_run_lowering.specs.declared.visible_locations.VisibleLocations.{VisibleLocations}
+use Rattle.ob0_run_lowering.specs.PlacedNames.{OrdinalsAreBelow, HidesMoreSites, HiddenSitesAreRestored, SitesMatchPlacement, FrameMatchesPlacement, IsSiteOfNextVariable, PlacesNames, SiteMatchesPlace, sites_before_hiding, add_declared_names_to_placement, place_parameter_sections, sites_after_binding, sites_after_setting, variable_slot_at_depth}
+use Rattle.ob0_run_lowering.specs.declared.visible_sites.Frame.{Frame}
+use Rattle.ob0_run_lowering.specs.declared.visible_sites.HiddenSite.{HiddenSite}
+use Rattle.ob0_run_lowering.specs.declared.visible_sites.VisibleSites.{VisibleSites}
 use Rattle.ob0_run_lowering.proofs.Placings.{holds_bound}
 
-within-weaken : (m n : ℕ) (hs : List HiddenLocation) → m ≤ n → OrdinalsAreBelow m hs → OrdinalsAreBelow n hs
+within-weaken : (m n : ℕ) (hs : List HiddenSite) → m ≤ n → OrdinalsAreBelow m hs → OrdinalsAreBelow n hs
 within-weaken m n [] le a = tt
 within-weaken m n (h ∷ hs) le a = (omega (arith, a.0, le), within-weaken m n hs le a.1)
 
-within-append : (n : ℕ) (xs ys : List HiddenLocation) → OrdinalsAreBelow n xs → OrdinalsAreBelow n ys → OrdinalsAreBelow n (xs ++ ys)
+within-append : (n : ℕ) (xs ys : List HiddenSite) → OrdinalsAreBelow n xs → OrdinalsAreBelow n ys → OrdinalsAreBelow n (xs ++ ys)
 within-append n [] ys a b = b
 within-append n (x ∷ xs) ys a b = (a.0, within-append n xs ys a.1 b)
 
-within-front : (n : ℕ) (xs ys : List HiddenLocation) → OrdinalsAreBelow n (xs ++ ys) → OrdinalsAreBelow n xs
+within-front : (n : ℕ) (xs ys : List HiddenSite) → OrdinalsAreBelow n (xs ++ ys) → OrdinalsAreBelow n xs
 within-front n [] ys a = tt
 within-front n (x ∷ xs) ys a = (a.0, within-front n xs ys a.1)
 
-within-back : (n : ℕ) (xs ys : List HiddenLocation) → OrdinalsAreBelow n (xs ++ ys) → OrdinalsAreBelow n ys
+within-back : (n : ℕ) (xs ys : List HiddenSite) → OrdinalsAreBelow n (xs ++ ys) → OrdinalsAreBelow n ys
 within-back n [] ys a = a
 within-back n (x ∷ xs) ys a = within-back n xs ys a.1
 
-locations_before_hiding-append : (xs ys : List HiddenLocation) (f : ℕ → LoweredLocation) → locations_before_hiding (xs ++ ys) f ≡ locations_before_hiding xs (locations_before_hiding ys f)
-locations_before_hiding-append [] ys f = refl
-locations_before_hiding-append (x ∷ xs) ys f = ap (locations_after_setting x.ordinal x.earlier_location) (locations_before_hiding-append xs ys f)
+sites_before_hiding-append : (xs ys : List HiddenSite) (f : ℕ → LoweredSite) → sites_before_hiding (xs ++ ys) f ≡ sites_before_hiding xs (sites_before_hiding ys f)
+sites_before_hiding-append [] ys f = refl
+sites_before_hiding-append (x ∷ xs) ys f = ap (sites_after_setting x.ordinal x.earlier_site) (sites_before_hiding-append xs ys f)
 
 -- tables that are the same at each ordinal
-locations_before_hiding-same : (xs : List HiddenLocation) (f g : ℕ → LoweredLocation) → ((k : ℕ) → f k ≡ g k) → (k : ℕ) → locations_before_hiding xs f k ≡ locations_before_hiding xs g k
-locations_before_hiding-same xs f g same k = ap (λ (h : ℕ → LoweredLocation). locations_before_hiding xs h k) (λ i j. same j i)
+sites_before_hiding-same : (xs : List HiddenSite) (f g : ℕ → LoweredSite) → ((k : ℕ) → f k ≡ g k) → (k : ℕ) → sites_before_hiding xs f k ≡ sites_before_hiding xs g k
+sites_before_hiding-same xs f g same k = ap (λ (h : ℕ → LoweredSite). sites_before_hiding xs h k) (λ i j. same j i)
 
-pub follows_itself : (w : VisibleLocations) → HidesMoreLocations w w
+pub follows_itself : (w : VisibleSites) → HidesMoreSites w w
 follows_itself w = record { more = []; added = sym (append-nil w.hidden.items); within = tt; longer = le_refl (length w.sites.items); restores_locations = λ k. refl }
 
-pub follows_then : (w v u : VisibleLocations) → HidesMoreLocations w v → HidesMoreLocations v u → HidesMoreLocations w u
+pub follows_then : (w v u : VisibleSites) → HidesMoreSites w v → HidesMoreSites v u → HidesMoreSites w u
 follows_then w v u a b = record {
   more = a.more ++ b.more;
   added = b.added ∙ ap (λ hs. hs ++ b.more) a.added ∙ append_assoc w.hidden.items a.more b.more;
   within = within-append (length u.sites.items) a.more b.more (within-weaken (length v.sites.items) (length u.sites.items) a.more b.longer a.within) b.within;
   longer = omega (arith, a.longer, b.longer);
   restores_locations = λ k.
-      ap (λ f. f k) (locations_before_hiding-append a.more b.more (location_at u.sites.items))
-      ∙ locations_before_hiding-same a.more (locations_before_hiding b.more (location_at u.sites.items)) (location_at v.sites.items) b.restores_locations k
+      ap (λ f. f k) (sites_before_hiding-append a.more b.more (site_in_table u.sites.items))
+      ∙ sites_before_hiding-same a.more (sites_before_hiding b.more (site_in_table u.sites.items)) (site_in_table v.sites.items) b.restores_locations k
       ∙ a.restores_locations k;
 }
 
 -- what was bound in between is gone
-pub follows_back : (w v u after : VisibleLocations) → HidesMoreLocations w v → HidesMoreLocations v u → HiddenLocationsAreRestored v u after → HidesMoreLocations w after
+pub follows_back : (w v u after : VisibleSites) → HidesMoreSites w v → HidesMoreSites v u → HiddenSitesAreRestored v u after → HidesMoreSites w after
 follows_back w v u after a b g = record {
   more = a.more;
   added = g.0 ∙ a.added;
   within = within-weaken (length v.sites.items) (length after.sites.items) a.more (omega (arith, b.longer, g.2)) a.within;
   longer = omega (arith, a.longer, b.longer, g.2);
-  restores_locations = λ k. locations_before_hiding-same a.more (location_at after.sites.items) (location_at v.sites.items) g.1 k ∙ a.restores_locations k;
+  restores_locations = λ k. sites_before_hiding-same a.more (site_in_table after.sites.items) (site_in_table v.sites.items) g.1 k ∙ a.restores_locations k;
 }
 
 -- a site put into the table
 
-pub site-set : (xs : List LoweredLocation) (j : ℕ) (s : LoweredLocation) (k : ℕ) → suc j ≤ length xs → location_at (set xs j s) k ≡ (if k == j then s else location_at xs k)
+pub site-set : (xs : List LoweredSite) (j : ℕ) (s : LoweredSite) (k : ℕ) → suc j ≤ length xs → site_in_table (set xs j s) k ≡ (if k == j then s else site_in_table xs k)
 site-set xs j s k room = by (k == j) refl
   where
-    by : (t : Bool) → (k == j) ≡ t → location_at (set xs j s) k ≡ (if t then s else location_at xs k)
-    by true same = ap (location_at (set xs j s)) (eqb-true k j same) ∙ get_or-set_same xs j s site.Nowhere (omega (arith, room))
+    by : (t : Bool) → (k == j) ≡ t → site_in_table (set xs j s) k ≡ (if t then s else site_in_table xs k)
+    by true same = ap (site_in_table (set xs j s)) (eqb-true k j same) ∙ get_or-set_same xs j s site.Nowhere (omega (arith, room))
     by false other = get_or-set_other xs j k s site.Nowhere (λ e. true≢false (sym (eq-eqb k j e) ∙ other))
 
 -- one hidden site less
-abbrev pub AllBack : VisibleLocations → ℕ → VisibleLocations → Type 0
-AllBack start mark now = (w : VisibleLocations) → HidesMoreLocations w start → mark ≡ length w.hidden.items → HidesMoreLocations w now × (length now.sites.items ≡ length start.sites.items)
+abbrev pub AllBack : VisibleSites → ℕ → VisibleSites → Type 0
+AllBack start mark now = (w : VisibleSites) → HidesMoreSites w start → mark ≡ length w.hidden.items → HidesMoreSites w now × (length now.sites.items ≡ length start.sites.items)
 
-pub back_on : (start now v : VisibleLocations) (mark : ℕ) (last : HiddenLocation) → AllBack start mark now → mark < length now.hidden.items → now.hidden.items ≡ v.hidden.items ++ last ∷ [] → v.sites.items ≡ set now.sites.items last.ordinal last.earlier_location → AllBack start mark v
+pub back_on : (start now v : VisibleSites) (mark : ℕ) (last : HiddenSite) → AllBack start mark now → mark < length now.hidden.items → now.hidden.items ≡ v.hidden.items ++ last ∷ [] → v.sites.items ≡ set now.sites.items last.ordinal last.earlier_site → AllBack start mark v
 back_on start now v mark last back less popped put = λ w f is.
     let so_far = back w f is in
-    let a : HidesMoreLocations w now = so_far.0 in
+    let a : HidesMoreSites w now = so_far.0 in
     let left = last_of w.hidden.items a.more v.hidden.items last (sym a.added ∙ popped) (omega (arith, ap length a.added, is, less)) in
     let parts : OrdinalsAreBelow (length now.sites.items) (left.0 ++ last ∷ []) = subst (OrdinalsAreBelow (length now.sites.items)) left.1 a.within in
     let room : suc last.ordinal ≤ length now.sites.items = (within-back (length now.sites.items) left.0 (last ∷ []) parts).0 in
-    let long : length v.sites.items ≡ length now.sites.items = ap length put ∙ length-set now.sites.items last.ordinal last.earlier_location in (
+    let long : length v.sites.items ≡ length now.sites.items = ap length put ∙ length-set now.sites.items last.ordinal last.earlier_site in (
       record {
         more = left.0;
         added = left.2;
         within = within-weaken (length now.sites.items) (length v.sites.items) left.0 (omega (arith, long)) (within-front (length now.sites.items) left.0 (last ∷ []) parts);
         longer = omega (arith, long, a.longer);
         restores_locations = λ k.
-            locations_before_hiding-same left.0 (location_at v.sites.items) (locations_before_hiding (last ∷ []) (location_at now.sites.items)) (λ j. ap (λ xs. location_at xs j) put ∙ site-set now.sites.items last.ordinal last.earlier_location j room) k
-            ∙ ap (λ f. f k) (sym (locations_before_hiding-append left.0 (last ∷ []) (location_at now.sites.items)))
-            ∙ ap (λ hs. locations_before_hiding hs (location_at now.sites.items) k) (sym left.1)
+            sites_before_hiding-same left.0 (site_in_table v.sites.items) (sites_before_hiding (last ∷ []) (site_in_table now.sites.items)) (λ j. ap (λ xs. site_in_table xs j) put ∙ site-set now.sites.items last.ordinal last.earlier_site j room) k
+            ∙ ap (λ f. f k) (sym (sites_before_hiding-append left.0 (last ∷ []) (site_in_table now.sites.items)))
+            ∙ ap (λ hs. sites_before_hiding hs (site_in_table now.sites.items) k) (sym left.1)
             ∙ a.restores_locations k;
       },
       long ∙ so_far.1,
@@ -113,28 +113,28 @@ nil_of : {A : Type 0} (xs ys : List A) → length (xs ++ ys) ≤ length xs → y
 nil_of xs [] h = refl
 nil_of xs (y ∷ ys) h = absurd (omega (arith, h, length-append xs (y ∷ ys)))
 
-pub back_ends : (start now : VisibleLocations) (mark : ℕ) → AllBack start mark now → length now.hidden.items ≤ mark → (w : VisibleLocations) → HidesMoreLocations w start → mark ≡ length w.hidden.items → HiddenLocationsAreRestored w start now
+pub back_ends : (start now : VisibleSites) (mark : ℕ) → AllBack start mark now → length now.hidden.items ≤ mark → (w : VisibleSites) → HidesMoreSites w start → mark ≡ length w.hidden.items → HiddenSitesAreRestored w start now
 back_ends start now mark back all w f is =
     let so_far = back w f is in
-    let a : HidesMoreLocations w now = so_far.0 in
+    let a : HidesMoreSites w now = so_far.0 in
     let none : a.more ≡ [] = nil_of w.hidden.items a.more (omega (arith, ap length a.added, all, is)) in (
       a.added ∙ ap (λ hs. w.hidden.items ++ hs) none ∙ append-nil w.hidden.items,
-      λ k. ap (λ hs. locations_before_hiding hs (location_at now.sites.items) k) (sym none) ∙ a.restores_locations k,
+      λ k. ap (λ hs. sites_before_hiding hs (site_in_table now.sites.items) k) (sym none) ∙ a.restores_locations k,
       so_far.1,
     )
 
 -- steps of placing
 
-pub places_as : (w v : VisibleLocations) (f g : Frame) (first second : PlacementState Label → PlacementState Label) → ((p : PlacementState Label) → first p ≡ second p) → PlacesNames w v f first g → PlacesNames w v f second g
+pub places_as : (w v : VisibleSites) (f g : Frame) (first second : PlacementState Label → PlacementState Label) → ((p : PlacementState Label) → first p ≡ second p) → PlacesNames w v f first g → PlacesNames w v f second g
 places_as w v f g first second same a = subst (λ (step : PlacementState Label → PlacementState Label). PlacesNames w v f step g) (λ i p. same p i) a
 
 -- one name
-pub place-by_reference : (w v : VisibleLocations) (f g : Frame) (size_of : Label → ℕ) (o : Option ℕ) (name : Name) → ((k : ℕ) → location_at v.sites.items k ≡ locations_after_binding o (site.ByReference f.depth f.var_parameter_count) (location_at w.sites.items) k) → HidesMoreLocations w v → g ≡ record f { var_parameter_count = f.var_parameter_count + 1 }
-    → PlacesNames w v f (add_name_to_placement (variable_slot f.depth) by_place (label_from_ordinal naming_by_spelling o name) (size_of (label_from_ordinal naming_by_spelling o name))) g
+pub place-by_reference : (w v : VisibleSites) (f g : Frame) (size_of : Label → ℕ) (o : Option ℕ) (name : Name) → ((k : ℕ) → site_in_table v.sites.items k ≡ sites_after_binding o (site.ByReference f.depth f.var_parameter_count) (site_in_table w.sites.items) k) → HidesMoreSites w v → g ≡ record f { var_parameter_count = f.var_parameter_count + 1 }
+    → PlacesNames w v f (add_name_to_placement (variable_slot_at_depth f.depth) by_place (label_from_ordinal naming_by_spelling o name) (size_of (label_from_ordinal naming_by_spelling o name))) g
 place-by_reference w v f g size_of o name put follows is =
     let none : f.depth - f.depth ≡ 0 = omega arith in
     let seen : place_seen_from f.depth (site.ByReference f.depth f.var_parameter_count) ≡ in_slot (by_reference 0 f.var_parameter_count) = ap (λ up. in_slot (by_reference up f.var_parameter_count)) none in
-    subst (λ (z : Frame). PlacesNames w v f (add_name_to_placement (variable_slot f.depth) by_place (label_from_ordinal naming_by_spelling o name) (size_of (label_from_ordinal naming_by_spelling o name))) z) (sym is)
+    subst (λ (z : Frame). PlacesNames w v f (add_name_to_placement (variable_slot_at_depth f.depth) by_place (label_from_ordinal naming_by_spelling o name) (size_of (label_from_ordinal naming_by_spelling o name))) z) (sym is)
     record {
       placed = λ p h. record {
         holds = holds_bound w.sites.items v.sites.items f.depth p.placement o name (site.ByReference f.depth f.var_parameter_count) (in_slot (by_reference 0 p.var_parameters_so_far)) (le_refl f.depth, seen ∙ ap (λ n. in_slot (by_reference 0 n)) h.var_parameters_so_far) put h.holds;
@@ -146,17 +146,17 @@ place-by_reference w v f g size_of o name put follows is =
       has_no_fewer_cells = le_refl f.cells;
     }
 
-next-reports : (f : Frame) (s : LoweredLocation) (n : ℕ) → IsLocationOfNextVariable f s → f.cells ≡ n → LocationMatchesPlace f.depth s (in_slot (variable_slot f.depth n))
-next-reports f s n next e = (next.0, next.1 ∙ ap (λ m. in_slot (variable_slot f.depth m)) e)
+next-reports : (f : Frame) (s : LoweredSite) (n : ℕ) → IsSiteOfNextVariable f s → f.cells ≡ n → SiteMatchesPlace f.depth s (in_slot (variable_slot_at_depth f.depth n))
+next-reports f s n next e = (next.0, next.1 ∙ ap (λ m. in_slot (variable_slot_at_depth f.depth m)) e)
 
-pub place-in_activation : (w v : VisibleLocations) (f g : Frame) (size_of : Label → ℕ) (o : Option ℕ) (name : Name) (s : LoweredLocation) (n : ℕ) → IsLocationOfNextVariable f s → ((k : ℕ) → location_at v.sites.items k ≡ locations_after_binding o s (location_at w.sites.items) k) → HidesMoreLocations w v → g ≡ record f { cells = f.cells + n }
-    → n ≡ size_of (label_from_ordinal naming_by_spelling o name) → PlacesNames w v f (add_name_to_placement (variable_slot f.depth) by_value (label_from_ordinal naming_by_spelling o name) (size_of (label_from_ordinal naming_by_spelling o name))) g
+pub place-in_activation : (w v : VisibleSites) (f g : Frame) (size_of : Label → ℕ) (o : Option ℕ) (name : Name) (s : LoweredSite) (n : ℕ) → IsSiteOfNextVariable f s → ((k : ℕ) → site_in_table v.sites.items k ≡ sites_after_binding o s (site_in_table w.sites.items) k) → HidesMoreSites w v → g ≡ record f { cells = f.cells + n }
+    → n ≡ size_of (label_from_ordinal naming_by_spelling o name) → PlacesNames w v f (add_name_to_placement (variable_slot_at_depth f.depth) by_value (label_from_ordinal naming_by_spelling o name) (size_of (label_from_ordinal naming_by_spelling o name))) g
 place-in_activation w v f g size_of o name s n next put follows is size =
     let cells : g.cells ≡ f.cells + n = ap (λ (z : Frame). z.cells) is in
     record {
       placed = λ p h. record {
-        holds = subst (λ d. LocationsMatchPlacement v.sites.items d ((label_from_ordinal naming_by_spelling o name, in_slot (variable_slot f.depth p.cells)) ∷ p.placement)) (sym (ap (λ (z : Frame). z.depth) is))
-            (holds_bound w.sites.items v.sites.items f.depth p.placement o name s (in_slot (variable_slot f.depth p.cells)) (next-reports f s p.cells next h.cells) put h.holds);
+        holds = subst (λ d. SitesMatchPlacement v.sites.items d ((label_from_ordinal naming_by_spelling o name, in_slot (variable_slot_at_depth f.depth p.cells)) ∷ p.placement)) (sym (ap (λ (z : Frame). z.depth) is))
+            (holds_bound w.sites.items v.sites.items f.depth p.placement o name s (in_slot (variable_slot_at_depth f.depth p.cells)) (next-reports f s p.cells next h.cells) put h.holds);
         cells = cells ∙ (λ i. h.cells i + size i);
         var_parameters_so_far = ap (λ (z : Frame). z.var_parameter_count) is ∙ h.var_parameters_so_far;
       };
@@ -166,16 +166,16 @@ place-in_activation w v f g size_of o name s n next put follows is size =
     }
 
 -- names one after the other: what is left to place, over what is placed so far, gives what all give
-pub record InPlaces {A : Type 0} (fold : List A → PlacementState Label → PlacementState Label) (xs : List A) (w v : VisibleLocations) (f g : Frame) (done : ℕ) : Type 0 where
+pub record InPlaces {A : Type 0} (fold : List A → PlacementState Label → PlacementState Label) (xs : List A) (w v : VisibleSites) (f g : Frame) (done : ℕ) : Type 0 where
   pub on : (p : PlacementState Label) → FrameMatchesPlacement w.sites.items f p → (now : PlacementState Label) × FrameMatchesPlacement v.sites.items g now × (fold (drop done xs) now ≡ fold xs p)
-  pub follows : HidesMoreLocations w v
+  pub follows : HidesMoreSites w v
   pub depth : g.depth ≡ f.depth
   pub has_no_fewer_cells : f.cells ≤ g.cells
 
-pub in_begins : {A : Type 0} (fold : List A → PlacementState Label → PlacementState Label) (xs : List A) (w : VisibleLocations) (f : Frame) → InPlaces fold xs w w f f 0
+pub in_begins : {A : Type 0} (fold : List A → PlacementState Label → PlacementState Label) (xs : List A) (w : VisibleSites) (f : Frame) → InPlaces fold xs w w f f 0
 in_begins fold xs w f = record { on = λ p h. (p, h, refl); follows = follows_itself w; depth = refl; has_no_fewer_cells = le_refl f.cells }
 
-pub in_on : {A : Type 0} {fold : List A → PlacementState Label → PlacementState Label} {xs : List A} {w v : VisibleLocations} {f g : Frame} {done : ℕ} (step : A → PlacementState Label → PlacementState Label) (u : VisibleLocations) (h : Frame) (x d : A)
+pub in_on : {A : Type 0} {fold : List A → PlacementState Label → PlacementState Label} {xs : List A} {w v : VisibleSites} {f g : Frame} {done : ℕ} (step : A → PlacementState Label → PlacementState Label) (u : VisibleSites) (h : Frame) (x d : A)
     → ((x : A) (xs : List A) (p : PlacementState Label) → fold (x ∷ xs) p ≡ fold xs (step x p)) → InPlaces fold xs w v f g done → done < length xs → x ≡ get_or xs done d → PlacesNames v u g (step x) h → InPlaces fold xs w u f h (done + 1)
 in_on {fold = fold} {xs = xs} {w = w} {v = v} {f = f} {g = g} {done = done} step u h x d folds a less here b =
     let cut : drop done xs ≡ x ∷ drop (done + 1) xs = drop_more xs done d less ∙ ap (λ y. y ∷ drop (done + 1) xs) (sym here) in
@@ -187,7 +187,7 @@ in_on {fold = fold} {xs = xs} {w = w} {v = v} {f = f} {g = g} {done = done} step
       has_no_fewer_cells = omega (arith, a.has_no_fewer_cells, b.has_no_fewer_cells);
     }
 
-pub in_ends : {A : Type 0} {fold : List A → PlacementState Label → PlacementState Label} {xs : List A} {w v : VisibleLocations} {f g : Frame} {done : ℕ} → ((p : PlacementState Label) → fold [] p ≡ p) → InPlaces fold xs w v f g done → length xs ≤ done → PlacesNames w v f (fold xs) g
+pub in_ends : {A : Type 0} {fold : List A → PlacementState Label → PlacementState Label} {xs : List A} {w v : VisibleSites} {f g : Frame} {done : ℕ} → ((p : PlacementState Label) → fold [] p ≡ p) → InPlaces fold xs w v f g done → length xs ≤ done → PlacesNames w v f (fold xs) g
 in_ends {fold = fold} {xs = xs} {v = v} {g = g} {done = done} ended a all = record {
   placed = λ p is.
       let at = a.on p is in
@@ -198,10 +198,10 @@ in_ends {fold = fold} {xs = xs} {v = v} {g = g} {done = done} ended a all = reco
 }
 
 -- a step of an activation as deep
-pub as_deep : (w v : VisibleLocations) (f g : Frame) (m n : ℕ) (step : ℕ → PlacementState Label → PlacementState Label) → m ≡ n → PlacesNames w v f (step m) g → PlacesNames w v f (step n) g
+pub as_deep : (w v : VisibleSites) (f g : Frame) (m n : ℕ) (step : ℕ → PlacementState Label → PlacementState Label) → m ≡ n → PlacesNames w v f (step m) g → PlacesNames w v f (step n) g
 as_deep w v f g m n step same a = subst (λ k. PlacesNames w v f (step k) g) same a
 
 -- the names of a section, by how it is written
 pub section_step : (r : Resolution) (at : ℕ → Slot) (size_of : Label → ℕ) (s : ParameterSection) (fs : Tree Label (items further_section)) (p : PlacementState Label)
-    → place_sections at size_of (more (then_section (tree_with_labels r (parameter_section_of s))) fs) p ≡ place_sections at size_of fs (add_declared_names_to_placement at size_of (mode_of s.by_reference) (names_in_list (tree_with_labels r (names_of s.names))) p)
-section_step r at size_of s fs p = λ i. place_sections at size_of fs (add_declared_names_to_placement at size_of (section-mode mode_of refl refl r s i) (section-names r s i) p)
+    → place_parameter_sections at size_of (more (then_section (tree_with_labels r (parameter_section_of s))) fs) p ≡ place_parameter_sections at size_of fs (add_declared_names_to_placement at size_of (mode_from_flag s.by_reference) (names_in_list (tree_with_labels r (names_of s.names))) p)
+section_step r at size_of s fs p = λ i. place_parameter_sections at size_of fs (add_declared_names_to_placement at size_of (section-mode mode_from_flag refl refl r s i) (section-names r s i) p)

@@ -7,7 +7,7 @@ use Rattle.ob0_tree.specs.Places.{token_value_at, token_value_or_zero, integer_v
 use Rattle.ob0_tree.specs.Tree.{Tree, expression, items, selector}
 use Rattle.ob0_language_names.specs.Names.{Label, as_written, declared}
 use Rattle.ob0_types_table.specs.KnownTables.{declared_object_in, shapes_of}
-use Rattle.ob0_types_table.specs.Tables.{formal_view, mode_of, type_shape}
+use Rattle.ob0_types_table.specs.DeclarationTableView.{formal_view, mode_from_flag, type_shape}
 use Rattle.ob0_types_table.specs.declared.known.FormalParameter.{FormalParameter}
 use Rattle.ob0_scope_table.specs.LabelledTrees.{tree_with_labels, label_at_token}
 use Rattle.ob0_types_table.proofs.TokenNumbers.{small_number}
@@ -30,9 +30,9 @@ use Rattle.ob0_run_cells.specs.LoweredStatements.{CodeMeansArgument}
 use Rattle.ob0_run_cells.specs.Lowering.{NumberMeans, PlaceMeans, Slot, TruthMeans, PlaceHoldsValue, place_of_designator, value_of_expression}
 use Rattle.ob0_run_lowering.specs.Codes.{CodeMeans, PlaceWithShape}
 use Rattle.ob0_run_lowering.specs.LoweredMeans.{LocatesDesignator, LocatesLoneDesignator, LowersExpression, LowersArgument, LowersNumber, LowersTruth}
-use Rattle.ob0_run_lowering.specs.Parts.{IsNumberInCode, IsFoundPlace, IsTruthInCode, PassesCode}
+use Rattle.ob0_run_lowering.specs.Parts.{IsNumberInCode, IsFoundPlace, IsTruthInCode, ArgumentPassesCode}
 use Rattle.ob0_run_lowering.specs.Scenes.{object_of_label}
-use Rattle.ob0_run_lowering.specs.Trees.{base_place, code_of, expression_code, place_with_shape_of, selected_place}
+use Rattle.ob0_run_lowering.specs.Trees.{variable_place_of_label, code_of, expression_code, place_with_shape_of, selected_place}
 use Rattle.ob0_run_lowering.specs.declared.lowered.TypedPlace.{TypedPlace}
 use Rattle.ob0_run_lowering.specs.declared.lowered.LoweredExpression.{LoweredExpression}
 use Rattle.ob0_run_lowering.specs.declared.lowered.LoweredExpression.TheVariants as code
@@ -68,7 +68,7 @@ there shapes (Some m) l q s same h =
     (ap (λ (f : PlaceWithShape). f.place) both, ap (λ (f : PlaceWithShape). f.shape) both)
 
 pub locates-by : (scene : Scene) (x : ℕ) (path : Tree ℕ (items selector)) (found : Option TypedPlace) (l : TypedPlace) → IsFoundPlace found l
-    → option_map (place_with_shape_of (shapes_of scene.types.now)) found ≡ selected_place scene (base_place scene (label_at_token scene.resolved.now x)) (tree_with_labels scene.resolved.now path) → LocatesDesignator scene x path l
+    → option_map (place_with_shape_of (shapes_of scene.types.now)) found ≡ selected_place scene (variable_place_of_label scene (label_at_token scene.resolved.now x)) (tree_with_labels scene.resolved.now path) → LocatesDesignator scene x path l
 locates-by scene x path found l same h checked slots targets sees s typed =
     let y = label_at_token scene.resolved.now x in
     let (v, e, at) = variable-typed checked y (tree_with_labels scene.resolved.now path) s (checked.object_for y) refl typed in
@@ -108,10 +108,10 @@ fits-place checked f e mode h = agreed f.shape (variable_type checked (lone_desi
 pub place-argument : (scene : Scene) (f : FormalParameter) (e : Tree ℕ expression) (l : TypedPlace) → f.by_place ≡ true → LocatesLoneDesignator scene e l → LowersArgument scene f e (argument.Place l.place)
 place-argument scene f e l by h checked slots targets sees fits =
     let formal = formal_view (shapes_of scene.types.now) f in
-    let mode : formal.mode ≡ by_place = ap mode_of by in
+    let mode : formal.mode ≡ by_place = ap mode_from_flag by in
     (mode, (h checked slots targets sees formal.shape (fits-place checked formal (tree_with_labels scene.resolved.now e) mode fits)).1)
 
-value-means : (checked : TypeMeanings Label) (slots : Label → Slot) (f : typing.FormalParameter) (e : Tree Label expression) (s : Shape) (l : LoweredExpression) → f.mode ≡ by_value → f.shape ≡ s → CodeMeans checked slots (code_of l) s (value_of_expression e) → (a : Argument) → PassesCode l a → CodeMeansArgument checked slots f (argument_of a) e
+value-means : (checked : TypeMeanings Label) (slots : Label → Slot) (f : typing.FormalParameter) (e : Tree Label expression) (s : Shape) (l : LoweredExpression) → f.mode ≡ by_value → f.shape ≡ s → CodeMeans checked slots (code_of l) s (value_of_expression e) → (a : Argument) → ArgumentPassesCode l a → CodeMeansArgument checked slots f (argument_of a) e
 value-means checked slots f e integer_shape (code.Number n) mode shape h a same = subst (λ a. CodeMeansArgument checked slots f (argument_of a) e) same (mode, shape, h)
 value-means checked slots f e boolean_shape (code.Truth t) mode shape h a same = subst (λ a. CodeMeansArgument checked slots f (argument_of a) e) same (mode, shape, h)
 value-means checked slots f e (array_shape k m s) (code.Block q n) mode shape h a same =
@@ -122,9 +122,9 @@ value-means checked slots f e (record_shape k fs) (code.Block q n) mode shape h 
     subst (λ a. CodeMeansArgument checked slots f (argument_of a) e) same (mode, there.0, there.1)
 value-means checked slots f e _ _ mode shape h a same = absurd h
 
-pub value-argument : (scene : Scene) (f : FormalParameter) (e : Tree ℕ expression) (l : LoweredExpression) (a : Argument) → f.by_place ≡ false → PassesCode l a → LowersExpression scene e l → LowersArgument scene f e a
+pub value-argument : (scene : Scene) (f : FormalParameter) (e : Tree ℕ expression) (l : LoweredExpression) (a : Argument) → f.by_place ≡ false → ArgumentPassesCode l a → LowersExpression scene e l → LowersArgument scene f e a
 value-argument scene f e l a by same h checked slots targets sees fits =
     let formal = formal_view (shapes_of scene.types.now) f in
-    let mode : formal.mode ≡ by_value = ap mode_of by in
+    let mode : formal.mode ≡ by_value = ap mode_from_flag by in
     let typed = fits-value checked formal (tree_with_labels scene.resolved.now e) mode fits in
     value-means checked slots formal (tree_with_labels scene.resolved.now e) formal.shape l mode refl (h checked slots targets sees formal.shape typed) a same

@@ -8,10 +8,11 @@ use Rattle.ob0_language_values.specs.Values.{Place, Shape}
 use Rattle.ob0_run_machine.specs.Evaluation as machine
 use Rattle.ob0_run_machine.specs.Evaluation.{Levels}
 use Rattle.ob0_run_machine.specs.Lowered as lowered
-use Rattle.ob0_run_cells.specs.Lowering.{OutcomeByMoment, PlaceStartsChain, Slot, cells_at_moment, outcome_of}
+use Rattle.ob0_run_cells.specs.Cells.{cells_of_store}
+use Rattle.ob0_run_cells.specs.Lowering.{OutcomeByMoment, PlaceStartsChain, Slot, outcome_of}
 use Rattle.ob0_run_cells.proofs.LoweredOutcomes.{followed_by, same}
 use Rattle.ob0_run_cells.proofs.LoweredPlaces.{element-address, value_at_step-address}
-use Rattle.ob0_run_lowering.specs.Codes.{place_of_element, element_at_optional_offset}
+use Rattle.ob0_run_lowering.specs.Codes.{place_of_element, element_place_at_optional_offset}
 
 -- two places that have the same address, in all activations and over all cells
 pub record SamePlace (p q : lowered.Place) : Type 0 where
@@ -20,7 +21,7 @@ pub record SamePlace (p q : lowered.Place) : Type 0 where
 at-index : (ls : Levels) (cells : List ℤ) (q : lowered.Place) (i : lowered.Number) (n s : ℕ) → machine.address ls cells (place_of_element q i n s) ≡ machine.address ls cells (lowered.element q i n s 0)
 at-index ls cells q (lowered.literal (pos j)) n s = known (nat_lt j n) refl
   where
-    known : (b : Bool) → nat_lt j n ≡ b → machine.address ls cells (element_at_optional_offset (if b then Some ((j * s) % 2 ^ 64) else None) q (lowered.literal (pos j)) n s) ≡ machine.address ls cells (lowered.element q (lowered.literal (pos j)) n s 0)
+    known : (b : Bool) → nat_lt j n ≡ b → machine.address ls cells (element_place_at_optional_offset (if b then Some ((j * s) % 2 ^ 64) else None) q (lowered.literal (pos j)) n s) ≡ machine.address ls cells (lowered.element q (lowered.literal (pos j)) n s 0)
     known true h =
         value_at_step-address ls cells q ((j * s) % 2 ^ 64)
         ∙ ((λ z. followed_by (machine.address ls cells q) (λ a. machine.gives (add-mod-mod a (j * s) (2 ^ 64) z)))
@@ -37,4 +38,4 @@ pub leads-from : (checked : TypeMeanings Label) (slots : Label → Slot) (p q : 
     → SamePlace p q → PlaceStartsChain checked slots q s rest whole → PlaceStartsChain checked slots p s rest whole
 leads-from checked slots p q s rest whole e h =
     let (v, hv, ev) = h in
-    (v, λ z shown. (ap (outcome_of same) (e.same_address z.levels (cells_at_moment z)) ∙ (hv z shown).0, (hv z shown).1), ev)
+    (v, λ z shown. (ap (outcome_of same) (e.same_address z.levels (cells_of_store z.store)) ∙ (hv z shown).0, (hv z shown).1), ev)

@@ -4,62 +4,62 @@ use Rattle.ob0_tree.specs.Tree.{Tree, block, constant, declares_constant, declar
 use Rattle.ob0_language_names.specs.Names.{Label, Name, naming_by_label, naming_by_spelling, as_written, declared, same_label}
 use Rattle.ob0_language_names.specs.Parts.{block_constants, block_types, constant_names, declared_type_names, names_in_list, parameter_section_names, parameter_section_type}
 use Rattle.ob0_language_names.specs.Scopes.{label_from_ordinal}
-use Rattle.ob0_types_table.specs.KnownTables.{Tables, declared_object_in}
+use Rattle.ob0_types_table.specs.KnownTables.{DeclarationTableView, declared_object_in}
 use Rattle.ob0_language_types.specs.Declarations.{declare_constants, declare_constants_and_types, declare_types}
 use Rattle.ob0_language_types.specs.Environments.{environment_from_binding, meanings, newest_object}
 use Rattle.ob0_language_types.specs.Expressions.{Object, a_constant, a_procedure, a_type, a_variable}
 use Rattle.ob0_language_types.specs.Typing.{constant_value, constructor_count, denoted_type, type_of_object}
-use Rattle.ob0_language_types.specs.WellTyped.{Mode, Signature, TypeEnvironment, TypedParameter, bind_names, bind_typed_parameters, by_place, by_value, declare_typed_variables, section_mode, typed_parameters}
+use Rattle.ob0_language_types.specs.WellTyped.{Mode, Signature, TypeEnvironment, TypedParameter, bind_names, bind_typed_parameters, by_place, by_value, declare_typed_variables, parameter_section_mode, typed_parameters}
 use Rattle.ob0_language_types.proofs.Literals.{some_inverse}
 use Rattle.ob0_language_types.proofs.TypedElsewhere.{then_some}
 use Rattle.ob0_language_values.specs.Values.{Shape}
-use Rattle.ob0_run_cells.specs.Activations.{PlacementState, Placement, BindingPlace, at_target, slot_of_first_binding, target_of_first_binding, placement_from_binding, bind_without_place, in_slot, placement_seen_one_level_deeper, slot_seen_one_level_deeper, binding_place_seen_one_level_deeper, nowhere, add_names_to_placement, place_parameters, place_variables, slot_of, slot_in_placement, target_of, target_in_placement, add_name_to_placement}
+use Rattle.ob0_run_cells.specs.Activations.{AreSized, HasSize, PlacementState, Placement, BindingPlace, at_target, slot_of_first_binding, target_of_first_binding, placement_from_binding, bind_without_place, in_slot, placement_seen_one_level_deeper, slot_seen_one_level_deeper, binding_place_seen_one_level_deeper, nowhere, place_parameters, slot_of_binding_place, slot_in_placement, target_of_binding_place, target_in_placement, add_name_to_placement}
 use Rattle.ob0_run_cells.specs.Cells.{size}
 use Rattle.ob0_run_cells.specs.LoweredStatements.{Target}
 use Rattle.ob0_run_cells.specs.Lowering.{Slot, in_activation, by_reference}
-use Rattle.ob0_run_lowering.specs.Scenes.{SceneAgrees, object_of_label, place_seen_from, location_at, slot_of_label, target_of_label}
+use Rattle.ob0_run_lowering.specs.Scenes.{SceneAgreesWithChecker, object_of_label, place_seen_from, site_in_table, slot_of_label, target_of_label}
 use Rattle.ob0_run_lowering.specs.declared.scene.Scene.{Scene}
-use Rattle.ob0_run_lowering.specs.declared.scene.LoweredLocation.{LoweredLocation}
-use Rattle.ob0_run_lowering.specs.declared.scene.LoweredLocation.TheVariants as site
+use Rattle.ob0_run_lowering.specs.declared.scene.LoweredSite.{LoweredSite}
+use Rattle.ob0_run_lowering.specs.declared.scene.LoweredSite.TheVariants as site
 use Rattle.ob0_run_lowering.specs.KnownBlocks.{BindingsAreDeclared, ObjectByOrdinal}
-use Rattle.ob0_run_lowering.specs.PlacedNames.{LocationsMatchPlacement, PlacementMatchesEnvironment, PlaceMatchesObject, LocationMatchesPlace, declared_size, place_of_first_binding, place_in_placement, add_declared_names_to_placement, place_variable_declarations, place_sections, locations_after_binding, optional_shape_size, depth_of_location}
+use Rattle.ob0_run_lowering.specs.PlacedNames.{SitesMatchPlacement, PlacementMatchesEnvironment, PlaceMatchesObject, SiteMatchesPlace, declared_size, place_of_first_binding, place_in_placement, add_declared_names_to_placement, place_variable_declarations, place_parameter_sections, sites_after_binding, optional_shape_size, depth_of_site}
 
 -- bindings
 
-pub holds_bound : (sites later : List LoweredLocation) (d : ℕ) (placement : Placement Label) (o : Option ℕ) (name : Name) (s : LoweredLocation) (w : BindingPlace) → LocationMatchesPlace d s w → ((k : ℕ) → location_at later k ≡ locations_after_binding o s (location_at sites) k) → LocationsMatchPlacement sites d placement → LocationsMatchPlacement later d ((label_from_ordinal naming_by_spelling o name, w) ∷ placement)
-holds_bound sites later d placement None name s w new put h = λ k. subst (λ z. LocationMatchesPlace d z (place_in_placement placement (declared k))) (sym (put k)) (h k)
+pub holds_bound : (sites later : List LoweredSite) (d : ℕ) (placement : Placement Label) (o : Option ℕ) (name : Name) (s : LoweredSite) (w : BindingPlace) → SiteMatchesPlace d s w → ((k : ℕ) → site_in_table later k ≡ sites_after_binding o s (site_in_table sites) k) → SitesMatchPlacement sites d placement → SitesMatchPlacement later d ((label_from_ordinal naming_by_spelling o name, w) ∷ placement)
+holds_bound sites later d placement None name s w new put h = λ k. subst (λ z. SiteMatchesPlace d z (place_in_placement placement (declared k))) (sym (put k)) (h k)
 holds_bound sites later d placement (Some j) name s w new put h = λ k.
-    subst (λ z. LocationMatchesPlace d z (place_in_placement ((declared j, w) ∷ placement) (declared k))) (sym (put k))
+    subst (λ z. SiteMatchesPlace d z (place_in_placement ((declared j, w) ∷ placement) (declared k))) (sym (put k))
     (by k (k == j))
   where
-    by : (k : ℕ) (t : Bool) → LocationMatchesPlace d (if t then s else location_at sites k) (place_of_first_binding (elim t [ true ↦ (declared j, w) ∷ placement | false ↦ placement_from_binding naming_by_label placement (declared k) ]))
+    by : (k : ℕ) (t : Bool) → SiteMatchesPlace d (if t then s else site_in_table sites k) (place_of_first_binding (elim t [ true ↦ (declared j, w) ∷ placement | false ↦ placement_from_binding naming_by_label placement (declared k) ]))
     by k true = new
     by k false = h k
 
-pub holds_same : (sites later : List LoweredLocation) (d : ℕ) (placement : Placement Label) → ((k : ℕ) → location_at later k ≡ location_at sites k) → LocationsMatchPlacement sites d placement → LocationsMatchPlacement later d placement
-holds_same sites later d placement same h = λ k. subst (λ z. LocationMatchesPlace d z (place_in_placement placement (declared k))) (sym (same k)) (h k)
+pub holds_same : (sites later : List LoweredSite) (d : ℕ) (placement : Placement Label) → ((k : ℕ) → site_in_table later k ≡ site_in_table sites k) → SitesMatchPlacement sites d placement → SitesMatchPlacement later d placement
+holds_same sites later d placement same h = λ k. subst (λ z. SiteMatchesPlace d z (place_in_placement placement (declared k))) (sym (same k)) (h k)
 
 -- what is nowhere needs no site
-holds_nowhere : (sites : List LoweredLocation) (d : ℕ) (x : Label) (placement : Placement Label) → LocationsMatchPlacement sites d placement → LocationsMatchPlacement sites d ((x, nowhere) ∷ placement)
+holds_nowhere : (sites : List LoweredSite) (d : ℕ) (x : Label) (placement : Placement Label) → SitesMatchPlacement sites d placement → SitesMatchPlacement sites d ((x, nowhere) ∷ placement)
 holds_nowhere sites d x placement h = λ k. by k (same_label (declared k) x)
   where
-    by : (k : ℕ) (t : Bool) → LocationMatchesPlace d (location_at sites k) (place_of_first_binding (elim t [ true ↦ (x, nowhere) ∷ placement | false ↦ placement_from_binding naming_by_label placement (declared k) ]))
+    by : (k : ℕ) (t : Bool) → SiteMatchesPlace d (site_in_table sites k) (place_of_first_binding (elim t [ true ↦ (x, nowhere) ∷ placement | false ↦ placement_from_binding naming_by_label placement (declared k) ]))
     by k true = tt
     by k false = h k
 
-pub holds_hidden : (sites : List LoweredLocation) (d : ℕ) (xs : List Label) (placement : Placement Label) → LocationsMatchPlacement sites d placement → LocationsMatchPlacement sites d (bind_without_place xs placement)
+pub holds_hidden : (sites : List LoweredSite) (d : ℕ) (xs : List Label) (placement : Placement Label) → SitesMatchPlacement sites d placement → SitesMatchPlacement sites d (bind_without_place xs placement)
 holds_hidden sites d [] placement h = h
 holds_hidden sites d (x ∷ xs) placement h = holds_hidden sites d xs ((x, nowhere) ∷ placement) (holds_nowhere sites d x placement h)
 
 -- one activation further in
 
-seen_inward : (d : ℕ) (s : LoweredLocation) → depth_of_location s ≤ d → place_seen_from (suc d) s ≡ binding_place_seen_one_level_deeper (place_seen_from d s)
+seen_inward : (d : ℕ) (s : LoweredSite) → depth_of_site s ≤ d → place_seen_from (suc d) s ≡ binding_place_seen_one_level_deeper (place_seen_from d s)
 seen_inward d (site.InActivation at offset) le = let e : suc d - at ≡ suc (d - at) = omega arith in ap (λ up. in_slot (in_activation up offset)) e
 seen_inward d (site.ByReference at index) le = let e : suc d - at ≡ suc (d - at) = omega arith in ap (λ up. in_slot (by_reference up index)) e
 seen_inward d (site.Procedure at index) le = let e : suc d - at ≡ suc (d - at) = omega arith in ap (λ up. at_target (record { procedure = index; up = up })) e
 seen_inward d _ le = refl
 
-reports_inward : (d : ℕ) (s : LoweredLocation) (w : BindingPlace) → LocationMatchesPlace d s w → LocationMatchesPlace (suc d) s (binding_place_seen_one_level_deeper w)
+reports_inward : (d : ℕ) (s : LoweredSite) (w : BindingPlace) → SiteMatchesPlace d s w → SiteMatchesPlace (suc d) s (binding_place_seen_one_level_deeper w)
 reports_inward d s nowhere h = tt
 reports_inward d s _ h = (omega (arith, h.0), seen_inward d s h.0 ∙ ap binding_place_seen_one_level_deeper h.1)
 
@@ -69,8 +69,8 @@ found_inward (b ∷ placement) x =
     elim (same_label x b.0) as (λ t. place_of_first_binding (elim t [ true ↦ (b.0, binding_place_seen_one_level_deeper b.1) ∷ placement_seen_one_level_deeper placement | false ↦ placement_from_binding naming_by_label (placement_seen_one_level_deeper placement) x ]) ≡ binding_place_seen_one_level_deeper (place_of_first_binding (elim t [ true ↦ b ∷ placement | false ↦ placement_from_binding naming_by_label placement x ])))
     [ true ↦ refl | false ↦ found_inward placement x ]
 
-pub holds_inward : (sites : List LoweredLocation) (d : ℕ) (placement : Placement Label) → LocationsMatchPlacement sites d placement → LocationsMatchPlacement sites (suc d) (placement_seen_one_level_deeper placement)
-holds_inward sites d placement h = λ k. subst (LocationMatchesPlace (suc d) (location_at sites k)) (sym (found_inward placement (declared k))) (reports_inward d (location_at sites k) (place_in_placement placement (declared k)) (h k))
+pub holds_inward : (sites : List LoweredSite) (d : ℕ) (placement : Placement Label) → SitesMatchPlacement sites d placement → SitesMatchPlacement sites (suc d) (placement_seen_one_level_deeper placement)
+holds_inward sites d placement h = λ k. subst (SiteMatchesPlace (suc d) (site_in_table sites k)) (sym (found_inward placement (declared k))) (reports_inward d (site_in_table sites k) (place_in_placement placement (declared k)) (h k))
 
 suits_inward : (o : Object Shape Signature) (w : BindingPlace) → PlaceMatchesObject o w → PlaceMatchesObject o (binding_place_seen_one_level_deeper w)
 suits_inward (a_variable s) w h = (slot_seen_one_level_deeper h.0, ap binding_place_seen_one_level_deeper h.1)
@@ -106,22 +106,22 @@ declared_found objects (b ∷ env) a x o h =
       | false ↦ λ is e. declared_found objects env a.1 x o e
     ]) refl h
 
-slot_found : (placement : Placement Label) → slot_of_first_binding placement ≡ slot_of (place_of_first_binding placement)
+slot_found : (placement : Placement Label) → slot_of_first_binding placement ≡ slot_of_binding_place (place_of_first_binding placement)
 slot_found [] = refl
 slot_found (b ∷ placement) = refl
 
-target_found : (placement : Placement Label) → target_of_first_binding placement ≡ target_of (place_of_first_binding placement)
+target_found : (placement : Placement Label) → target_of_first_binding placement ≡ target_of_binding_place (place_of_first_binding placement)
 target_found [] = refl
 target_found (b ∷ placement) = refl
 
-reports_slot : (d : ℕ) (s : LoweredLocation) (w : BindingPlace) (slot : Slot) → w ≡ in_slot slot → LocationMatchesPlace d s w → place_seen_from d s ≡ w
-reports_slot d s w slot e h = (subst (LocationMatchesPlace d s) e h).1 ∙ sym e
+reports_slot : (d : ℕ) (s : LoweredSite) (w : BindingPlace) (slot : Slot) → w ≡ in_slot slot → SiteMatchesPlace d s w → place_seen_from d s ≡ w
+reports_slot d s w slot e h = (subst (SiteMatchesPlace d s) e h).1 ∙ sym e
 
-reports_target : (d : ℕ) (s : LoweredLocation) (w : BindingPlace) (t : Target) → w ≡ at_target t → LocationMatchesPlace d s w → place_seen_from d s ≡ w
-reports_target d s w t e h = (subst (LocationMatchesPlace d s) e h).1 ∙ sym e
+reports_target : (d : ℕ) (s : LoweredSite) (w : BindingPlace) (t : Target) → w ≡ at_target t → SiteMatchesPlace d s w → place_seen_from d s ≡ w
+reports_target d s w t e h = (subst (SiteMatchesPlace d s) e h).1 ∙ sym e
 
 -- a scene is right at a body whose names are known and whose placing is held
-pub sees : (scene : Scene) (env : TypeEnvironment Label) (placement : Placement Label) → BindingsAreDeclared (declared_object_in scene.types.now) env → PlacementMatchesEnvironment env placement → LocationsMatchPlacement scene.sites.now scene.depth placement → SceneAgrees scene (meanings naming_by_label env) (slot_in_placement naming_by_label placement) (target_in_placement naming_by_label placement)
+pub sees : (scene : Scene) (env : TypeEnvironment Label) (placement : Placement Label) → BindingsAreDeclared (declared_object_in scene.types.now) env → PlacementMatchesEnvironment env placement → SitesMatchPlacement scene.sites.now scene.depth placement → SceneAgreesWithChecker scene (meanings naming_by_label env) (slot_in_placement naming_by_label placement) (target_in_placement naming_by_label placement)
 sees scene env placement known m h = record {
   bound = λ x o e. let f = declared_found (declared_object_in scene.types.now) env known x o e in ap (object_of_label scene.types.now) f.1 ∙ f.2;
   written = refl;
@@ -129,12 +129,12 @@ sees scene env placement known m h = record {
       let f = declared_found (declared_object_in scene.types.now) env known x (a_variable s) e in
       let suits = matches_found env placement m x (a_variable s) e in
       subst (λ y. slot_in_placement naming_by_label placement y ≡ slot_of_label scene y) (sym f.1)
-      (slot_found (placement_from_binding naming_by_label placement (declared f.0)) ∙ ap slot_of (sym (reports_slot scene.depth (location_at scene.sites.now f.0) (place_in_placement placement (declared f.0)) suits.0 (ap (place_in_placement placement) (sym f.1) ∙ suits.1) (h f.0))));
+      (slot_found (placement_from_binding naming_by_label placement (declared f.0)) ∙ ap slot_of_binding_place (sym (reports_slot scene.depth (site_in_table scene.sites.now f.0) (place_in_placement placement (declared f.0)) suits.0 (ap (place_in_placement placement) (sym f.1) ∙ suits.1) (h f.0))));
   procedures = λ x p e.
       let f = declared_found (declared_object_in scene.types.now) env known x (a_procedure p) e in
       let suits = matches_found env placement m x (a_procedure p) e in
       subst (λ y. target_in_placement naming_by_label placement y ≡ target_of_label scene y) (sym f.1)
-      (target_found (placement_from_binding naming_by_label placement (declared f.0)) ∙ ap target_of (sym (reports_target scene.depth (location_at scene.sites.now f.0) (place_in_placement placement (declared f.0)) suits.0 (ap (place_in_placement placement) (sym f.1) ∙ suits.1) (h f.0))));
+      (target_found (placement_from_binding naming_by_label placement (declared f.0)) ∙ ap target_of_binding_place (sym (reports_target scene.depth (site_in_table scene.sites.now f.0) (place_in_placement placement (declared f.0)) suits.0 (ap (place_in_placement placement) (sym f.1) ∙ suits.1) (h f.0))));
 }
 
 -- constants and types
@@ -161,19 +161,16 @@ first_match b k env first placement h m =
 
 -- names of one type
 
-pub names_before : (objects : ObjectByOrdinal) (xs : List Label) (o : Object Shape Signature) (env : TypeEnvironment Label) → BindingsAreDeclared objects (bind_names xs o env) → BindingsAreDeclared objects env
-names_before objects [] o env a = a
-names_before objects (x ∷ xs) o env a = (names_before objects xs o ((x, o) ∷ env) a).1
-
-one_size : (t : Tables) (x : Label) (s : Shape) → ((k : ℕ) × (x ≡ declared k) × (declared_object_in t k ≡ Some (a_variable s))) → declared_size t x ≡ size s
+one_size : (t : DeclarationTableView) (x : Label) (s : Shape) → ((k : ℕ) × (x ≡ declared k) × (declared_object_in t k ≡ Some (a_variable s))) → declared_size t x ≡ size s
 one_size t x s f = ap (declared_size t) f.1 ∙ ap (λ o. optional_shape_size (type_of_object o)) f.2
 
-names_placed : (t : Tables) (at : ℕ → Slot) (xs : List Label) (s : Shape) (env : TypeEnvironment Label) (p : PlacementState Label) → BindingsAreDeclared (declared_object_in t) (bind_names xs (a_variable s) env) → add_names_to_placement at xs (size s) p ≡ add_declared_names_to_placement at (declared_size t) by_value xs p
-names_placed t at [] s env p a = refl
-names_placed t at (x ∷ xs) s env p a =
-    let head = names_before (declared_object_in t) xs (a_variable s) ((x, a_variable s) ∷ env) a in
-    ap (λ n. add_names_to_placement at xs (size s) (add_name_to_placement at by_value x n p)) (sym (one_size t x s head.0))
-    ∙ names_placed t at xs s ((x, a_variable s) ∷ env) (add_name_to_placement at by_value x (declared_size t x) p) a
+has_size : (t : DeclarationTableView) (x : Label) (o : Object Shape Signature) → ((k : ℕ) × (x ≡ declared k) × (declared_object_in t k ≡ Some o)) → HasSize (declared_size t x) o
+has_size t x (a_variable s) f = one_size t x s f
+has_size t x _ f = tt
+
+pub sizes_declared : (t : DeclarationTableView) (env : TypeEnvironment Label) → BindingsAreDeclared (declared_object_in t) env → AreSized (declared_size t) env
+sizes_declared t [] a = tt
+sizes_declared t (b ∷ env) a = (has_size t b.0 b.1 a.0, sizes_declared t env a.1)
 
 one_matches : (at : ℕ → Slot) (mode : Mode) (x : Label) (n : ℕ) (s : Shape) (env : TypeEnvironment Label) (p : PlacementState Label) → PlacementMatchesEnvironment env p.placement → PlacementMatchesEnvironment ((x, a_variable s) ∷ env) (add_name_to_placement at mode x n p).placement
 one_matches at by_value x n s env p m = (refl, (at p.cells, refl), m)
@@ -184,24 +181,6 @@ names_match at size_of mode [] s env p m = m
 names_match at size_of mode (x ∷ xs) s env p m = names_match at size_of mode xs s ((x, a_variable s) ∷ env) (add_name_to_placement at mode x (size_of x) p) (one_matches at mode x (size_of x) s env p m)
 
 -- the variables of a block
-
-groups_before : (objects : ObjectByOrdinal) (gs : Tree Label (items variable)) (k : ℕ) (env inner : TypeEnvironment Label) → declare_typed_variables naming_by_label k gs env ≡ Some inner → BindingsAreDeclared objects inner → BindingsAreDeclared objects env
-unfolding declare_typed_variables
-groups_before objects end k env inner h a = subst (BindingsAreDeclared objects) (sym (some_inverse h)) a
-groups_before objects (more (declares_variable ns u) gs) k env inner h a =
-    let f = then_some (denoted_type (meanings naming_by_label env) k u) (λ s. declare_typed_variables naming_by_label (k + constructor_count u) gs (bind_names (names_in_list ns) (a_variable s) env)) inner h in
-    names_before objects (names_in_list ns) (a_variable f.0) env (groups_before objects gs (k + constructor_count u) (bind_names (names_in_list ns) (a_variable f.0) env) inner f.2 a)
-
-pub groups_placed : (t : Tables) (at : ℕ → Slot) (gs : Tree Label (items variable)) (k : ℕ) (env inner : TypeEnvironment Label) (p : PlacementState Label) → declare_typed_variables naming_by_label k gs env ≡ Some inner → BindingsAreDeclared (declared_object_in t) inner
-    → place_variables naming_by_label at env k gs p ≡ Some (place_variable_declarations at (declared_size t) gs p)
-unfolding declare_typed_variables place_variables
-groups_placed t at end k env inner p h a = refl
-groups_placed t at (more (declares_variable ns u) gs) k env inner p h a =
-    let f = then_some (denoted_type (meanings naming_by_label env) k u) (λ s. declare_typed_variables naming_by_label (k + constructor_count u) gs (bind_names (names_in_list ns) (a_variable s) env)) inner h in
-    let env' : TypeEnvironment Label = bind_names (names_in_list ns) (a_variable f.0) env in
-    ap (option_and_then (λ s. place_variables naming_by_label at (bind_names (names_in_list ns) (a_variable s) env) (k + constructor_count u) gs (add_names_to_placement at (names_in_list ns) (size s) p))) f.1
-    ∙ ap (place_variables naming_by_label at env' (k + constructor_count u) gs) (names_placed t at (names_in_list ns) f.0 env p (groups_before (declared_object_in t) gs (k + constructor_count u) env' inner f.2 a))
-    ∙ groups_placed t at gs (k + constructor_count u) env' inner (add_declared_names_to_placement at (declared_size t) by_value (names_in_list ns) p) f.2 a
 
 pub groups_match : (at : ℕ → Slot) (size_of : Label → ℕ) (gs : Tree Label (items variable)) (k : ℕ) (env inner : TypeEnvironment Label) (p : PlacementState Label) → declare_typed_variables naming_by_label k gs env ≡ Some inner → PlacementMatchesEnvironment env p.placement → PlacementMatchesEnvironment inner (place_variable_declarations at size_of gs p).placement
 unfolding declare_typed_variables
@@ -217,18 +196,18 @@ typed_before objects [] env a = a
 typed_before objects (p ∷ ps) env a = (typed_before objects ps ((p.name, a_variable p.formal.shape) ∷ env) a).1
 
 abbrev of_section : Tree Label section → Shape → List Label → List (TypedParameter Label)
-of_section f s xs = map (λ x. record { name = x; formal = record { mode = section_mode f; shape = s } }) xs
+of_section f s xs = map (λ x. record { name = x; formal = record { mode = parameter_section_mode f; shape = s } }) xs
 
-section_placed : (t : Tables) (f : Tree Label section) (s : Shape) (xs : List Label) (rest : List (TypedParameter Label)) (env : TypeEnvironment Label) (p : PlacementState Label) → BindingsAreDeclared (declared_object_in t) (bind_typed_parameters (of_section f s xs ++ rest) env)
-    → (place_parameters (of_section f s xs ++ rest) p ≡ place_parameters rest (add_declared_names_to_placement (in_activation 0) (declared_size t) (section_mode f) xs p)) × BindingsAreDeclared (declared_object_in t) (bind_typed_parameters rest (bind_names xs (a_variable s) env))
+section_placed : (t : DeclarationTableView) (f : Tree Label section) (s : Shape) (xs : List Label) (rest : List (TypedParameter Label)) (env : TypeEnvironment Label) (p : PlacementState Label) → BindingsAreDeclared (declared_object_in t) (bind_typed_parameters (of_section f s xs ++ rest) env)
+    → (place_parameters (of_section f s xs ++ rest) p ≡ place_parameters rest (add_declared_names_to_placement (in_activation 0) (declared_size t) (parameter_section_mode f) xs p)) × BindingsAreDeclared (declared_object_in t) (bind_typed_parameters rest (bind_names xs (a_variable s) env))
 section_placed t f s [] rest env p a = (refl, a)
 section_placed t f s (x ∷ xs) rest env p a =
     let head = typed_before (declared_object_in t) (of_section f s xs ++ rest) ((x, a_variable s) ∷ env) a in
-    let following = section_placed t f s xs rest ((x, a_variable s) ∷ env) (add_name_to_placement (in_activation 0) (section_mode f) x (declared_size t x) p) a in
-    (ap (λ n. place_parameters (of_section f s xs ++ rest) (add_name_to_placement (in_activation 0) (section_mode f) x n p)) (sym (one_size t x s head.0)) ∙ following.0, following.1)
+    let following = section_placed t f s xs rest ((x, a_variable s) ∷ env) (add_name_to_placement (in_activation 0) (parameter_section_mode f) x (declared_size t x) p) a in
+    (ap (λ n. place_parameters (of_section f s xs ++ rest) (add_name_to_placement (in_activation 0) (parameter_section_mode f) x n p)) (sym (one_size t x s head.0)) ∙ following.0, following.1)
 
-pub sections_placed : (t : Tables) (fs : Tree Label (items further_section)) (k : ℕ) (env outer : TypeEnvironment Label) (ps : List (TypedParameter Label)) (p : PlacementState Label) → typed_parameters naming_by_label env k fs ≡ Some ps → BindingsAreDeclared (declared_object_in t) (bind_typed_parameters ps outer)
-    → place_parameters ps p ≡ place_sections (in_activation 0) (declared_size t) fs p
+pub sections_placed : (t : DeclarationTableView) (fs : Tree Label (items further_section)) (k : ℕ) (env outer : TypeEnvironment Label) (ps : List (TypedParameter Label)) (p : PlacementState Label) → typed_parameters naming_by_label env k fs ≡ Some ps → BindingsAreDeclared (declared_object_in t) (bind_typed_parameters ps outer)
+    → place_parameters ps p ≡ place_parameter_sections (in_activation 0) (declared_size t) fs p
 unfolding typed_parameters
 sections_placed t end k env outer ps p h a = ap (λ qs. place_parameters qs p) (sym (some_inverse h))
 sections_placed t (more (then_section f) fs) k env outer ps p h a =
@@ -239,7 +218,7 @@ sections_placed t (more (then_section f) fs) k env outer ps p h a =
     let whole : of_section f one.0 xs ++ two.0 ≡ ps = some_inverse two.2 in
     let r = section_placed t f one.0 xs two.0 outer p (subst (λ qs. BindingsAreDeclared (declared_object_in t) (bind_typed_parameters qs outer)) (sym whole) a) in
     ap (λ qs. place_parameters qs p) (sym whole) ∙ r.0
-    ∙ sections_placed t fs (k + constructor_count (parameter_section_type f)) (bind_names xs (a_variable one.0) env) (bind_names xs (a_variable one.0) outer) two.0 (add_declared_names_to_placement (in_activation 0) (declared_size t) (section_mode f) xs p) two.1 r.1
+    ∙ sections_placed t fs (k + constructor_count (parameter_section_type f)) (bind_names xs (a_variable one.0) env) (bind_names xs (a_variable one.0) outer) two.0 (add_declared_names_to_placement (in_activation 0) (declared_size t) (parameter_section_mode f) xs p) two.1 r.1
 
 pub parameters_match : (ps : List (TypedParameter Label)) (env : TypeEnvironment Label) (p : PlacementState Label) → PlacementMatchesEnvironment env p.placement → PlacementMatchesEnvironment (bind_typed_parameters ps env) (place_parameters ps p).placement
 parameters_match [] env p m = m

@@ -19,8 +19,8 @@ use Rattle.ob0_run_cells.specs.Lowering as lowering
 use Rattle.ob0_run_cells.proofs.LoweredNumbers.{integer-means}
 use Rattle.ob0_run_cells.proofs.LoweredPlaces as places
 use Rattle.ob0_run_lowering.specs.Codes.{ExpressionCode, CodeMeans, PlaceWithShape, a_number, a_truth, addition_code, constant_code, place_of_element, element_place, indexed_place, record_field_place, multiplication_code, designator_code, signed_code, code_of_value_at_place}
-use Rattle.ob0_run_lowering.specs.Scenes.{SceneAgrees, object_of_label, slot_of_label}
-use Rattle.ob0_run_lowering.specs.Trees.{addends_code, base_place, expression_code, factor_code, multipliers_code, selected_place, simple_code, term_code, variable_place}
+use Rattle.ob0_run_lowering.specs.Scenes.{SceneAgreesWithChecker, object_of_label, slot_of_label}
+use Rattle.ob0_run_lowering.specs.Trees.{addends_code, variable_place_of_label, expression_code, factor_code, multipliers_code, selected_place, simple_code, term_code, place_if_variable}
 use Rattle.ob0_run_lowering.specs.declared.scene.Scene.{Scene}
 use Rattle.ob0_run_lowering.proofs.PartsFound.{element-same, leads-from}
 use Rattle.ob0_run_lowering.proofs.CodesMean.{CodeLeads, addition_code-leads, addends-end, alone-means, multiplication_code-leads, multipliers-end, negation_code-means, number-code, parenthesised-means, related-means, sum-begins, term-begins}
@@ -97,7 +97,7 @@ module _ (checked : TypeMeanings Label) (slots : Label → Slot) where
       )
   element-step c q _ _ t e rest whole leads h hc = absurd (cc)
 
-module _ (scene : Scene) (checked : TypeMeanings Label) (slots : Label → Slot) (targets : Label → Target) (sees : SceneAgrees scene checked slots targets) where
+module _ (scene : Scene) (checked : TypeMeanings Label) (slots : Label → Slot) (targets : Label → Target) (sees : SceneAgreesWithChecker scene checked slots targets) where
   -- the place at the end of a path
   abbrev Selected : Tree ℕ (items selector) → Type 0
   Selected path =
@@ -106,25 +106,25 @@ module _ (scene : Scene) (checked : TypeMeanings Label) (slots : Label → Slot)
 
   -- the place of a variable with its selectors
   variable-means : (x : Label) (path : Tree ℕ (items selector)) (s v : Shape) → Selected path → checked.object_for x ≡ Some (a_variable v) → type_after_selectors checked v (tree_with_labels scene.resolved.now path) ≡ Some s
-      → (q : lowered.Place) × (selected_place scene (base_place scene x) (tree_with_labels scene.resolved.now path) ≡ Some (found_at q s)) × PlaceMeans checked slots q s (place_of_designator x (tree_with_labels scene.resolved.now path))
+      → (q : lowered.Place) × (selected_place scene (variable_place_of_label scene x) (tree_with_labels scene.resolved.now path) ≡ Some (found_at q s)) × PlaceMeans checked slots q s (place_of_designator x (tree_with_labels scene.resolved.now path))
   variable-means x path s v selected e h =
       let here = sees.variables x v e in
       let leads = subst (λ z. PlaceStartsChain checked slots (slot_place z) v (tree_with_labels scene.resolved.now path) (place_of_designator x (tree_with_labels scene.resolved.now path))) here (places.variable-leads checked slots x v (tree_with_labels scene.resolved.now path) e) in
       let (q, eq, hq) = selected (slot_place (slot_of_label scene x)) v s (place_of_designator x (tree_with_labels scene.resolved.now path)) leads h in
-      (q, ap (λ o. selected_place scene (variable_place (slot_place (slot_of_label scene x)) o) (tree_with_labels scene.resolved.now path)) (sees.bound x (a_variable v) e) ∙ eq, hq)
+      (q, ap (λ o. selected_place scene (place_if_variable (slot_place (slot_of_label scene x)) o) (tree_with_labels scene.resolved.now path)) (sees.bound x (a_variable v) e) ∙ eq, hq)
 
   named-means : (x : Label) (path : Tree ℕ (items selector)) (s : Shape) (o : Option (Object Shape Signature)) → Selected path → checked.object_for x ≡ o → option_and_then (λ t. type_after_selectors checked t (tree_with_labels scene.resolved.now path)) (type_of_variable_or_constant o) ≡ Some s
-      → CodeMeans checked slots (designator_code (constant_of (object_of_label scene.types.now x)) (selected_place scene (base_place scene x) (tree_with_labels scene.resolved.now path))) s (value_of_factor (designator x (tree_with_labels scene.resolved.now path)))
+      → CodeMeans checked slots (designator_code (constant_of (object_of_label scene.types.now x)) (selected_place scene (variable_place_of_label scene x) (tree_with_labels scene.resolved.now path))) s (value_of_factor (designator x (tree_with_labels scene.resolved.now path)))
   named-means x path s (Some (a_variable v)) selected e h =
       let (q, eq, hq) = variable-means x path s v selected e h in
       let there = sees.bound x (a_variable v) e in
       subst (λ c. CodeMeans checked slots c s (value_of_factor (designator x (tree_with_labels scene.resolved.now path))))
-      (sym (ap (λ o. designator_code (constant_of o) (selected_place scene (base_place scene x) (tree_with_labels scene.resolved.now path))) there ∙ ap (designator_code None) eq))
+      (sym (ap (λ o. designator_code (constant_of o) (selected_place scene (variable_place_of_label scene x) (tree_with_labels scene.resolved.now path))) there ∙ ap (designator_code None) eq))
       (place-means checked slots x v (tree_with_labels scene.resolved.now path) q s e hq)
   named-means x path s (Some (a_constant v)) selected e h =
       let there = sees.bound x (a_constant v) e in
       subst (λ c. CodeMeans checked slots c s (value_of_factor (designator x (tree_with_labels scene.resolved.now path))))
-      (sym (ap (λ o. designator_code (constant_of o) (selected_place scene (base_place scene x) (tree_with_labels scene.resolved.now path))) there))
+      (sym (ap (λ o. designator_code (constant_of o) (selected_place scene (variable_place_of_label scene x) (tree_with_labels scene.resolved.now path))) there))
       (constant-means checked slots x v (tree_with_labels scene.resolved.now path) s e h)
   named-means x path s _ selected e h = absurd (cc)
 
@@ -193,5 +193,5 @@ module _ (scene : Scene) (checked : TypeMeanings Label) (slots : Label → Slot)
         (p', ap (λ o. selected_place scene o (tree_with_labels scene.resolved.now rest)) ep ∙ ep', hp')
 
   pub located-means : (x : Label) (path : Tree ℕ (items selector)) (s v : Shape) → checked.object_for x ≡ Some (a_variable v) → type_after_selectors checked v (tree_with_labels scene.resolved.now path) ≡ Some s
-      → (q : lowered.Place) × (selected_place scene (base_place scene x) (tree_with_labels scene.resolved.now path) ≡ Some (found_at q s)) × PlaceMeans checked slots q s (place_of_designator x (tree_with_labels scene.resolved.now path))
+      → (q : lowered.Place) × (selected_place scene (variable_place_of_label scene x) (tree_with_labels scene.resolved.now path) ≡ Some (found_at q s)) × PlaceMeans checked slots q s (place_of_designator x (tree_with_labels scene.resolved.now path))
   located-means x path s v e h = variable-means x path s v (λ q z s whole. selected-means q z path s whole) e h

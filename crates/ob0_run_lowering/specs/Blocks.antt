@@ -2,7 +2,7 @@
 -- its heading, a procedure gets an index in the table of procedures, with a placeholder there. At
 -- the procedure's end, its code replaces the placeholder. Code calls procedures by their indices,
 -- so code is correct only together with a table. A clause about code holds for each table that has
--- the procedures that were added together with this code (`HasRoutinesFrom`). So the code is
+-- the procedures that were added together with this code (`HasRoutinesFromIndex`). So the code is
 -- also correct for a longer table, and no clause mentions the final table. `LowersProcedures` is
 -- about some procedures of a block, and holds for any procedures and statements that follow in the
 -- block. The loop over a block's procedures composes such facts (`goes_then`).
@@ -10,23 +10,23 @@
 use Rattle.std.specs.Prelude.{◌≡◌, ℕ, ◌≤◌, true, List, length, Some, slice_get}
 use Rattle.ob0_tree.specs.Tree.{Tree, block, body, items, maybe, procedure}
 use Rattle.ob0_language_names.specs.Names.{Label, naming_by_label}
-use Rattle.ob0_types_table.specs.KnownTables.{Tables, declared_object_in}
+use Rattle.ob0_types_table.specs.KnownTables.{DeclarationTableView, declared_object_in}
 use Rattle.ob0_language_types.specs.WellTyped.{TypeEnvironment, block_is_well_typed, procedures_are_well_typed}
 use Rattle.ob0_run_machine.specs.Lowered as lowered
 use Rattle.ob0_run_machine.specs.View.{procedure_of, sequence_of}
 use Rattle.ob0_run_machine.specs.declared.code.Routine.{Routine}
 use Rattle.ob0_run_cells.specs.Activations.{CodeMeansBlock, PlacementState, Placement, RoutinesMeanProcedures, routine_table_by_label}
 use Rattle.ob0_run_cells.specs.Lowering.{Slot}
-use Rattle.ob0_run_lowering.specs.declared.scene.LoweredLocation.{LoweredLocation}
+use Rattle.ob0_run_lowering.specs.declared.scene.LoweredSite.{LoweredSite}
 use Rattle.ob0_run_lowering.specs.KnownBlocks.{BindingsAreDeclared, BlockBindingsAreDeclared, ProcedureBindingsAreDeclared}
-use Rattle.ob0_run_lowering.specs.PlacedNames.{HidesMoreLocations, LocationsMatchPlacement, FrameMatchesPlacement, PlacementMatchesEnvironment, variable_slot}
+use Rattle.ob0_run_lowering.specs.PlacedNames.{HidesMoreSites, SitesMatchPlacement, FrameMatchesPlacement, PlacementMatchesEnvironment, variable_slot_at_depth}
 use Rattle.ob0_run_lowering.specs.declared.programs.Lowering.{Lowering}
-use Rattle.ob0_run_lowering.specs.declared.visible_locations.Frame.{Frame}
+use Rattle.ob0_run_lowering.specs.declared.visible_sites.Frame.{Frame}
 
 -- states that a table has the code of each procedure in the list `ps` whose index is at least `n`,
 -- at the same index
-abbrev pub HasRoutinesFrom : List lowered.Routine → ℕ → List Routine → Type 0
-HasRoutinesFrom table n ps =
+abbrev pub HasRoutinesFromIndex : List lowered.Routine → ℕ → List Routine → Type 0
+HasRoutinesFromIndex table n ps =
     (i : ℕ) (e : Routine)
     → n ≤ i
     → slice_get ps i ≡ Some e
@@ -39,26 +39,26 @@ KeepsRoutines before now = (i : ℕ) (e : Routine) → slice_get before i ≡ So
 
 -- The state before the remaining procedures of a block are lowered. It has the environment, the
 -- places of the names in scope (`placement`), and the ordinal of the next ARRAY or RECORD.
-pub record BlockState : Type 0 where
+pub record BlockLoweringState : Type 0 where
   pub env : TypeEnvironment Label
   pub placement : Placement Label
   pub next : ℕ
 
 -- States that the remaining procedures `ps` and the statements of a block are well-typed in the
 -- state `s`. The table of declarations has the object of each name in scope, and of each name that
--- these procedures declare. The table of locations has the place of each name in scope.
-pub record IsReadyToLower (t : Tables) (sites : List LoweredLocation) (depth : ℕ) (s : BlockState)
+-- these procedures declare. The table of sites has the place of each name in scope.
+pub record IsReadyToLower (t : DeclarationTableView) (sites : List LoweredSite) (depth : ℕ) (s : BlockLoweringState)
     (statements : Tree Label (maybe body)) (ps : Tree Label (items procedure)) : Type 0 where
   pub environment_is_declared : BindingsAreDeclared (declared_object_in t) s.env
   pub matches : PlacementMatchesEnvironment s.env s.placement
-  pub holds : LocationsMatchPlacement sites depth s.placement
+  pub holds : SitesMatchPlacement sites depth s.placement
   pub fits : procedures_are_well_typed naming_by_label s.env s.next statements ps ≡ true
   pub procedures_are_declared : ProcedureBindingsAreDeclared (declared_object_in t) s.env s.next ps
 
 -- States that a table has correct code for the remaining procedures `ps` of a block, and that
 -- `code` is correct for the block's statements. `s` is the state before these procedures.
 abbrev pub CodeMeansRestOfBlock : List lowered.Routine
-    → BlockState
+    → BlockLoweringState
     → lowered.Instructions
     → Tree Label (maybe body)
     → Tree Label (items procedure)
@@ -71,25 +71,25 @@ CodeMeansRestOfBlock table s code statements ps =
 -- (`Lowering`) before and after. `composes_meaning` is about each table that has the routines that
 -- were added: if the table and some code are correct for `left` in the state `now`, they are
 -- correct for `ps` in the state `s`.
-pub record LowersFromState (t : Tables) (w v : Lowering) (depth : ℕ) (s : BlockState)
+pub record LowersFromState (t : DeclarationTableView) (w v : Lowering) (depth : ℕ) (s : BlockLoweringState)
     (statements : Tree Label (maybe body)) (ps left : Tree Label (items procedure)) : Type 0 where
-  pub now : BlockState
+  pub now : BlockLoweringState
   pub ready : IsReadyToLower t v.visible.sites.items depth now statements left
   pub composes_meaning : (table : List lowered.Routine) (code : lowered.Instructions)
-      → HasRoutinesFrom table (length w.procedures.items) v.procedures.items
+      → HasRoutinesFromIndex table (length w.procedures.items) v.procedures.items
       → CodeMeansRestOfBlock table now code statements left
       → CodeMeansRestOfBlock table s code statements ps
 
 -- States that lowering starts with the remaining procedures `ps` of a block, and reaches the
 -- remaining procedures `left`. This holds for each state in which lowering starts, and for any
--- statements of the block (`LowersFromState`). Also states that the tables of locations and of
+-- statements of the block (`LowersFromState`). Also states that the tables of sites and of
 -- procedures only grow.
-pub record LowersProcedures (t : Tables) (w v : Lowering) (depth : ℕ) (ps left : Tree Label (items procedure))
+pub record LowersProcedures (t : DeclarationTableView) (w v : Lowering) (depth : ℕ) (ps left : Tree Label (items procedure))
     : Type 0 where
-  pub lowers_from : (s : BlockState) (statements : Tree Label (maybe body))
+  pub lowers_from : (s : BlockLoweringState) (statements : Tree Label (maybe body))
       → IsReadyToLower t w.visible.sites.items depth s statements ps
       → LowersFromState t w v depth s statements ps left
-  pub follows : HidesMoreLocations w.visible v.visible
+  pub follows : HidesMoreSites w.visible v.visible
   pub longer : length w.procedures.items ≤ length v.procedures.items
   pub grown : KeepsRoutines w.procedures.items v.procedures.items
 
@@ -99,14 +99,14 @@ pub record LowersProcedures (t : Tables) (w v : Lowering) (depth : ℕ) (ps left
 pub record RoutineMeansBlock (w v : Lowering) (f : Frame) (b : Tree Label block) (entry : Routine)
     (env : TypeEnvironment Label) (p : PlacementState Label) (k : ℕ) : Type 0 where
   pub means : (table : List lowered.Routine)
-      → HasRoutinesFrom table (length w.procedures.items) v.procedures.items
-      → CodeMeansBlock (routine_table_by_label table) (variable_slot f.depth) env p k entry.cells
+      → HasRoutinesFromIndex table (length w.procedures.items) v.procedures.items
+      → CodeMeansBlock (routine_table_by_label table) (variable_slot_at_depth f.depth) env p k entry.cells
       (sequence_of entry.body.items) b
 
 -- States that the routine `entry` is correct code for a block, if the block is well-typed and the
--- names in scope have their places and their objects. Also states that the tables of locations and
--- of procedures only grow, from `w` to `v`.
-pub record LowersBlock (t : Tables) (w v : Lowering) (f : Frame) (b : Tree Label block)
+-- names in scope have their places and their objects. Also states that the tables of sites and of
+-- procedures only grow, from `w` to `v`.
+pub record LowersBlock (t : DeclarationTableView) (w v : Lowering) (f : Frame) (b : Tree Label block)
     (entry : Routine) : Type 0 where
   pub lowers_from : (env : TypeEnvironment Label) (p : PlacementState Label) (k : ℕ)
       → PlacementMatchesEnvironment env p.placement
@@ -114,6 +114,6 @@ pub record LowersBlock (t : Tables) (w v : Lowering) (f : Frame) (b : Tree Label
       → block_is_well_typed naming_by_label env k b ≡ true
       → BlockBindingsAreDeclared (declared_object_in t) env k b
       → RoutineMeansBlock w v f b entry env p k
-  pub follows : HidesMoreLocations w.visible v.visible
+  pub follows : HidesMoreSites w.visible v.visible
   pub longer : length w.procedures.items ≤ length v.procedures.items
   pub grown : KeepsRoutines w.procedures.items v.procedures.items

@@ -54,9 +54,9 @@ code_of_value_at_place q (array_shape k n s) = a_block q (size (array_shape k n 
 code_of_value_at_place q (record_shape k fs) = a_block q (size (record_shape k fs))
 
 -- returns the code of the value at a place, or `no_code` for None
-abbrev pub code_of_value_if_found : Option PlaceWithShape → ExpressionCode
-code_of_value_if_found None = no_code
-code_of_value_if_found (Some f) = code_of_value_at_place f.place f.shape
+abbrev pub code_of_value_at_optional_place : Option PlaceWithShape → ExpressionCode
+code_of_value_at_optional_place None = no_code
+code_of_value_at_optional_place (Some f) = code_of_value_at_place f.place f.shape
 
 -- returns the code of a constant's value, or `no_code` for an array or a record
 abbrev pub constant_code : Value → ExpressionCode
@@ -69,7 +69,7 @@ constant_code (members k ms) = no_code
 -- designator (None), it is the code of the value at the place `found`.
 abbrev pub designator_code : Option Value → Option PlaceWithShape → ExpressionCode
 designator_code (Some v) found = constant_code v
-designator_code None found = code_of_value_if_found found
+designator_code None found = code_of_value_at_optional_place found
 
 -- returns the code of an operation on two numbers, or `no_code` if an operand isn't a number
 abbrev pub number_operation : lowered.Operator → ExpressionCode → ExpressionCode → ExpressionCode
@@ -123,23 +123,23 @@ relation_code _ _ _ = no_code
 
 -- Returns the offset of an array's element, in cells from the start of the array, if the index is a
 -- literal below the array's length. The offset wraps at 64 bits. Returns None for any other index.
-abbrev pub known_offset : lowered.Number → (length stride : ℕ) → Option ℕ
-known_offset (lowered.literal (pos i)) n s =
+abbrev pub known_element_offset : lowered.Number → (length stride : ℕ) → Option ℕ
+known_element_offset (lowered.literal (pos i)) n s =
     if nat_lt i n then Some ((i * s) % 2 ^ 64) else None
-known_offset _ n s = None
+known_element_offset _ n s = None
 
 -- Returns the place of an array's element. If the offset of the element is known, this is the place
 -- at this offset in the array. If it isn't known (None), this is the element at an index that is
 -- evaluated during the run.
-abbrev pub element_at_optional_offset : Option ℕ → lowered.Place → lowered.Number → (length stride : ℕ)
+abbrev pub element_place_at_optional_offset : Option ℕ → lowered.Place → lowered.Number → (length stride : ℕ)
     → lowered.Place
-element_at_optional_offset None q i n s = lowered.element q i n s 0
-element_at_optional_offset (Some k) q i n s = place_at_offset q k
+element_place_at_optional_offset None q i n s = lowered.element q i n s 0
+element_place_at_optional_offset (Some k) q i n s = place_at_offset q k
 
 -- returns the place of an element, given the place of the array, the index, the array's length, and
 -- the number of cells of an element
 abbrev pub place_of_element : lowered.Place → lowered.Number → (length stride : ℕ) → lowered.Place
-place_of_element q i n s = element_at_optional_offset (known_offset i n s) q i n s
+place_of_element q i n s = element_place_at_optional_offset (known_element_offset i n s) q i n s
 
 -- Returns the place and the type of a field of the value at a place. Returns None if the value has
 -- no such field.

@@ -1,36 +1,36 @@
--- States that a computed layout (`Layout`) is right for a type: it has the type's number of cells,
+-- States that a computed layout (`CellLayout`) is right for a type: it has the type's number of cells,
 -- and a record's layout also has the offset of each field.
 -- Rule: none; used in contracts of lowering.
 use Rattle.std.specs.Prelude.{◌≡◌, ℕ, ◌+◌, List, [], ◌∷◌, Some, None, Option}
 use Rattle.std.specs.Borrow.{Bor}
-use Rattle.ob0_types_table.specs.Tables.{faulty_shape}
+use Rattle.ob0_types_table.specs.DeclarationTableView.{faulty_shape}
 use Rattle.ob0_language_values.specs.Values.{FieldShapes, Shape, array_shape, next_field_shape, no_field_shape, record_shape}
 use Rattle.ob0_run_cells.specs.Cells.{total_field_size, size}
-use Rattle.ob0_run_lowering.specs.declared.types.Layout.{Layout}
-use Rattle.ob0_run_lowering.specs.declared.types.Layout.TheVariants as layout
+use Rattle.ob0_run_lowering.specs.declared.types.CellLayout.{CellLayout}
+use Rattle.ob0_run_lowering.specs.declared.types.CellLayout.TheVariants as layout
 use Rattle.ob0_run_lowering.specs.declared.types.RecordLayout.{RecordLayout}
 
 -- returns the offsets of fields that are stored one after the other, if the first field has the
 -- offset `n`
-abbrev pub offsets_from : ℕ → FieldShapes → List ℕ
-offsets_from n no_field_shape = []
-offsets_from n (next_field_shape x s rest) = n ∷ offsets_from (n + size s) rest
+abbrev pub field_offsets_from : ℕ → FieldShapes → List ℕ
+field_offsets_from n no_field_shape = []
+field_offsets_from n (next_field_shape x s rest) = n ∷ field_offsets_from (n + size s) rest
 
 -- states that the layout of a record has the number of cells of these fields, and the offset of
 -- each field
 pub record IsLayoutOfFields (fs : FieldShapes) (r : RecordLayout) : Type 0 where
   pub cells : r.cells ≡ total_field_size fs
-  pub offsets : r.offsets.items ≡ offsets_from 0 fs
+  pub offsets : r.offsets.items ≡ field_offsets_from 0 fs
 
 -- States that a layout is right for a type. This is never true for a type that is neither an array
 -- nor a record.
-abbrev pub HasLayout : Shape → Layout → Type 0
+abbrev pub HasLayout : Shape → CellLayout → Type 0
 HasLayout (array_shape k n s) (layout.Array cells) = cells ≡ size (array_shape k n s)
 HasLayout (record_shape k fs) (layout.Record r) = IsLayoutOfFields fs r
 HasLayout _ _ = ⊥
 
 -- states that a list of layouts has the right layout for each type of a table, in the table's order
-abbrev pub HaveLayouts : List Shape → List Layout → Type 0
+abbrev pub HaveLayouts : List Shape → List CellLayout → Type 0
 HaveLayouts [] [] = Unit {0}
 HaveLayouts (s ∷ shapes) (l ∷ layouts) = HasLayout s l × HaveLayouts shapes layouts
 HaveLayouts _ _ = ⊥

@@ -1,6 +1,6 @@
 -- States that statements are lowered to correct code. A scene (`Scene`) is the data that is needed
 -- to lower a body. A clause about statements covers all checked names, slots and targets that agree
--- with the scene (`SceneAgrees`). It says that the code of a tree is correct, if the tree is
+-- with the scene (`SceneAgreesWithChecker`). It says that the code of a tree is correct, if the tree is
 -- well-typed with these names (`HoldsInScene`). If the tree isn't well-typed, nothing is claimed
 -- about its code. The parts of a well-typed tree are well-typed, so each law of `ob0_run_cells` is
 -- lifted to this form once (`proofs/HoldsInScene`). Only the clause of `lower_body` has another
@@ -19,10 +19,10 @@ use Rattle.ob0_run_cells.specs.Activations.{CodeMeansBody, Placement, slot_in_pl
 use Rattle.ob0_run_cells.specs.LoweredStatements.{CodeMeansArguments, CodeMeansElse, CodeMeansElsifs, CodeMeansFurtherStatements, CodeMeansSequence, CodeMeansStatement, Target}
 use Rattle.ob0_run_cells.specs.Lowering.{Slot, TruthMeans, value_of_expression}
 use Rattle.ob0_run_lowering.specs.declared.scene.Scene.{Scene}
-use Rattle.ob0_run_lowering.specs.Scenes.{SceneAgrees}
+use Rattle.ob0_run_lowering.specs.Scenes.{SceneAgreesWithChecker}
 
 -- States that `Means` holds for all checked names, slots and targets that agree with a scene
--- (`SceneAgrees`) and for which `fits` is true. In each use, `fits` says that a tree is well-typed
+-- (`SceneAgreesWithChecker`) and for which `fits` is true. In each use, `fits` says that a tree is well-typed
 -- with the checked names, and `Means` that its code is correct.
 abbrev pub HoldsInScene : Scene
     → (TypeMeanings Label → Bool)
@@ -30,7 +30,7 @@ abbrev pub HoldsInScene : Scene
     → Type 0
 HoldsInScene scene fits Means =
     (checked : TypeMeanings Label) (slots : Label → Slot) (targets : Label → Target)
-    → SceneAgrees scene checked slots targets
+    → SceneAgreesWithChecker scene checked slots targets
     → IsTrue (fits checked)
     → Means checked slots targets
 
@@ -60,9 +60,9 @@ LowersStatement scene c a =
     (λ checked slots targets. CodeMeansStatement checked slots targets c a)
 
 -- Returns the arguments of a call. Returns the empty list if the call has no argument list.
-abbrev pub given_arguments : Option (Vec Expression Global) → List Expression
-given_arguments None = []
-given_arguments (Some es) = es.items
+abbrev pub arguments_or_empty_list : Option (Vec Expression Global) → List Expression
+arguments_or_empty_list None = []
+arguments_or_empty_list (Some es) = es.items
 
 -- States that an instruction is correct code for a statement, as `LowersStatement` does. For None
 -- instead of an instruction, states that the statement is empty.
@@ -107,12 +107,12 @@ LowersElsifs scene bs cs rest last =
     (λ checked slots targets. CodeMeansElsifs checked slots targets bs cs rest last)
 
 -- States that the instructions are correct code for a body, in each environment and each placement
--- that agree with the scene (`SceneAgrees`). Claims nothing if the body isn't well-typed in the
+-- that agree with the scene (`SceneAgreesWithChecker`). Claims nothing if the body isn't well-typed in the
 -- environment.
 abbrev pub LowersBody : Scene → lowered.Instructions → Tree Label (maybe body) → Type 0
 LowersBody scene cs b =
     (env : TypeEnvironment Label) (placement : Placement Label)
-    → SceneAgrees scene (meanings naming_by_label env) (slot_in_placement naming_by_label placement)
+    → SceneAgreesWithChecker scene (meanings naming_by_label env) (slot_in_placement naming_by_label placement)
     (target_in_placement naming_by_label placement)
     → IsTrue (body_is_well_typed naming_by_label env b)
     → CodeMeansBody naming_by_label env placement cs b

@@ -1,12 +1,12 @@
 -- States that expressions, designators and arguments are lowered to correct code. This holds for
--- all checked names and slots that agree with the scene (`SceneAgrees`), which is the data that is
+-- all checked names and slots that agree with the scene (`SceneAgreesWithChecker`), which is the data that is
 -- needed to lower a body.
 -- Rule: none; used in contracts of lowering.
 use Rattle.std.specs.Prelude.{◌≡◌, ℕ, true, Some}
 use Rattle.ob0_tree.specs.Tree.{Tree, expression, items, selector}
 use Rattle.ob0_language_names.specs.Names.{Label}
 use Rattle.ob0_types_table.specs.KnownTables.{shapes_of}
-use Rattle.ob0_types_table.specs.Tables.{formal_view, type_shape}
+use Rattle.ob0_types_table.specs.DeclarationTableView.{formal_view, type_shape}
 use Rattle.ob0_types_table.specs.declared.known.FormalParameter.{FormalParameter}
 use Rattle.ob0_scope_table.specs.LabelledTrees.{tree_with_labels, label_at_token}
 use Rattle.ob0_language_types.specs.Typing.{lone_designator, type_of}
@@ -19,7 +19,7 @@ use Rattle.ob0_run_machine.specs.declared.code.Truth.{Truth}
 use Rattle.ob0_run_cells.specs.LoweredStatements.{CodeMeansArgument, IsLoneDesignatorAt, Target}
 use Rattle.ob0_run_cells.specs.Lowering.{OutcomeByMoment, NumberMeans, PlaceMeans, Slot, TruthMeans, place_of_designator, value_of_expression}
 use Rattle.ob0_run_lowering.specs.Codes.{CodeMeans}
-use Rattle.ob0_run_lowering.specs.Scenes.{SceneAgrees}
+use Rattle.ob0_run_lowering.specs.Scenes.{SceneAgreesWithChecker}
 use Rattle.ob0_run_lowering.specs.Trees.{code_of}
 use Rattle.ob0_run_lowering.specs.declared.lowered.TypedPlace.{TypedPlace}
 use Rattle.ob0_run_lowering.specs.declared.lowered.LoweredExpression.{LoweredExpression}
@@ -30,11 +30,11 @@ use Rattle.ob0_run_lowering.specs.declared.scene.Scene.{Scene}
 abbrev pub LoweredMeans : TypeMeanings Label → (Label → Slot) → LoweredExpression → Shape → OutcomeByMoment Label Value → Type 0
 LoweredMeans checked slots l s value = CodeMeans checked slots (code_of l) s value
 
--- States that `P` holds for all checked names and slots that agree with a scene (`SceneAgrees`).
+-- States that `P` holds for all checked names and slots that agree with a scene (`SceneAgreesWithChecker`).
 abbrev pub ForAllAgreeingNames : Scene → (TypeMeanings Label → (Label → Slot) → Type 0) → Type 0
 ForAllAgreeingNames scene P =
     (checked : TypeMeanings Label) (slots : Label → Slot) (targets : Label → Target)
-    → SceneAgrees scene checked slots targets
+    → SceneAgreesWithChecker scene checked slots targets
     → P checked slots
 
 -- States that `l` is correct code for an expression, lowered with the data in `scene`. Claims

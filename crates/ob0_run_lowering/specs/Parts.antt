@@ -24,11 +24,11 @@ IsTruthInCode _ t = Unit {0}
 
 -- States that the argument `a` passes the number, the truth or the cells in an expression's code.
 -- Claims nothing if there is no code.
-abbrev pub PassesCode : LoweredExpression → Argument → Type 0
-PassesCode (code.Number n) a = argument.Number n ≡ a
-PassesCode (code.Truth t) a = argument.Truth t ≡ a
-PassesCode (code.Block q k) a = argument.Block q k ≡ a
-PassesCode code.Nothing a = Unit {0}
+abbrev pub ArgumentPassesCode : LoweredExpression → Argument → Type 0
+ArgumentPassesCode (code.Number n) a = argument.Number n ≡ a
+ArgumentPassesCode (code.Truth t) a = argument.Truth t ≡ a
+ArgumentPassesCode (code.Block q k) a = argument.Block q k ≡ a
+ArgumentPassesCode code.Nothing a = Unit {0}
 
 -- States that `l` is the place that was found. Claims nothing if no place was found (None).
 abbrev pub IsFoundPlace : Option TypedPlace → TypedPlace → Type 0
@@ -36,11 +36,11 @@ IsFoundPlace (Some m) l = m ≡ l
 IsFoundPlace None l = Unit {0}
 
 -- returns an operand's code if this code is a number, otherwise None
-abbrev pub number_in : LoweredExpression → Option Number
-number_in (code.Number n) = Some n
-number_in _ = None
+abbrev pub number_in_code : LoweredExpression → Option Number
+number_in_code (code.Number n) = Some n
+number_in_code _ = None
 
 -- returns an operand's code if this code is a truth, otherwise None
-abbrev pub truth_in : LoweredExpression → Option Truth
-truth_in (code.Truth t) = Some t
-truth_in _ = None
+abbrev pub truth_in_code : LoweredExpression → Option Truth
+truth_in_code (code.Truth t) = Some t
+truth_in_code _ = None

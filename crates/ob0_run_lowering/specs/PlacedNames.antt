@@ -1,33 +1,34 @@
 -- States where lowered code finds the names of a block or a heading. The names get their places one
--- by one: a variable gets cells, a VAR parameter gets an index. The location of a name
--- (`LoweredLocation`) has the depth of the activation to which the name belongs. The place of a
+-- by one: a variable gets cells, a VAR parameter gets an index. The site of a name
+-- (`LoweredSite`) has the depth of the activation to which the name belongs. The place of a
 -- name has the number of levels out instead, as seen from one activation. Constants and types need
--- no code, so their place is `nowhere`, and `LocationsMatchPlacement` claims nothing about them.
--- `place_variable_declarations` and `place_sections` depend only on names and their sizes, so loops
--- over names need no types or environments. The lemmas `groups_placed` and `sections_placed` show
+-- no code, so their place is `nowhere`, and `SitesMatchPlacement` claims nothing about them.
+-- `place_variable_declarations` and `place_parameter_sections` depend only on names and their sizes, so loops
+-- over names need no types or environments. The lemmas `sizes_declared` and `sections_placed` show
 -- that these sizes are the sizes of the declared types, if the declarations are well-typed. A frame
 -- (`Frame`: depth, cells, VAR parameters) has the counts of a placement so far, without its names
 -- (`FrameMatchesPlacement`).
 -- Rule: none; used in contracts of lowering.
 use Rattle.std.specs.Prelude.{◌≡◌, ℕ, zero, suc, ◌≤◌, List, [], ◌∷◌, ◌++◌, length, if◌then◌else◌, ◌==◌, Some, None, Option}
-use Rattle.ob0_tree.specs.Tree.{Tree, declares_variable, end, further_section, items, more, then_section, variable}
+use Rattle.ob0_tree.specs.Tree.{Tree, end, further_section, items, more, then_section}
 use Rattle.ob0_language_names.specs.Names.{Label, naming_by_label, declared}
-use Rattle.ob0_language_names.specs.Parts.{names_in_list, parameter_section_names}
-use Rattle.ob0_types_table.specs.KnownTables.{Tables}
+use Rattle.ob0_language_names.specs.Parts.{parameter_section_names}
+use Rattle.ob0_types_table.specs.KnownTables.{DeclarationTableView}
 use Rattle.ob0_language_types.specs.Expressions.{Object, a_procedure, a_variable}
 use Rattle.ob0_language_types.specs.Typing.{type_of_object}
-use Rattle.ob0_language_types.specs.WellTyped.{Mode, Signature, TypeEnvironment, by_value, section_mode}
+use Rattle.ob0_language_types.specs.WellTyped.{Signature, TypeEnvironment, parameter_section_mode}
 use Rattle.ob0_language_values.specs.Values.{Shape}
-use Rattle.ob0_run_cells.specs.Activations.{PlacementState, Placement, BindingPlace, at_target, placement_from_binding, in_slot, nowhere, add_name_to_placement}
+use Rattle.ob0_run_cells.specs.Activations.{PlacementState, Placement, BindingPlace, at_target, placement_from_binding, in_slot, nowhere}
+pub use Rattle.ob0_run_cells.specs.Activations.{add_declared_names_to_placement, place_variable_declarations}
 use Rattle.ob0_run_cells.specs.Cells.{size}
 use Rattle.ob0_run_cells.specs.LoweredStatements.{Target}
 use Rattle.ob0_run_cells.specs.Lowering.{Slot, in_activation, of_module}
-use Rattle.ob0_run_lowering.specs.Scenes.{object_of_label, place_seen_from, location_at}
-use Rattle.ob0_run_lowering.specs.declared.scene.LoweredLocation.{LoweredLocation}
-use Rattle.ob0_run_lowering.specs.declared.scene.LoweredLocation.TheVariants as site
-use Rattle.ob0_run_lowering.specs.declared.visible_locations.Frame.{Frame}
-use Rattle.ob0_run_lowering.specs.declared.visible_locations.HiddenLocation.{HiddenLocation}
-use Rattle.ob0_run_lowering.specs.declared.visible_locations.VisibleLocations.{VisibleLocations}
+use Rattle.ob0_run_lowering.specs.Scenes.{object_of_label, place_seen_from, site_in_table}
+use Rattle.ob0_run_lowering.specs.declared.scene.LoweredSite.{LoweredSite}
+use Rattle.ob0_run_lowering.specs.declared.scene.LoweredSite.TheVariants as site
+use Rattle.ob0_run_lowering.specs.declared.visible_sites.Frame.{Frame}
+use Rattle.ob0_run_lowering.specs.declared.visible_sites.HiddenSite.{HiddenSite}
+use Rattle.ob0_run_lowering.specs.declared.visible_sites.VisibleSites.{VisibleSites}
 
 -- returns the place of the first name in a placement, or `nowhere` if the placement is empty
 abbrev pub place_of_first_binding : Placement Label → BindingPlace
@@ -38,26 +39,26 @@ place_of_first_binding (b ∷ placement) = b.1
 abbrev pub place_in_placement : Placement Label → Label → BindingPlace
 place_in_placement placement x = place_of_first_binding (placement_from_binding naming_by_label placement x)
 
--- returns the depth of the activation to which a location belongs, or 0 for `Nowhere`
-abbrev pub depth_of_location : LoweredLocation → ℕ
-depth_of_location site.Nowhere = 0
-depth_of_location (site.Module offset) = 0
-depth_of_location (site.InActivation at offset) = at
-depth_of_location (site.ByReference at index) = at
-depth_of_location (site.Procedure at index) = at
+-- returns the depth of the activation to which a site belongs, or 0 for `Nowhere`
+abbrev pub depth_of_site : LoweredSite → ℕ
+depth_of_site site.Nowhere = 0
+depth_of_site (site.Module offset) = 0
+depth_of_site (site.InActivation at offset) = at
+depth_of_site (site.ByReference at index) = at
+depth_of_site (site.Procedure at index) = at
 
--- States that a location, seen from an activation of this depth, is the given place of a name, and
--- that the location isn't deeper than this activation. Claims nothing if the place is `nowhere`.
-abbrev pub LocationMatchesPlace : ℕ → LoweredLocation → BindingPlace → Type 0
-LocationMatchesPlace depth s nowhere = Unit {0}
-LocationMatchesPlace depth s (in_slot slot) = (depth_of_location s ≤ depth) × (place_seen_from depth s ≡ in_slot slot)
-LocationMatchesPlace depth s (at_target t) = (depth_of_location s ≤ depth) × (place_seen_from depth s ≡ at_target t)
+-- States that a site, seen from an activation of this depth, is the given place of a name, and that
+-- the site isn't deeper than this activation. Claims nothing if the place is `nowhere`.
+abbrev pub SiteMatchesPlace : ℕ → LoweredSite → BindingPlace → Type 0
+SiteMatchesPlace depth s nowhere = Unit {0}
+SiteMatchesPlace depth s (in_slot slot) = (depth_of_site s ≤ depth) × (place_seen_from depth s ≡ in_slot slot)
+SiteMatchesPlace depth s (at_target t) = (depth_of_site s ≤ depth) × (place_seen_from depth s ≡ at_target t)
 
--- States that a table of locations has the place of each name in a placement. The location at the
--- name's ordinal is this place, as seen from an activation of this depth.
-abbrev pub LocationsMatchPlacement : List LoweredLocation → ℕ → Placement Label → Type 0
-LocationsMatchPlacement sites depth placement =
-    (k : ℕ) → LocationMatchesPlace depth (location_at sites k) (place_in_placement placement (declared k))
+-- States that a table of sites has the place of each name in a placement. The site at the name's
+-- ordinal is this place, as seen from an activation of this depth.
+abbrev pub SitesMatchPlacement : List LoweredSite → ℕ → Placement Label → Type 0
+SitesMatchPlacement sites depth placement =
+    (k : ℕ) → SiteMatchesPlace depth (site_in_table sites k) (place_in_placement placement (declared k))
 
 -- States that a place has the right kind for an object: a slot for a variable, a target for a
 -- procedure. Claims nothing about other objects.
@@ -79,101 +80,84 @@ optional_shape_size None = 0
 optional_shape_size (Some s) = size s
 
 -- returns the number of cells of the variable that a name declares, or 0 if the name has no type
-abbrev pub declared_size : Tables → Label → ℕ
+abbrev pub declared_size : DeclarationTableView → Label → ℕ
 declared_size t x = optional_shape_size (type_of_object (object_of_label t x))
 
 -- returns the slot of a variable at an offset: in the cells of the module if the depth is 0,
 -- otherwise in the cells of the running activation
-abbrev pub variable_slot : ℕ → ℕ → Slot
-variable_slot zero = of_module
-variable_slot (suc depth) = in_activation 0
+abbrev pub variable_slot_at_depth : ℕ → ℕ → Slot
+variable_slot_at_depth zero = of_module
+variable_slot_at_depth (suc depth) = in_activation 0
 
--- states that a location is the slot of the next variable of a frame, which comes after the cells
--- so far
-abbrev pub IsLocationOfNextVariable : Frame → LoweredLocation → Type 0
-IsLocationOfNextVariable f s =
-    (depth_of_location s ≤ f.depth) × (place_seen_from f.depth s ≡ in_slot (variable_slot f.depth f.cells))
-
--- Adds the names of one declaration to a placement, one by one. `size_of` returns the number of
--- cells of a name, and `at` converts the offset of a variable to its slot.
-abbrev pub add_declared_names_to_placement : (ℕ → Slot) → (Label → ℕ) → Mode → List Label → PlacementState Label → PlacementState Label
-add_declared_names_to_placement at size_of mode [] p = p
-add_declared_names_to_placement at size_of mode (x ∷ xs) p =
-    add_declared_names_to_placement at size_of mode xs (add_name_to_placement at mode x (size_of x) p)
-
--- adds the variables of a block to a placement, one by one
-abbrev pub place_variable_declarations : (ℕ → Slot)
-    → (Label → ℕ)
-    → Tree Label (items variable)
-    → PlacementState Label
-    → PlacementState Label
-place_variable_declarations at size_of end p = p
-place_variable_declarations at size_of (more (declares_variable ns u) gs) p =
-    place_variable_declarations at size_of gs (add_declared_names_to_placement at size_of by_value (names_in_list ns) p)
+-- states that a site is the slot of the next variable of a frame, which comes after the cells so
+-- far
+abbrev pub IsSiteOfNextVariable : Frame → LoweredSite → Type 0
+IsSiteOfNextVariable f s =
+    (depth_of_site s ≤ f.depth) × (place_seen_from f.depth s ≡ in_slot (variable_slot_at_depth f.depth f.cells))
 
 -- adds the parameters of a heading to a placement, one by one
-abbrev pub place_sections : (ℕ → Slot)
+abbrev pub place_parameter_sections : (ℕ → Slot)
     → (Label → ℕ)
     → Tree Label (items further_section)
     → PlacementState Label
     → PlacementState Label
-place_sections at size_of end p = p
-place_sections at size_of (more (then_section f) fs) p =
-    place_sections at size_of fs (add_declared_names_to_placement at size_of (section_mode f) (parameter_section_names f) p)
+place_parameter_sections at size_of end p = p
+place_parameter_sections at size_of (more (then_section f) fs) p =
+    place_parameter_sections at size_of fs (add_declared_names_to_placement at size_of (parameter_section_mode f) (parameter_section_names f) p)
 
--- Returns the location of the ordinal `k` after the location of `ordinal` was set to `s`. `sites`
--- returns the location of each ordinal before this change.
-abbrev pub locations_after_setting : ℕ → LoweredLocation → (ℕ → LoweredLocation) → ℕ → LoweredLocation
-locations_after_setting ordinal s sites k = if k == ordinal then s else sites k
+-- Returns the site of the ordinal `k` after the site of `ordinal` was set to `s`. `sites` returns
+-- the site of each ordinal before this change.
+abbrev pub sites_after_setting : ℕ → LoweredSite → (ℕ → LoweredSite) → ℕ → LoweredSite
+sites_after_setting ordinal s sites k = if k == ordinal then s else sites k
 
--- Returns the location of each ordinal after the location of one ordinal was set to `s`. For None,
--- all locations are unchanged.
-abbrev pub locations_after_binding : Option ℕ → LoweredLocation → (ℕ → LoweredLocation) → ℕ → LoweredLocation
-locations_after_binding None s sites = sites
-locations_after_binding (Some ordinal) s sites = locations_after_setting ordinal s sites
+-- Returns the site of each ordinal after the site of one ordinal was set to `s`. For None, all
+-- sites are unchanged.
+abbrev pub sites_after_binding : Option ℕ → LoweredSite → (ℕ → LoweredSite) → ℕ → LoweredSite
+sites_after_binding None s sites = sites
+sites_after_binding (Some ordinal) s sites = sites_after_setting ordinal s sites
 
--- Returns the location of each ordinal after all hidden locations were restored. The list begins
--- with the location that was hidden first.
-abbrev pub locations_before_hiding : List HiddenLocation → (ℕ → LoweredLocation) → ℕ → LoweredLocation
-locations_before_hiding [] sites = sites
-locations_before_hiding (h ∷ later) sites = locations_after_setting h.ordinal h.earlier_location (locations_before_hiding later sites)
+-- Returns the site of each ordinal after all hidden sites were restored. The list begins with the
+-- site that was hidden first.
+abbrev pub sites_before_hiding : List HiddenSite → (ℕ → LoweredSite) → ℕ → LoweredSite
+sites_before_hiding [] sites = sites
+sites_before_hiding (h ∷ later) sites = sites_after_setting h.ordinal h.earlier_site (sites_before_hiding later sites)
 
--- states that the ordinals of all hidden locations in a list are below `n`
-abbrev pub OrdinalsAreBelow : ℕ → List HiddenLocation → Type 0
+-- states that the ordinals of all hidden sites in a list are below `n`
+abbrev pub OrdinalsAreBelow : ℕ → List HiddenSite → Type 0
 OrdinalsAreBelow n [] = Unit {0}
 OrdinalsAreBelow n (h ∷ hs) = (suc h.ordinal ≤ n) × OrdinalsAreBelow n hs
 
--- States that the table `v` results from the table `w` by hiding more locations. If these are
--- restored in `v`, each ordinal has the location that it has in `w`.
-pub record HidesMoreLocations (w v : VisibleLocations) : Type 0 where
-  pub more : List HiddenLocation
+-- States that the table `v` results from the table `w` by hiding more sites. If these are restored
+-- in `v`, each ordinal has the site that it has in `w`.
+pub record HidesMoreSites (w v : VisibleSites) : Type 0 where
+  pub more : List HiddenSite
   pub added : v.hidden.items ≡ w.hidden.items ++ more
   pub within : OrdinalsAreBelow (length v.sites.items) more
   pub longer : length w.sites.items ≤ length v.sites.items
-  pub restores_locations : (k : ℕ) → locations_before_hiding more (location_at v.sites.items) k ≡ location_at w.sites.items k
+  pub restores_locations : (k : ℕ) → sites_before_hiding more (site_in_table v.sites.items) k ≡ site_in_table w.sites.items k
 
--- States that in the table `v` the locations that were hidden since the table `w` are restored: `v`
--- has the locations and the hidden locations of `w`. `v` also has as many entries as `u`, which is
--- the table before they were restored.
-abbrev pub HiddenLocationsAreRestored : VisibleLocations → VisibleLocations → VisibleLocations → Type 0
-HiddenLocationsAreRestored w u v =
+-- States that in the table `v` the sites that were hidden since the table `w` are restored: `v` has
+-- the sites and the hidden sites of `w`. `v` also has as many entries as `u`, which is the table
+-- before they were restored.
+abbrev pub HiddenSitesAreRestored : VisibleSites → VisibleSites → VisibleSites → Type 0
+HiddenSitesAreRestored w u v =
     (v.hidden.items ≡ w.hidden.items)
-    × ((k : ℕ) → location_at v.sites.items k ≡ location_at w.sites.items k)
+    × ((k : ℕ) → site_in_table v.sites.items k ≡ site_in_table w.sites.items k)
     × (length v.sites.items ≡ length u.sites.items)
 
 -- States that a frame has the counts of a placement: the numbers of its cells and of its VAR
--- parameters. Also states that the table of locations has the places of all names of the placement.
-pub record FrameMatchesPlacement (sites : List LoweredLocation) (f : Frame) (p : PlacementState Label) : Type 0 where
-  pub holds : LocationsMatchPlacement sites f.depth p.placement
+-- parameters. Also states that the table of sites has the places of all names of the placement.
+pub record FrameMatchesPlacement (sites : List LoweredSite) (f : Frame) (p : PlacementState Label) : Type 0 where
+  pub holds : SitesMatchPlacement sites f.depth p.placement
   pub cells : f.cells ≡ p.cells
   pub var_parameters_so_far : f.var_parameter_count ≡ p.var_parameters_so_far
 
--- States that names are added to a table of locations and to a frame. `w` and `f` are the table and
--- the frame before, `v` and `g` are the table and the frame after. If `w` and `f` match a
--- placement, `v` and `g` match the result of `step` on this placement.
-pub record PlacesNames (w v : VisibleLocations) (f : Frame) (step : PlacementState Label → PlacementState Label) (g : Frame)
+-- States that names are added to a table of sites and to a frame. `w` and `f` are the table and the
+-- frame before, `v` and `g` are the table and the frame after. If `w` and `f` match a placement,
+-- `v` and `g` match the result of `step` on this placement.
+pub record PlacesNames (w v : VisibleSites) (f : Frame) (step : PlacementState Label → PlacementState Label) (g : Frame)
     : Type 0 where
   pub placed : (p : PlacementState Label) → FrameMatchesPlacement w.sites.items f p → FrameMatchesPlacement v.sites.items g (step p)
-  pub follows : HidesMoreLocations w v
+  pub follows : HidesMoreSites w v
   pub depth : g.depth ≡ f.depth
   pub has_no_fewer_cells : f.cells ≤ g.cells

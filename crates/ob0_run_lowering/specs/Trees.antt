@@ -1,10 +1,10 @@
 -- Defines the code of designators and expressions. The code depends on a scene (`Scene`), which has
--- the object and the location of each declaration.
+-- the object and the site of each declaration.
 -- Rule: none; used in contracts of lowering.
 use Rattle.std.specs.Prelude.{List, pos, Some, None, Option, option_and_then}
 use Rattle.ob0_tree.specs.Tree.{Tree, addend, adds, compares, designator, end, expression, factor, field, index, integer, item, items, more, multiplier, multiplies, negation, none, one, parenthesised, product, relates, selector, simple, sum, term}
 use Rattle.ob0_language_names.specs.Names.{Label, label_text}
-use Rattle.ob0_types_table.specs.Tables.{type_shape}
+use Rattle.ob0_types_table.specs.DeclarationTableView.{type_shape}
 use Rattle.ob0_language_types.specs.Expressions.{Object, a_variable}
 use Rattle.ob0_language_types.specs.Typing.{constant_of}
 use Rattle.ob0_language_types.specs.WellTyped.{Signature}
@@ -31,14 +31,14 @@ abbrev pub place_with_shape_of : List Shape → TypedPlace → PlaceWithShape
 place_with_shape_of shapes l = record { place = place_of l.place; shape = type_shape shapes l.type_id }
 
 -- returns the place `q` and the type of a variable, or None if the object isn't a variable
-abbrev pub variable_place : lowered.Place → Option (Object Shape Signature) → Option PlaceWithShape
-variable_place q (Some (a_variable s)) = Some (record { place = q; shape = s })
-variable_place q _ = None
+abbrev pub place_if_variable : lowered.Place → Option (Object Shape Signature) → Option PlaceWithShape
+place_if_variable q (Some (a_variable s)) = Some (record { place = q; shape = s })
+place_if_variable q _ = None
 
 -- Returns the place and the type of the variable or parameter that a label refers to, without any
 -- selectors. Returns None if the label is unbound, or refers to another kind of object.
-abbrev pub base_place : Scene → Label → Option PlaceWithShape
-base_place scene x = variable_place (slot_place (slot_of_label scene x)) (object_of_label scene.types.now x)
+abbrev pub variable_place_of_label : Scene → Label → Option PlaceWithShape
+variable_place_of_label scene x = place_if_variable (slot_place (slot_of_label scene x)) (object_of_label scene.types.now x)
 
 abbrev mutual
   -- returns the code of an expression, which is one simple expression or a relation between two
@@ -74,7 +74,7 @@ abbrev mutual
   pub factor_code : Scene → Tree Label factor → ExpressionCode
   factor_code scene (designator x path) =
       designator_code (constant_of (object_of_label scene.types.now x))
-      (selected_place scene (base_place scene x) path)
+      (selected_place scene (variable_place_of_label scene x) path)
   factor_code scene (integer n) = a_number (lowered.literal (pos n))
   factor_code scene (parenthesised e) = expression_code scene e
   factor_code scene (negation f) = negation_code (factor_code scene f)

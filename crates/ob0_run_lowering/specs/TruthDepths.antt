@@ -23,24 +23,24 @@ or_depth _ = 0
 
 -- returns the number of nested conjunctions (`and_depth`) of an expression's code, or 0 if the code
 -- isn't a truth
-abbrev pub and_depth_of : LoweredExpression → ℕ
-and_depth_of (code.Truth t) = and_depth t
-and_depth_of _ = 0
+abbrev pub and_depth_of_code : LoweredExpression → ℕ
+and_depth_of_code (code.Truth t) = and_depth t
+and_depth_of_code _ = 0
 
 -- returns the number of nested disjunctions (`or_depth`) of an expression's code, or 0 if the code
 -- isn't a truth
-abbrev pub or_depth_of : LoweredExpression → ℕ
-or_depth_of (code.Truth t) = or_depth t
-or_depth_of _ = 0
+abbrev pub or_depth_of_code : LoweredExpression → ℕ
+or_depth_of_code (code.Truth t) = or_depth t
+or_depth_of_code _ = 0
 
 -- States about an expression's code that, if it is a conjunction, its first operand isn't a
 -- conjunction. States the same for disjunctions.
-pub record IsFlat (l : LoweredExpression) : Type 0 where
-  pub bounds_and_depth : and_depth_of l ≤ 1
-  pub bounds_or_depth : or_depth_of l ≤ 1
+pub record IsNotNestedOnLeft (l : LoweredExpression) : Type 0 where
+  pub bounds_and_depth : and_depth_of_code l ≤ 1
+  pub bounds_or_depth : or_depth_of_code l ≤ 1
 
 -- States that the code `whole` of an operation is nested no deeper than the code `left` of its left
 -- operand, neither in conjunctions nor in disjunctions. A depth of 1 is always allowed.
-pub record IsNoDeeper (left whole : LoweredExpression) : Type 0 where
-  pub bounds_and_depth : and_depth_of whole ≤ max 1 (and_depth_of left)
-  pub bounds_or_depth : or_depth_of whole ≤ max 1 (or_depth_of left)
+pub record LeftIsNoDeeperThanWhole (left whole : LoweredExpression) : Type 0 where
+  pub bounds_and_depth : and_depth_of_code whole ≤ max 1 (and_depth_of_code left)
+  pub bounds_or_depth : or_depth_of_code whole ≤ max 1 (or_depth_of_code left)

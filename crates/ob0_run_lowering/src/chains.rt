@@ -8,10 +8,11 @@
 //!
 //! Clauses about meaning don't tell chains from nested pairs. So separate clauses bound how deep
 //! conjunctions and disjunctions are nested in left operands (`specs/TruthDepths`). Adding an
-//! operand makes a conjunction no deeper (`IsNoDeeper`). If the left operand isn't a conjunction,
-//! the result has depth 1. So the first operand of a conjunction is never a conjunction (`IsFlat`).
-//! The same holds for disjunctions. `conjunction_of_two` and `disjunction_of_two` list each case of
-//! the left operand, since a proof knows nothing about an operand in a wildcard arm.
+//! operand makes a conjunction no deeper (`LeftIsNoDeeperThanWhole`). If the left operand isn't a
+//! conjunction, the result has depth 1. So the first operand of a conjunction is never a
+//! conjunction (`IsNotNestedOnLeft`). The same holds for disjunctions. `conjunction_of_two` and
+//! `disjunction_of_two` list each case of the left operand, since a proof knows nothing about an
+//! operand in a wildcard arm.
 
 ghost use Rattle.std.specs.Prelude.{◌≡◌, ◌≤◌, IfOk, IfSome, max, suc};
 ghost use Rattle.ob0_run_machine.specs.Lowered as machine;

@@ -20,7 +20,7 @@ impl<'g, 'k, 't> LoweringContext<'g, 'k, 't> {
     ghost use Rattle.std.specs.Prelude.{option_map};
     ghost use Rattle.ob0_scope_table.specs.LabelledTrees.{label_at_token};
     ghost use Rattle.ob0_types_table.specs.KnownTables.{shapes_of};
-    ghost use Rattle.ob0_types_table.specs.Tables.{type_shape};
+    ghost use Rattle.ob0_types_table.specs.DeclarationTableView.{type_shape};
     ghost use Rattle.ob0_language_types.specs.Typing.{type_of_object};
     ghost use Rattle.ob0_run_lowering.specs.Scenes.{object_of_label};
     ghost use Rattle.ob0_run_lowering.specs.PlacedNames.{declared_size};

@@ -4,10 +4,10 @@
 ghost use Rattle.std.specs.Prelude.{IfOk};
 ghost use Rattle.ob0_tree.specs.View.{expression_of};
 ghost use Rattle.ob0_tree.specs.declared.tree.Designator.{out-Designator};
-ghost use Rattle.ob0_language_types.specs.Selected.{selectors_in};
+ghost use Rattle.ob0_language_types.specs.Selected.{selectors_of_designator};
 ghost use Rattle.ob0_run_lowering.specs.LoweredMeans.{LocatesDesignator, LocatesLoneDesignator, LowersExpression, LowersArgument, LowersNumber, LowersTruth};
-ghost use Rattle.ob0_run_lowering.specs.Parts.{IsNumberInCode, IsFoundPlace, IsTruthInCode, PassesCode};
-ghost use Rattle.ob0_run_lowering.specs.TruthDepths.{IsFlat};
+ghost use Rattle.ob0_run_lowering.specs.Parts.{IsNumberInCode, IsFoundPlace, IsTruthInCode, ArgumentPassesCode};
+ghost use Rattle.ob0_run_lowering.specs.TruthDepths.{IsNotNestedOnLeft};
 ghost use Rattle.ob0_run_lowering.specs.declared.lowered.LoweredExpression.TheVariants as code;
 
 use crate::lowered::{LoweredExpression, TypedPlace};
@@ -33,7 +33,7 @@ fn number_or_zero(lowered: LoweredExpression) -> Number
 /// Returns an expression's code if this code is a truth, otherwise the constant FALSE.
 fn truth_or_false(lowered: LoweredExpression) -> Truth
     ensures taken { IsTruthInCode lowered result }
-    ensures flat { IsFlat lowered → IsFlat (code.Truth result) }
+    ensures flat { IsNotNestedOnLeft lowered → IsNotNestedOnLeft (code.Truth result) }
 {
     match lowered {
         LoweredExpression::Truth(truth) => truth,
@@ -46,7 +46,7 @@ fn truth_or_false(lowered: LoweredExpression) -> Truth
 /// Returns the argument that passes the value of an expression, given the expression's code. If the
 /// expression has no code, the argument is FALSE.
 fn by_value_argument(lowered: LoweredExpression) -> Argument
-    ensures { PassesCode lowered result }
+    ensures { ArgumentPassesCode lowered result }
 {
     match lowered {
         LoweredExpression::Number(number) => Argument::Number(number),
@@ -86,7 +86,7 @@ impl<'s, 'k, 't> Scene<'s, 'k, 't> {
         e: &Expression,
     ) -> Result<LoweredExpression, AllocError>
         ensures lowers { IfOk result (LowersExpression self.now (expression_of e.now)) }
-        ensures flat { IfOk result IsFlat }
+        ensures flat { IfOk result IsNotNestedOnLeft }
     {
         self.lower_expression(alloc, e)
     }
@@ -104,7 +104,7 @@ impl<'s, 'k, 't> Scene<'s, 'k, 't> {
     /// constant FALSE.
     pub fn lower_to_truth(&self, alloc: Global, e: &Expression) -> Result<Truth, AllocError>
         ensures lowers { IfOk result (LowersTruth self.now (expression_of e.now)) }
-        ensures flat { IfOk result (λ t. IsFlat (code.Truth t)) }
+        ensures flat { IfOk result (λ t. IsNotNestedOnLeft (code.Truth t)) }
     {
         let lowered = self.lower_to_code(alloc, e)?;
         Ok(truth_or_false(lowered))
@@ -113,7 +113,7 @@ impl<'s, 'k, 't> Scene<'s, 'k, 't> {
     /// Returns the place of a designator, and the type of the value there. If the designator has no
     /// place, returns the module's first cell, with an unknown type.
     pub fn lower_to_place(&self, alloc: Global, d: &Designator) -> Result<TypedPlace, AllocError>
-        ensures { IfOk result (LocatesDesignator self.now (out-Designator d.now).name (selectors_in d.now)) }
+        ensures { IfOk result (LocatesDesignator self.now (out-Designator d.now).name (selectors_of_designator d.now)) }
     {
         let found = self.locate(alloc, d)?;
         Ok(found_or_fallback_place(found))
@@ -121,7 +121,11 @@ impl<'s, 'k, 't> Scene<'s, 'k, 't> {
 
     /// Returns the place of an argument for a VAR parameter. If the argument isn't just a
     /// designator, or has no place, returns the module's first cell, with an unknown type.
-    pub fn locate_argument(&self, alloc: Global, e: &Expression) -> Result<TypedPlace, AllocError>
+    pub fn locate_var_argument(
+        &self,
+        alloc: Global,
+        e: &Expression,
+    ) -> Result<TypedPlace, AllocError>
         ensures { IfOk result (LocatesLoneDesignator self.now (expression_of e.now)) }
     {
         match lone_designator(e) {
@@ -141,7 +145,7 @@ impl<'s, 'k, 't> Scene<'s, 'k, 't> {
         ensures { IfOk result (LowersArgument self.now formal.now (expression_of e.now)) }
     {
         if formal.by_place {
-            let located = self.locate_argument(alloc, e)?;
+            let located = self.locate_var_argument(alloc, e)?;
             Ok(Argument::Place(located.place))
         } else {
             let lowered = self.lower_to_code(alloc, e)?;

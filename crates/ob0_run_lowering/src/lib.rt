@@ -2,14 +2,14 @@
 //!
 //! There are three layers. The first lowers designators, expressions and arguments, the second the
 //! statements of a body, and the third declarations, blocks and procedures. The first two layers
-//! lower one body with a scene (`Scene`), which has the location in lowered code of each
-//! declaration. For code in the body, a variable has a slot (`Slot`), from which its place is
-//! computed. A procedure has a target (`Target`), which a call enters. The contracts of the first
-//! two layers hold if the scene has the object, the slot or the target of each checked name
-//! (`SceneAgrees`), so they mention no environments, placements or blocks. The third layer proves
-//! `SceneAgrees` for each body. If an expression has a type, its code is correct
-//! (`LowersExpression`). If an expression has no type, nothing is claimed about its code. So every
-//! tree is accepted and lowered.
+//! lower one body with a scene (`Scene`), which has the site in lowered code of each declaration.
+//! For code in the body, a variable has a slot (`Slot`), from which its place is computed. A
+//! procedure has a target (`Target`), which a call enters. The contracts of the first two layers
+//! hold if the scene has the object, the slot or the target of each checked name
+//! (`SceneAgreesWithChecker`), so they mention no environments, placements or blocks. The third
+//! layer proves `SceneAgreesWithChecker` for each body. If an expression has a type, its code is
+//! correct (`LowersExpression`). If an expression has no type, nothing is claimed about its code.
+//! So every tree is accepted and lowered.
 #![tactic(auto)]
 
 mod chains;
@@ -25,10 +25,10 @@ mod programs;
 mod scene;
 mod statements;
 mod types;
-mod visible_locations;
+mod visible_sites;
 
 pub(crate) use lowered::{LoweredExpression, TypedPlace};
 pub use programs::{Program, lower};
-pub(crate) use scene::{LoweredLocation, Scene};
+pub(crate) use scene::{LoweredSite, Scene};
 pub(crate) use statements::lower_body;
 pub(crate) use types::TypeLayouts;

@@ -4,7 +4,7 @@
 //!
 //! Arguments and parameters are visited in pairs, and the lengths of the two lists aren't compared.
 //! If one list is longer, the call isn't well-typed, and nothing is claimed about its code. Read
-//! needs the place of its argument (`locate_argument`), Write the value of its argument
+//! needs the place of its argument (`locate_var_argument`), Write the value of its argument
 //! (`lower_to_number`).
 
 ghost use Rattle.std.specs.Prelude.{◌≡◌, IfOk, Some, map, option_map, slice_get};
@@ -12,13 +12,13 @@ ghost use Rattle.ob0_tree.specs.View.{arguments_of, call_of};
 ghost use Rattle.ob0_tree.specs.Tree.{calls};
 ghost use Rattle.ob0_language_names.specs.Names.{Label};
 ghost use Rattle.ob0_types_table.specs.KnownTables.{shapes_of};
-ghost use Rattle.ob0_types_table.specs.Tables.{formal_view, standard_procedure_of};
+ghost use Rattle.ob0_types_table.specs.DeclarationTableView.{formal_view, standard_procedure_of};
 ghost use Rattle.ob0_types_table.specs.Designators.{labelled_expressions};
 ghost use Rattle.ob0_scope_table.specs.LabelledTrees.{tree_with_labels, label_at_token};
 ghost use Rattle.ob0_language_types.specs.Expressions.{a_procedure, a_standard, read_procedure, write_procedure};
 ghost use Rattle.ob0_run_machine.specs.View.{argument_of, statement_of};
 ghost use Rattle.ob0_run_lowering.specs.Scenes.{object_of_label};
-ghost use Rattle.ob0_run_lowering.specs.LoweredBodies.{LowersArguments, LowersStatement, given_arguments};
+ghost use Rattle.ob0_run_lowering.specs.LoweredBodies.{LowersArguments, LowersStatement, arguments_or_empty_list};
 
 use crate::Scene;
 use ob0_run_machine::code;
@@ -77,8 +77,8 @@ fn lower_procedure_call(
     }))
 }
 
-/// Returns the code of a call's arguments, each according to its parameter. The list is empty if
-/// the call has no argument list.
+/// Returns the code of a call's arguments, each according to its parameter. Returns an empty list
+/// if the call has no argument list.
 fn lower_arguments(
     alloc: Global,
     scene: &Scene<'_, '_, '_>,
@@ -87,7 +87,7 @@ fn lower_arguments(
 ) -> Result<Vec<Argument>, AllocError>
     ensures { IfOk result (λ made. LowersArguments scene.now
         (map (formal_view (shapes_of scene.now.types.now)) formals.now) (map argument_of made.items)
-        (labelled_expressions scene.now.resolved.now (given_arguments given.now))) }
+        (labelled_expressions scene.now.resolved.now (arguments_or_empty_list given.now))) }
 {
     match given {
         None => Ok(Vec::new(alloc)),
@@ -115,7 +115,7 @@ fn lower_argument_list(
 
 /// Returns the first argument of a call, or None if the call has no arguments.
 fn first_argument(given: &Option<Vec<Expression>>) -> Option<&Expression>
-    ensures { option_map (λ e. e.now) result ≡ slice_get (given_arguments given.now) 0 }
+    ensures { option_map (λ e. e.now) result ≡ slice_get (arguments_or_empty_list given.now) 0 }
 {
     match given {
         None => None,
@@ -155,7 +155,7 @@ fn lower_read(
     match first_argument(given) {
         None => Ok(Instruction::WriteLine),
         Some(e) => {
-            let at = scene.locate_argument(alloc, e)?;
+            let at = scene.locate_var_argument(alloc, e)?;
             Ok(Instruction::Read(at.place))
         }
     }

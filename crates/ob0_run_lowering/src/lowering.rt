@@ -5,9 +5,9 @@
 //! functions that compute it (`expression_code`), and each function here returns this code. An
 //! induction over trees (`proofs/TreesMean`) shows by the laws of `ob0_run_cells` that this code is
 //! correct for the tree. No proof about a function mentions moments of a run (`Moment`) or cells.
-//! The types of places come from the table of declarations. Only the field `bound` of `SceneAgrees`
-//! relates these types to the types that the checker found. The table also has types of variables
-//! that aren't in scope, and nothing is claimed about these types.
+//! The types of places come from the table of declarations. Only the field `bound` of
+//! `SceneAgreesWithChecker` relates these types to the types that the checker found. The table also
+//! has types of variables that aren't in scope, and nothing is claimed about these types.
 
 ghost use Rattle.std.specs.Prelude.{◌≡◌, IfOk, Some, option_and_then, option_map, pos};
 ghost use Rattle.ob0_tree.specs.Places.{token_value_at};
@@ -15,23 +15,23 @@ ghost use Rattle.ob0_tree.specs.View.{compound_expression_of, designator_of, exp
 ghost use Rattle.ob0_tree.specs.declared.tree.Designator.{out-Designator};
 ghost use Rattle.ob0_language_names.specs.Names.{label_text};
 ghost use Rattle.ob0_types_table.specs.KnownTables.{shapes_of};
-ghost use Rattle.ob0_types_table.specs.Tables.{type_shape};
+ghost use Rattle.ob0_types_table.specs.DeclarationTableView.{type_shape};
 ghost use Rattle.ob0_language_types.specs.Bindings.{variable_shape};
 ghost use Rattle.ob0_scope_table.specs.LabelledTrees.{tree_with_labels, label_at_token};
-ghost use Rattle.ob0_language_types.specs.Selected.{selectors_in};
+ghost use Rattle.ob0_language_types.specs.Selected.{selectors_of_designator};
 ghost use Rattle.ob0_language_types.specs.Typing.{constant_of};
 ghost use Rattle.ob0_language_values.specs.Scalars.{scalar_value};
 ghost use Rattle.ob0_run_machine.specs.View.{number_of};
-ghost use Rattle.ob0_run_lowering.specs.TruthDepths.{IsFlat};
-ghost use Rattle.ob0_run_lowering.specs.Codes.{a_number, constant_code, element_place, indexed_place, record_field_place, code_of_value_at_place, code_of_value_if_found};
+ghost use Rattle.ob0_run_lowering.specs.TruthDepths.{IsNotNestedOnLeft};
+ghost use Rattle.ob0_run_lowering.specs.Codes.{a_number, constant_code, element_place, indexed_place, record_field_place, code_of_value_at_place, code_of_value_at_optional_place};
 ghost use Rattle.ob0_run_lowering.specs.Scenes.{object_of_label};
-ghost use Rattle.ob0_run_lowering.specs.Trees.{base_place, code_of, expression_code, factor_code, place_with_shape_of, place_after_selector, selected_place, simple_code, term_code};
+ghost use Rattle.ob0_run_lowering.specs.Trees.{variable_place_of_label, code_of, expression_code, factor_code, place_with_shape_of, place_after_selector, selected_place, simple_code, term_code};
 
 use crate::lowered::{LoweredExpression, TypedPlace};
 use crate::operators::{
-    lower_addition, lower_multiplication, lower_negation, lower_relation, lower_sign,
+    lower_addition, lower_multiplication, lower_negation, lower_relation, lower_signed_term,
 };
-use crate::places::{element, number_at_place, part};
+use crate::places::{element, number_at_place, shifted_place};
 use crate::scene::Scene;
 use ob0_language_values::Scalar;
 use ob0_run_machine::code::{Number, Truth};
@@ -39,12 +39,12 @@ use ob0_tree::{
     Comparison, CompoundExpression, Designator, Expression, Factor, Selector, SimpleExpression,
     Term, token_text_at,
 };
-use ob0_types_table::{Object, Parts, TypeId, number_at};
+use ob0_types_table::{Object, TypeId, TypeWithParts, integer_value_at_token};
 use std::alloc::{AllocError, Global};
 
 fn lower_constant(value: Scalar) -> LoweredExpression
     ensures code { code_of result ≡ constant_code (scalar_value value) }
-    ensures flat { IsFlat result }
+    ensures flat { IsNotNestedOnLeft result }
 {
     match value {
         Scalar::Number(number) => LoweredExpression::Number(Number::Literal(number)),
@@ -100,14 +100,18 @@ impl<'s, 'k, 't> Scene<'s, 'k, 't> {
     fn literal_at_token(&self, token: usize) -> i32
         ensures { result ≡ pos (token_value_at self.now.resolved.now.module_read.source token) }
     {
-        number_at(self.resolved.tokens(), token)
+        integer_value_at_token(self.resolved.tokens(), token)
     }
 
     /// Returns the place of the variable that the name at a token refers to, before any selectors.
     /// Returns None if the name refers to no variable.
-    fn locate_base(&self, alloc: Global, name: usize) -> Result<Option<TypedPlace>, AllocError>
+    fn locate_variable_at_token(
+        &self,
+        alloc: Global,
+        name: usize,
+    ) -> Result<Option<TypedPlace>, AllocError>
         ensures { IfOk result (λ o. option_map (place_with_shape_of (shapes_of self.now.types.now)) o
-            ≡ base_place self.now (label_at_token self.now.resolved.now name)) }
+            ≡ variable_place_of_label self.now (label_at_token self.now.resolved.now name)) }
     {
         match self.variable_type(name) {
             None => Ok(None),
@@ -124,7 +128,7 @@ impl<'s, 'k, 't> Scene<'s, 'k, 't> {
         ensures code { code_of result
             ≡ code_of_value_at_place (place_with_shape_of (shapes_of self.now.types.now) at).place
             (place_with_shape_of (shapes_of self.now.types.now) at).shape }
-        ensures flat { IsFlat result }
+        ensures flat { IsNotNestedOnLeft result }
     {
         let TypedPlace { place, type_id } = at;
         match type_id {
@@ -136,10 +140,10 @@ impl<'s, 'k, 't> Scene<'s, 'k, 't> {
         }
     }
 
-    fn code_of_value_if_found(&self, at: Option<TypedPlace>) -> LoweredExpression
+    fn code_of_value_at_optional_place(&self, at: Option<TypedPlace>) -> LoweredExpression
         ensures code { code_of result
-            ≡ code_of_value_if_found (option_map (place_with_shape_of (shapes_of self.now.types.now)) at) }
-        ensures flat { IsFlat result }
+            ≡ code_of_value_at_optional_place (option_map (place_with_shape_of (shapes_of self.now.types.now)) at) }
+        ensures flat { IsNotNestedOnLeft result }
     {
         match at {
             None => LoweredExpression::Nothing,
@@ -165,7 +169,7 @@ impl<'s, 'k, 't> Scene<'s, 'k, 't> {
             None => Ok(None),
             Some(field) => {
                 let offset = self.types.offset(type_id, name);
-                let place = part(alloc, place, offset)?;
+                let place = shifted_place(alloc, place, offset)?;
                 Ok(Some(TypedPlace {
                     place,
                     type_id: field,
@@ -189,7 +193,7 @@ impl<'s, 'k, 't> Scene<'s, 'k, 't> {
     {
         let TypedPlace { place, type_id } = at;
         match self.types.declarations().parts(type_id) {
-            Parts::Array(array) => {
+            TypeWithParts::Array(array) => {
                 let stride = self.types.size(array.element);
                 let place = element(alloc, place, index, array.length, stride)?;
                 Ok(Some(TypedPlace {
@@ -197,14 +201,14 @@ impl<'s, 'k, 't> Scene<'s, 'k, 't> {
                     type_id: array.element,
                 }))
             }
-            Parts::Integer => Ok(None),
-            Parts::Boolean => Ok(None),
-            Parts::Record(_) => Ok(None),
-            Parts::Faulty => Ok(None),
+            TypeWithParts::Integer => Ok(None),
+            TypeWithParts::Boolean => Ok(None),
+            TypeWithParts::Record(_) => Ok(None),
+            TypeWithParts::Faulty => Ok(None),
         }
     }
 
-    fn element_if_found(
+    fn element_in_optional_place(
         &self,
         alloc: Global,
         at: Option<TypedPlace>,
@@ -225,7 +229,7 @@ impl<'s, 'k, 't> Scene<'s, 'k, 't> {
         }
     }
 
-    fn field_if_found(
+    fn field_in_optional_place(
         &self,
         alloc: Global,
         at: Option<TypedPlace>,
@@ -250,7 +254,7 @@ impl<'s, 'k, 't> Scene<'s, 'k, 't> {
     ) -> Result<LoweredExpression, AllocError>
         ensures code { IfOk result (λ l. code_of l
             ≡ expression_code self.now (tree_with_labels self.now.resolved.now (expression_of e.now))) }
-        ensures flat { IfOk result IsFlat }
+        ensures flat { IfOk result IsNotNestedOnLeft }
     {
         match e {
             Expression::Factor(f) => self.lower_factor(alloc, f),
@@ -266,7 +270,7 @@ impl<'s, 'k, 't> Scene<'s, 'k, 't> {
     ) -> Result<LoweredExpression, AllocError>
         ensures code { IfOk result (λ l. code_of l
             ≡ expression_code self.now (tree_with_labels self.now.resolved.now (compound_expression_of c.now))) }
-        ensures flat { IfOk result IsFlat }
+        ensures flat { IfOk result IsNotNestedOnLeft }
     {
         let left = self.lower_simple_expression(alloc, &c.left)?;
         match &c.compared {
@@ -287,10 +291,10 @@ impl<'s, 'k, 't> Scene<'s, 'k, 't> {
     ) -> Result<LoweredExpression, AllocError>
         ensures code { IfOk result (λ l. code_of l
             ≡ simple_code self.now (tree_with_labels self.now.resolved.now (simple_expression_of s.now))) }
-        ensures flat { IfOk result IsFlat }
+        ensures flat { IfOk result IsNotNestedOnLeft }
     {
         let first = self.lower_term(alloc, &s.first)?;
-        let mut so_far = lower_sign(alloc, s.sign, first)?;
+        let mut so_far = lower_signed_term(alloc, s.sign, first)?;
         for addend in &s.more {
             let term = self.lower_term(alloc, &addend.term)?;
             so_far = lower_addition(alloc, addend.operator, so_far, term)?;
@@ -302,7 +306,7 @@ impl<'s, 'k, 't> Scene<'s, 'k, 't> {
     fn lower_term(&self, alloc: Global, t: &Term) -> Result<LoweredExpression, AllocError>
         ensures code { IfOk result (λ l. code_of l
             ≡ term_code self.now (tree_with_labels self.now.resolved.now (term_of t.now))) }
-        ensures flat { IfOk result IsFlat }
+        ensures flat { IfOk result IsNotNestedOnLeft }
     {
         let mut so_far = self.lower_factor(alloc, &t.first)?;
         for multiplier in &t.more {
@@ -316,7 +320,7 @@ impl<'s, 'k, 't> Scene<'s, 'k, 't> {
     fn lower_factor(&self, alloc: Global, f: &Factor) -> Result<LoweredExpression, AllocError>
         ensures code { IfOk result (λ l. code_of l
             ≡ factor_code self.now (tree_with_labels self.now.resolved.now (factor_of f.now))) }
-        ensures flat { IfOk result IsFlat }
+        ensures flat { IfOk result IsNotNestedOnLeft }
     {
         match f {
             Factor::Designator(d) => self.lower_designator(alloc, d),
@@ -341,13 +345,13 @@ impl<'s, 'k, 't> Scene<'s, 'k, 't> {
     ) -> Result<LoweredExpression, AllocError>
         ensures code { IfOk result (λ l. code_of l
             ≡ factor_code self.now (tree_with_labels self.now.resolved.now (designator_of d.now))) }
-        ensures flat { IfOk result IsFlat }
+        ensures flat { IfOk result IsNotNestedOnLeft }
     {
         match self.constant_at_token(d.name) {
             Some(value) => Ok(lower_constant(value)),
             None => {
                 let at = self.locate(alloc, d)?;
-                Ok(self.code_of_value_if_found(at))
+                Ok(self.code_of_value_at_optional_place(at))
             }
         }
     }
@@ -362,10 +366,10 @@ impl<'s, 'k, 't> Scene<'s, 'k, 't> {
     ) -> Result<Option<TypedPlace>, AllocError>
         ensures { IfOk result (λ o. option_map (place_with_shape_of (shapes_of self.now.types.now)) o
             ≡ selected_place self.now
-            (base_place self.now (label_at_token self.now.resolved.now (out-Designator d.now).name))
-            (tree_with_labels self.now.resolved.now (selectors_in d.now))) }
+            (variable_place_of_label self.now (label_at_token self.now.resolved.now (out-Designator d.now).name))
+            (tree_with_labels self.now.resolved.now (selectors_of_designator d.now))) }
     {
-        let mut at = self.locate_base(alloc, d.name)?;
+        let mut at = self.locate_variable_at_token(alloc, d.name)?;
         for selector in &d.selectors {
             at = self.apply_selector(alloc, at, selector)?;
         }
@@ -384,10 +388,10 @@ impl<'s, 'k, 't> Scene<'s, 'k, 't> {
             (tree_with_labels self.now.resolved.now (selector_of s.now))) }
     {
         match s {
-            Selector::Field(name) => self.field_if_found(alloc, at, *name),
+            Selector::Field(name) => self.field_in_optional_place(alloc, at, *name),
             Selector::Index(e) => {
                 let index = self.lower_expression(alloc, e)?;
-                self.element_if_found(alloc, at, index)
+                self.element_in_optional_place(alloc, at, index)
             }
         }
     }

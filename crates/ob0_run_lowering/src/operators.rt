@@ -7,8 +7,8 @@ ghost use Rattle.ob0_run_machine.specs.View.{number_of, operator_of, truth_of};
 ghost use Rattle.ob0_run_cells.specs.Lowering.{relation_of};
 ghost use Rattle.ob0_run_machine.specs.View as view;
 ghost use Rattle.ob0_run_lowering.specs.Codes as codes;
-ghost use Rattle.ob0_run_lowering.specs.Parts.{number_in, truth_in};
-ghost use Rattle.ob0_run_lowering.specs.TruthDepths.{IsNoDeeper, IsFlat, and_depth, or_depth};
+ghost use Rattle.ob0_run_lowering.specs.Parts.{number_in_code, truth_in_code};
+ghost use Rattle.ob0_run_lowering.specs.TruthDepths.{LeftIsNoDeeperThanWhole, IsNotNestedOnLeft, and_depth, or_depth};
 ghost use Rattle.ob0_run_lowering.specs.Trees.{code_of};
 
 use crate::chains::{conjunction_of_two, disjunction_of_two, negation, operation_on_numbers};
@@ -21,8 +21,8 @@ use ob0_tree::{AddOperator, MultiplyOperator, Relation, Sign};
 use std::alloc::{AllocError, Global};
 
 /// Returns an operand's code if this code is a number, otherwise None.
-fn number_in(operand: LoweredExpression) -> Option<Number>
-    ensures { result ≡ number_in operand }
+fn number_in_code(operand: LoweredExpression) -> Option<Number>
+    ensures { result ≡ number_in_code operand }
 {
     match operand {
         LoweredExpression::Number(number) => Some(number),
@@ -33,8 +33,8 @@ fn number_in(operand: LoweredExpression) -> Option<Number>
 }
 
 /// Returns an operand's code if this code is a truth, otherwise None.
-fn truth_in(operand: LoweredExpression) -> Option<Truth>
-    ensures { result ≡ truth_in operand }
+fn truth_in_code(operand: LoweredExpression) -> Option<Truth>
+    ensures { result ≡ truth_in_code operand }
 {
     match operand {
         LoweredExpression::Truth(truth) => Some(truth),
@@ -52,12 +52,12 @@ fn lower_number_operation(
 ) -> Result<LoweredExpression, AllocError>
     ensures code { IfOk result
         (λ l. code_of l ≡ codes.number_operation (operator_of operator) (code_of left) (code_of right)) }
-    ensures flat { IfOk result (IsNoDeeper left) }
+    ensures flat { IfOk result (LeftIsNoDeeperThanWhole left) }
 {
-    let Some(first) = number_in(left) else {
+    let Some(first) = number_in_code(left) else {
         return Ok(LoweredExpression::Nothing);
     };
-    let Some(second) = number_in(right) else {
+    let Some(second) = number_in_code(right) else {
         return Ok(LoweredExpression::Nothing);
     };
     let number = operation_on_numbers(alloc, operator, first, second)?;
@@ -71,12 +71,12 @@ fn lower_conjunction(
 ) -> Result<LoweredExpression, AllocError>
     ensures code { IfOk result
         (λ l. code_of l ≡ codes.truth_operation machine.both (code_of left) (code_of right)) }
-    ensures flat { IfOk result (IsNoDeeper left) }
+    ensures flat { IfOk result (LeftIsNoDeeperThanWhole left) }
 {
-    let Some(first) = truth_in(left) else {
+    let Some(first) = truth_in_code(left) else {
         return Ok(LoweredExpression::Nothing);
     };
-    let Some(second) = truth_in(right) else {
+    let Some(second) = truth_in_code(right) else {
         return Ok(LoweredExpression::Nothing);
     };
     let truth = conjunction_of_two(alloc, first, second)?;
@@ -90,12 +90,12 @@ fn lower_disjunction(
 ) -> Result<LoweredExpression, AllocError>
     ensures code { IfOk result
         (λ l. code_of l ≡ codes.truth_operation machine.either (code_of left) (code_of right)) }
-    ensures flat { IfOk result (IsNoDeeper left) }
+    ensures flat { IfOk result (LeftIsNoDeeperThanWhole left) }
 {
-    let Some(first) = truth_in(left) else {
+    let Some(first) = truth_in_code(left) else {
         return Ok(LoweredExpression::Nothing);
     };
-    let Some(second) = truth_in(right) else {
+    let Some(second) = truth_in_code(right) else {
         return Ok(LoweredExpression::Nothing);
     };
     let truth = disjunction_of_two(alloc, first, second)?;
@@ -110,7 +110,7 @@ pub(crate) fn lower_addition(
 ) -> Result<LoweredExpression, AllocError>
     ensures code { IfOk result
         (λ l. code_of l ≡ codes.addition_code operator (code_of left) (code_of right)) }
-    ensures flat { IfOk result (IsNoDeeper left) }
+    ensures flat { IfOk result (LeftIsNoDeeperThanWhole left) }
 {
     match operator {
         AddOperator::Add => lower_number_operation(alloc, Operator::Sum, left, right),
@@ -127,7 +127,7 @@ pub(crate) fn lower_multiplication(
 ) -> Result<LoweredExpression, AllocError>
     ensures code { IfOk result
         (λ l. code_of l ≡ codes.multiplication_code operator (code_of left) (code_of right)) }
-    ensures flat { IfOk result (IsNoDeeper left) }
+    ensures flat { IfOk result (LeftIsNoDeeperThanWhole left) }
 {
     match operator {
         MultiplyOperator::Multiply => lower_number_operation(alloc, Operator::Product, left, right),
@@ -137,10 +137,13 @@ pub(crate) fn lower_multiplication(
     }
 }
 
-fn lower_minus(alloc: Global, operand: LoweredExpression) -> Result<LoweredExpression, AllocError>
+fn lower_unary_minus(
+    alloc: Global,
+    operand: LoweredExpression,
+) -> Result<LoweredExpression, AllocError>
     ensures code { IfOk result
         (λ l. code_of l ≡ codes.signed_code (Some signs.Minus) (code_of operand)) }
-    ensures flat { IfOk result (IsNoDeeper operand) }
+    ensures flat { IfOk result (LeftIsNoDeeperThanWhole operand) }
 {
     match operand {
         LoweredExpression::Number(number) => {
@@ -154,10 +157,13 @@ fn lower_minus(alloc: Global, operand: LoweredExpression) -> Result<LoweredExpre
 
 /// Returns the code of a term with the sign `+`, which is the sum of the term and 0. Returns
 /// `Nothing` if the term isn't a number.
-fn lower_plus(alloc: Global, operand: LoweredExpression) -> Result<LoweredExpression, AllocError>
+fn lower_unary_plus(
+    alloc: Global,
+    operand: LoweredExpression,
+) -> Result<LoweredExpression, AllocError>
     ensures code { IfOk result
         (λ l. code_of l ≡ codes.signed_code (Some signs.Plus) (code_of operand)) }
-    ensures flat { IfOk result (IsNoDeeper operand) }
+    ensures flat { IfOk result (LeftIsNoDeeperThanWhole operand) }
 {
     lower_number_operation(
         alloc,
@@ -169,19 +175,19 @@ fn lower_plus(alloc: Global, operand: LoweredExpression) -> Result<LoweredExpres
 
 /// Returns the code of a term with its sign, or the code of the term if there is no sign. Returns
 /// `Nothing` if a term with a sign isn't a number.
-pub(crate) fn lower_sign(
+pub(crate) fn lower_signed_term(
     alloc: Global,
     sign: Option<Sign>,
     operand: LoweredExpression,
 ) -> Result<LoweredExpression, AllocError>
     ensures code { IfOk result (λ l. code_of l ≡ codes.signed_code sign (code_of operand)) }
-    ensures flat { IfOk result (IsNoDeeper operand) }
+    ensures flat { IfOk result (LeftIsNoDeeperThanWhole operand) }
 {
     match sign {
         None => Ok(operand),
         Some(sign) => match sign {
-            Sign::Plus => lower_plus(alloc, operand),
-            Sign::Minus => lower_minus(alloc, operand),
+            Sign::Plus => lower_unary_plus(alloc, operand),
+            Sign::Minus => lower_unary_minus(alloc, operand),
         },
     }
 }
@@ -191,7 +197,7 @@ pub(crate) fn lower_negation(
     operand: LoweredExpression,
 ) -> Result<LoweredExpression, AllocError>
     ensures code { IfOk result (λ l. code_of l ≡ codes.negation_code (code_of operand)) }
-    ensures flat { IfOk result IsFlat }
+    ensures flat { IfOk result IsNotNestedOnLeft }
 {
     match operand {
         LoweredExpression::Truth(truth) => Ok(LoweredExpression::Truth(negation(alloc, truth)?)),
@@ -325,7 +331,7 @@ fn lower_truth_comparison(
 ) -> Result<LoweredExpression, AllocError>
     ensures code { IfOk result (λ l. code_of l
         ≡ codes.relation_code relation (codes.a_truth (truth_of left)) (codes.a_truth (truth_of right))) }
-    ensures flat { IfOk result IsFlat }
+    ensures flat { IfOk result IsNotNestedOnLeft }
 {
     let truths = TruthPair { left, right };
     match relation {
@@ -354,9 +360,9 @@ fn lower_number_relation(
 ) -> Result<LoweredExpression, AllocError>
     ensures code { IfOk result (λ l. code_of l
         ≡ codes.relation_code relation (codes.a_number (number_of left)) (code_of right)) }
-    ensures flat { IfOk result IsFlat }
+    ensures flat { IfOk result IsNotNestedOnLeft }
 {
-    let Some(second) = number_in(right) else {
+    let Some(second) = number_in_code(right) else {
         return Ok(LoweredExpression::Nothing);
     };
     let truth = lower_number_comparison(alloc, relation, left, second)?;
@@ -373,9 +379,9 @@ fn lower_truth_relation(
 ) -> Result<LoweredExpression, AllocError>
     ensures code { IfOk result
         (λ l. code_of l ≡ codes.relation_code relation (codes.a_truth (truth_of left)) (code_of right)) }
-    ensures flat { IfOk result IsFlat }
+    ensures flat { IfOk result IsNotNestedOnLeft }
 {
-    let Some(second) = truth_in(right) else {
+    let Some(second) = truth_in_code(right) else {
         return Ok(LoweredExpression::Nothing);
     };
     lower_truth_comparison(alloc, relation, left, second)
@@ -389,7 +395,7 @@ pub(crate) fn lower_relation(
 ) -> Result<LoweredExpression, AllocError>
     ensures code { IfOk result
         (λ l. code_of l ≡ codes.relation_code relation (code_of left) (code_of right)) }
-    ensures flat { IfOk result IsFlat }
+    ensures flat { IfOk result IsNotNestedOnLeft }
 {
     match left {
         LoweredExpression::Number(number) => lower_number_relation(alloc, relation, number, right),

@@ -2,17 +2,18 @@
 //! the fewest steps.
 //!
 //! Offsets are added when a place is lowered (`place_at_offset`). A field of a variable is a
-//! variable, and a field of an element is an element with an offset. An element at a literal index
-//! within its array is a part of the array (`place_of_element`). The part has the same address as
-//! the element in all activations and over all cells (`proofs/PartsFound`). So the machine takes
-//! one step for a field of a variable, as for the variable itself.
+//! variable, and a field of an element is an element with an offset. For an element at a literal
+//! index within its array, the code is the array's place with an offset (`place_of_element`). This
+//! place has the same address as the element in all activations and over all cells
+//! (`proofs/PartsFound`). So the machine takes one step for a field of a variable, as for the
+//! variable itself.
 
 ghost use Rattle.std.specs.Prelude.{◌≡◌, IfOk, length};
 ghost use Rattle.ob0_run_machine.specs.Lowered as machine;
 ghost use Rattle.ob0_run_machine.specs.View.{chain_of, element_of, first_operand_of, number_of, place_of, variable_element_of, variable_of};
 ghost use Rattle.ob0_run_machine.specs.declared.code.Chain.{out-Chain};
 ghost use Rattle.ob0_run_cells.specs.Lowering.{place_at_offset};
-ghost use Rattle.ob0_run_lowering.specs.Codes.{place_of_element, known_offset};
+ghost use Rattle.ob0_run_lowering.specs.Codes.{place_of_element, known_element_offset};
 
 use ob0_run_machine::code::{
     Chain, Element, FirstOperand, Number, Place, VarParameterPlace, Variable, VariableElement,
@@ -30,11 +31,11 @@ pub(crate) fn number_at_place(place: Place) -> Number
 }
 
 /// Returns the place that is `offset` cells after the start of the place `whole`.
-pub(crate) fn part(alloc: Global, whole: Place, offset: usize) -> Result<Place, AllocError>
+pub(crate) fn shifted_place(alloc: Global, whole: Place, offset: usize) -> Result<Place, AllocError>
     ensures { IfOk result (λ p. place_of p ≡ place_at_offset (place_of whole) offset) }
 {
     match whole {
-        Place::Variable(variable) => part_of_variable(alloc, variable, offset),
+        Place::Variable(variable) => shifted_variable_place(alloc, variable, offset),
         Place::Outside { up, offset: at } => Ok(Place::Outside {
             up,
             offset: at.wrapping_add(offset),
@@ -45,14 +46,18 @@ pub(crate) fn part(alloc: Global, whole: Place, offset: usize) -> Result<Place, 
                 index,
                 offset: at,
             } = *r;
-            reference(alloc, up, index, at.wrapping_add(offset))
+            var_parameter_place(alloc, up, index, at.wrapping_add(offset))
         }
-        Place::VariableElement(row) => part_of_variable_element(alloc, *row, offset),
-        Place::Element(element) => part_of_element(alloc, Box::into_inner(element), offset),
+        Place::VariableElement(row) => shifted_variable_element(alloc, *row, offset),
+        Place::Element(element) => shifted_element(alloc, Box::into_inner(element), offset),
     }
 }
 
-fn part_of_variable(alloc: Global, variable: Variable, offset: usize) -> Result<Place, AllocError>
+fn shifted_variable_place(
+    alloc: Global,
+    variable: Variable,
+    offset: usize,
+) -> Result<Place, AllocError>
     ensures { IfOk result (λ p. place_of p ≡ place_at_offset (variable_of variable) offset) }
 {
     match variable {
@@ -61,7 +66,7 @@ fn part_of_variable(alloc: Global, variable: Variable, offset: usize) -> Result<
             at.wrapping_add(offset),
         ))),
         Variable::ByReference { index, offset: at } => {
-            reference(alloc, 0, index as usize, (at as usize).wrapping_add(offset))
+            var_parameter_place(alloc, 0, index as usize, (at as usize).wrapping_add(offset))
         }
     }
 }
@@ -69,7 +74,7 @@ fn part_of_variable(alloc: Global, variable: Variable, offset: usize) -> Result<
 /// Returns the place at an offset from the address that was passed for a VAR parameter. The
 /// parameter belongs to the activation `up` levels out. If `up` is 0, and the index and the offset
 /// have at most 32 bits, the place is a `Variable`. Otherwise it is a `Place::Passed`.
-pub(crate) fn reference(
+pub(crate) fn var_parameter_place(
     alloc: Global,
     up: usize,
     index: usize,
@@ -83,13 +88,13 @@ pub(crate) fn reference(
             offset: offset as u32,
         }));
     }
-    let reference = VarParameterPlace { up, index, offset };
-    Ok(Place::Passed(Box::new(alloc, reference)?))
+    let var_parameter_place = VarParameterPlace { up, index, offset };
+    Ok(Place::Passed(Box::new(alloc, var_parameter_place)?))
 }
 
 /// Returns the place `row` with `offset` added to its field `offset`. `row` is a place in an
 /// element whose array and index are variables.
-fn part_of_variable_element(
+fn shifted_variable_element(
     alloc: Global,
     row: VariableElement,
     offset: usize,
@@ -105,7 +110,7 @@ fn part_of_variable_element(
 
 /// Returns the place `element` with `offset` added to its field `offset`. `element` is a place in
 /// an element of an array.
-fn part_of_element(alloc: Global, element: Element, offset: usize) -> Result<Place, AllocError>
+fn shifted_element(alloc: Global, element: Element, offset: usize) -> Result<Place, AllocError>
     ensures { IfOk result (λ p. place_of p ≡ place_at_offset (element_of element) offset) }
 {
     let Element {
@@ -127,8 +132,8 @@ fn part_of_element(alloc: Global, element: Element, offset: usize) -> Result<Pla
 
 /// Returns the offset of the element at a literal index, in cells from the start of the array.
 /// Returns None if the array has no such element.
-fn literal_offset(index: i32, length: usize, stride: usize) -> Option<usize>
-    ensures { result ≡ known_offset (machine.literal index) length stride }
+fn literal_element_offset(index: i32, length: usize, stride: usize) -> Option<usize>
+    ensures { result ≡ known_element_offset (machine.literal index) length stride }
 {
     if index < 0 {
         return None;
@@ -141,11 +146,11 @@ fn literal_offset(index: i32, length: usize, stride: usize) -> Option<usize>
     }
 }
 
-fn first_operand_offset(first: &FirstOperand, length: usize, stride: usize) -> Option<usize>
-    ensures { result ≡ known_offset (first_operand_of first.now) length stride }
+fn first_operand_element_offset(first: &FirstOperand, length: usize, stride: usize) -> Option<usize>
+    ensures { result ≡ known_element_offset (first_operand_of first.now) length stride }
 {
     match first {
-        FirstOperand::Literal(index) => literal_offset(*index, length, stride),
+        FirstOperand::Literal(index) => literal_element_offset(*index, length, stride),
         FirstOperand::Variable(_variable) => None,
         FirstOperand::Cell(_place) => None,
         FirstOperand::Negative(_number) => None,
@@ -162,33 +167,33 @@ fn count_links(chain: &Chain) -> usize
 /// Returns the offset of an array's element whose index is a chain, in cells from the start of the
 /// array. The offset is known only if the chain has no operations, and its first operand is a
 /// literal below the array's length. Otherwise returns None.
-fn chain_offset(chain: &Chain, length: usize, stride: usize) -> Option<usize>
-    ensures { result ≡ known_offset (chain_of chain.now) length stride }
+fn chain_element_offset(chain: &Chain, length: usize, stride: usize) -> Option<usize>
+    ensures { result ≡ known_element_offset (chain_of chain.now) length stride }
 {
     let count = count_links(chain);
     if count == 0 {
-        return first_operand_offset(&chain.first, length, stride);
+        return first_operand_element_offset(&chain.first, length, stride);
     }
     None
 }
 
 /// Returns the offset of an array's element, in cells from the start of the array, if the index is
 /// a literal below the array's length. Returns None for any other index.
-fn known_offset(index: &Number, length: usize, stride: usize) -> Option<usize>
-    ensures { result ≡ known_offset (number_of index.now) length stride }
+fn known_element_offset(index: &Number, length: usize, stride: usize) -> Option<usize>
+    ensures { result ≡ known_element_offset (number_of index.now) length stride }
 {
     match index {
-        Number::Literal(index) => literal_offset(*index, length, stride),
+        Number::Literal(index) => literal_element_offset(*index, length, stride),
         Number::Variable(_variable) => None,
         Number::Cell(_place) => None,
         Number::Negative(_number) => None,
         Number::Operation(_operation) => None,
-        Number::Chain(chain) => chain_offset(chain, length, stride),
+        Number::Chain(chain) => chain_element_offset(chain, length, stride),
     }
 }
 
 /// Returns the place of an element of the array at a place. If the index is a literal below the
-/// array's length, this is a place at a known offset in the array (`part`).
+/// array's length, this is a place at a known offset in the array (`shifted_place`).
 pub(crate) fn element(
     alloc: Global,
     array: Place,
@@ -199,8 +204,8 @@ pub(crate) fn element(
     ensures { IfOk result (λ p. place_of p
         ≡ place_of_element (place_of array) (number_of index) length stride) }
 {
-    match known_offset(&index, length, stride) {
-        Some(offset) => part(alloc, array, offset),
+    match known_element_offset(&index, length, stride) {
+        Some(offset) => shifted_place(alloc, array, offset),
         None => element_at_computed_index(alloc, array, index, length, stride),
     }
 }
@@ -218,7 +223,7 @@ fn element_at_computed_index(
 {
     match array {
         Place::Variable(array) => variable_element(alloc, array, index, length, stride),
-        array => general_element(alloc, array, index, length, stride),
+        array => general_element_place(alloc, array, index, length, stride),
     }
 }
 
@@ -245,11 +250,11 @@ fn variable_element(
             };
             Ok(Place::VariableElement(Box::new(alloc, row)?))
         }
-        index => general_element(alloc, Place::Variable(array), index, length, stride),
+        index => general_element_place(alloc, Place::Variable(array), index, length, stride),
     }
 }
 
-fn general_element(
+fn general_element_place(
     alloc: Global,
     array: Place,
     index: Number,

@@ -15,19 +15,19 @@ ghost use Rattle.ob0_run_machine.specs.View.{program_of};
 ghost use Rattle.ob0_run_lowering.specs.Blocks.{LowersProcedures, LowersBlock};
 
 use crate::contexts::LoweringContext;
-use crate::visible_locations::{Frame, VisibleLocations};
-use crate::{LoweredLocation, Scene, TypeLayouts, lower_body};
+use crate::visible_sites::{Frame, VisibleSites};
+use crate::{LoweredSite, Scene, TypeLayouts, lower_body};
 use ob0_run_machine::code;
 use ob0_scope_table::Resolved;
 use ob0_tree::{Block, Procedure};
 use ob0_types_table::DeclarationTable;
 use std::alloc::{AllocError, Global};
 
-/// The state while a module is lowered. `visible` has the location in lowered code of each
-/// declaration in scope (`LoweredLocation`). `procedures` has the code of the procedures so far.
+/// The state while a module is lowered. `visible` has the site in lowered code of each declaration
+/// in scope (`LoweredSite`). `procedures` has the code of the procedures so far.
 #[derive(Drop)]
 pub(crate) struct Lowering {
-    pub(crate) visible: VisibleLocations,
+    pub(crate) visible: VisibleSites,
     pub(crate) procedures: Vec<code::Routine>,
 }
 
@@ -42,10 +42,10 @@ impl Lowering {
     ghost use Rattle.ob0_tree.specs.Tree.{Tree, items, procedure};
     ghost use Rattle.ob0_language_names.specs.Names.{Label};
     ghost use Rattle.ob0_scope_table.specs.Resolution.{ordinal_in};
-    ghost use Rattle.ob0_run_lowering.specs.Scenes.{location_at};
-    ghost use Rattle.ob0_run_lowering.specs.declared.scene.LoweredLocation.TheVariants as site;
+    ghost use Rattle.ob0_run_lowering.specs.Scenes.{site_in_table};
+    ghost use Rattle.ob0_run_lowering.specs.declared.scene.LoweredSite.TheVariants as site;
     ghost use Rattle.ob0_run_machine.specs.declared.code.Routine as code;
-    ghost use Rattle.ob0_run_lowering.specs.PlacedNames.{HidesMoreLocations, locations_after_binding};
+    ghost use Rattle.ob0_run_lowering.specs.PlacedNames.{HidesMoreSites, sites_after_binding};
 
     /// Stores the code of a procedure at the procedure's index. Does nothing if the list of
     /// procedures has no such index.
@@ -70,17 +70,17 @@ impl Lowering {
     ) -> Result<usize, AllocError>
         ensures index { IfOk result (λ i. i ≡ length self.old.procedures.items) }
         ensures sites { IfOk result (λ i. (k : ℕ)
-            → location_at self.new.visible.sites.items k
-            ≡ locations_after_binding (ordinal_in context.now.resolved.now.ordinals name) (site.Procedure depth i)
-            (location_at self.old.visible.sites.items) k) }
-        ensures follows { IfOk result (λ i. HidesMoreLocations self.old.visible self.new.visible) }
+            → site_in_table self.new.visible.sites.items k
+            ≡ sites_after_binding (ordinal_in context.now.resolved.now.ordinals name) (site.Procedure depth i)
+            (site_in_table self.old.visible.sites.items) k) }
+        ensures follows { IfOk result (λ i. HidesMoreSites self.old.visible self.new.visible) }
         ensures pushed { IfOk result (λ i. (e : code.Routine)
             × (self.new.procedures.items ≡ self.old.procedures.items ++ e ∷ [])) }
     {
         let index = self.procedures.len();
         let ordinal = context.resolved.ordinal_at(name);
         self.visible
-            .bind(ordinal, LoweredLocation::Procedure { depth, index })?;
+            .bind(ordinal, LoweredSite::Procedure { depth, index })?;
         self.procedures.push(code::Routine {
             cells: 0,
             body: Vec::new(context.alloc),
@@ -106,7 +106,7 @@ impl Lowering {
             return Err(AllocError);
         };
         let index = self.reserve_routine(context, depth, p.name)?;
-        let outside = self.visible.hidden_count();
+        let outside = self.visible.hidden_site_count();
         let frame = Frame {
             depth: inside,
             cells: 0,
@@ -114,7 +114,7 @@ impl Lowering {
         };
         let frame = self.visible.place_formals(context, frame, &p.formals)?;
         let entry = self.lower_block(context, frame, &p.block)?;
-        self.visible.restore_hidden_locations(outside);
+        self.visible.restore_hidden_sites(outside);
         self.set_routine(index, entry);
         Ok(())
     }
@@ -176,7 +176,7 @@ pub fn lower<'t>(
         types: &types,
     };
     let mut lowering = Lowering {
-        visible: VisibleLocations::new(alloc),
+        visible: VisibleSites::new(alloc),
         procedures: Vec::new(alloc),
     };
     let frame = Frame {

@@ -1,22 +1,22 @@
-//! Defines `Scene`, the data that is needed to lower a body, and `LoweredLocation`, the location of
-//! a declaration in lowered code.
+//! Defines `Scene`, the data that is needed to lower a body, and `LoweredSite`, the site of a
+//! declaration in lowered code.
 
 ghost use Rattle.std.specs.Prelude.{◌≡◌, IfOk};
 ghost use Rattle.ob0_run_machine.specs.View.{place_of};
 ghost use Rattle.ob0_run_cells.specs.Lowering.{slot_place};
 ghost use Rattle.ob0_run_cells.specs.Lowering as slots;
 
-use crate::places::reference;
+use crate::places::var_parameter_place;
 use crate::types::TypeLayouts;
 use ob0_run_machine::code::{Place, Variable};
 use ob0_scope_table::Resolved;
 use ob0_types_table::Object;
 use std::alloc::{AllocError, Global};
 
-/// The location of a declaration in lowered code. `depth` is the depth of an activation: 0 for the
+/// The site of a declaration in lowered code. `depth` is the depth of an activation: 0 for the
 /// module, 1 for the procedures that the module declares, 2 for the procedures inside these.
 #[derive(Clone, Copy, PartialEq, Eq)]
-pub enum LoweredLocation {
+pub enum LoweredSite {
     /// The declaration isn't in lowered code, for example because it is a constant or a type.
     Nowhere,
     /// A variable, at an offset in the cells of the module.
@@ -50,14 +50,14 @@ impl CallTarget {
     }
 }
 
-/// The data that is needed to lower a body: the module, the layouts of its types, the locations of
-/// declarations in lowered code, and the depth of the body's activation. `sites` has the location
-/// of each declaration at the declaration's ordinal. The depth of the module is 0.
+/// The data that is needed to lower a body: the module, the layouts of its types, the sites of
+/// declarations in lowered code, and the depth of the body's activation. `sites` has the site of
+/// each declaration at the declaration's ordinal. The depth of the module is 0.
 #[derive(Clone, Copy)]
 pub struct Scene<'s, 'k, 't> {
     pub resolved: &'s Resolved<'t>,
     pub types: &'s TypeLayouts<'k>,
-    pub sites: &'s [LoweredLocation],
+    pub sites: &'s [LoweredSite],
     pub depth: usize,
 }
 
@@ -65,7 +65,7 @@ impl<'s, 'k, 't> Scene<'s, 'k, 't> {
     ghost use Rattle.std.specs.Prelude.{option_and_then};
     ghost use Rattle.ob0_scope_table.specs.LabelledTrees.{label_at_token};
     ghost use Rattle.ob0_types_table.specs.KnownTables.{shapes_of};
-    ghost use Rattle.ob0_types_table.specs.Tables.{object_view};
+    ghost use Rattle.ob0_types_table.specs.DeclarationTableView.{object_view};
     ghost use Rattle.ob0_run_lowering.specs.Scenes.{object_of_label, place_seen_from, slot_of_label, target_of_label, place_of_label};
 
     /// Returns the object of the declaration that the name at a token refers to, or None if the
@@ -78,16 +78,16 @@ impl<'s, 'k, 't> Scene<'s, 'k, 't> {
         self.types.declarations().object(ordinal)
     }
 
-    /// Returns the location of the declaration that the name at a token refers to. Returns
-    /// `Nowhere` if the name is unbound, or if its declaration has no location.
-    fn site(&self, name: usize) -> LoweredLocation
+    /// Returns the site of the declaration that the name at a token refers to. Returns `Nowhere` if
+    /// the name is unbound, or if its declaration has no site.
+    fn site(&self, name: usize) -> LoweredSite
         ensures { place_seen_from self.now.depth result
             ≡ place_of_label self.now (label_at_token self.now.resolved.now name) }
     {
         match self.resolved.ordinal_at(name) {
-            None => LoweredLocation::Nowhere,
+            None => LoweredSite::Nowhere,
             Some(ordinal) => match self.sites.get(ordinal) {
-                None => LoweredLocation::Nowhere,
+                None => LoweredSite::Nowhere,
                 Some(site) => *site,
             },
         }
@@ -100,14 +100,14 @@ impl<'s, 'k, 't> Scene<'s, 'k, 't> {
             ≡ target_of_label self.now (label_at_token self.now.resolved.now name) }
     {
         match self.site(name) {
-            LoweredLocation::Procedure { depth, index } => CallTarget {
+            LoweredSite::Procedure { depth, index } => CallTarget {
                 procedure: index,
                 up: self.depth.saturating_sub(depth),
             },
-            LoweredLocation::Nowhere => CallTarget::none(),
-            LoweredLocation::Module(_) => CallTarget::none(),
-            LoweredLocation::InActivation { .. } => CallTarget::none(),
-            LoweredLocation::ByReference { .. } => CallTarget::none(),
+            LoweredSite::Nowhere => CallTarget::none(),
+            LoweredSite::Module(_) => CallTarget::none(),
+            LoweredSite::InActivation { .. } => CallTarget::none(),
+            LoweredSite::ByReference { .. } => CallTarget::none(),
         }
     }
 
@@ -118,15 +118,15 @@ impl<'s, 'k, 't> Scene<'s, 'k, 't> {
             ≡ slot_place (slot_of_label self.now (label_at_token self.now.resolved.now name))) }
     {
         match self.site(name) {
-            LoweredLocation::Module(offset) => Ok(Place::Variable(Variable::Module(offset))),
-            LoweredLocation::InActivation { depth, offset } => {
+            LoweredSite::Module(offset) => Ok(Place::Variable(Variable::Module(offset))),
+            LoweredSite::InActivation { depth, offset } => {
                 Ok(place_in_activation(self.depth.saturating_sub(depth), offset))
             }
-            LoweredLocation::ByReference { depth, index } => {
-                reference(alloc, self.depth.saturating_sub(depth), index, 0)
+            LoweredSite::ByReference { depth, index } => {
+                var_parameter_place(alloc, self.depth.saturating_sub(depth), index, 0)
             }
-            LoweredLocation::Nowhere => Ok(Place::Variable(Variable::Module(0))),
-            LoweredLocation::Procedure { .. } => Ok(Place::Variable(Variable::Module(0))),
+            LoweredSite::Nowhere => Ok(Place::Variable(Variable::Module(0))),
+            LoweredSite::Procedure { .. } => Ok(Place::Variable(Variable::Module(0))),
         }
     }
 }

@@ -9,7 +9,7 @@ ghost use Rattle.ob0_run_cells.specs.Cells.{field_offset, size, step_offset};
 ghost use Rattle.ob0_language_names.specs.Names.{Name};
 ghost use Rattle.ob0_types_table.specs.FieldPlaces.{selected_field};
 ghost use Rattle.ob0_types_table.specs.KnownTables.{shapes_of};
-ghost use Rattle.ob0_types_table.specs.Tables.{field_shapes, entry_shape, faulty_shape, array_or_faulty, record_or_faulty, type_shape};
+ghost use Rattle.ob0_types_table.specs.DeclarationTableView.{field_shapes, entry_shape, faulty_shape, array_or_faulty, record_or_faulty, type_shape};
 ghost use Rattle.ob0_language_values.specs.Values as values;
 ghost use Rattle.ob0_run_lowering.specs.Layouts.{IsLayoutOfFields, HaveLayouts, HasLayout, IsLayoutOfRecord};
 
@@ -26,7 +26,7 @@ struct RecordLayout {
 
 /// The layout of an array or a record type: an array's number of cells, or a record's layout.
 #[derive(Drop)]
-enum Layout {
+enum CellLayout {
     Array(usize),
     Record(RecordLayout),
 }
@@ -36,7 +36,7 @@ enum Layout {
 #[derive(Drop)]
 pub struct TypeLayouts<'k> {
     known: &'k DeclarationTable,
-    layouts: Vec<Layout>,
+    layouts: Vec<CellLayout>,
 }
 
 /// Returns the sum of two numbers of cells. Fails exactly if the sum has more than 64 bits. The
@@ -63,7 +63,7 @@ fn cell_product(count: usize, cells: usize) -> Result<usize, AllocError>
 
 /// Returns the number of cells of the array type at the index `place` of the table of types.
 /// `layouts` has the layouts of this table. Returns 0 if the table has no array type at this index.
-fn array_cells(layouts: &[Layout], place: usize) -> usize
+fn array_cell_count(layouts: &[CellLayout], place: usize) -> usize
     ensures { (shapes : List values.Shape)
         → HaveLayouts shapes layouts.now
         → result ≡ size (array_or_faulty (slice_index_or shapes place faulty_shape)) }
@@ -71,15 +71,15 @@ fn array_cells(layouts: &[Layout], place: usize) -> usize
     match layouts.get(place) {
         None => 0,
         Some(layout) => match layout {
-            Layout::Array(cells) => *cells,
-            Layout::Record(_) => 0,
+            CellLayout::Array(cells) => *cells,
+            CellLayout::Record(_) => 0,
         },
     }
 }
 
 /// Returns the layout of the record type at the index `place` of the table of types. `layouts` has
 /// the layouts of this table. Returns None if the table has no record type at this index.
-fn record_layout_at(layouts: &[Layout], place: usize) -> Option<&RecordLayout>
+fn record_layout_at(layouts: &[CellLayout], place: usize) -> Option<&RecordLayout>
     ensures { (shapes : List values.Shape)
         → HaveLayouts shapes layouts.now
         → IsLayoutOfRecord result (record_or_faulty (slice_index_or shapes place faulty_shape)) }
@@ -87,13 +87,13 @@ fn record_layout_at(layouts: &[Layout], place: usize) -> Option<&RecordLayout>
     match layouts.get(place) {
         None => None,
         Some(layout) => match layout {
-            Layout::Record(record) => Some(record),
-            Layout::Array(_) => None,
+            CellLayout::Record(record) => Some(record),
+            CellLayout::Array(_) => None,
         },
     }
 }
 
-fn record_cells(layouts: &[Layout], place: usize) -> usize
+fn record_cell_count(layouts: &[CellLayout], place: usize) -> usize
     ensures { (shapes : List values.Shape)
         → HaveLayouts shapes layouts.now
         → result ≡ size (record_or_faulty (slice_index_or shapes place faulty_shape)) }
@@ -106,7 +106,7 @@ fn record_cells(layouts: &[Layout], place: usize) -> usize
 
 /// Returns the number of cells of a type, from the layouts so far. Returns 0 for an unknown type,
 /// or if there is no layout of this type.
-fn size_from_layouts(layouts: &[Layout], of: TypeId) -> usize
+fn size_from_layouts(layouts: &[CellLayout], of: TypeId) -> usize
     ensures { (shapes : List values.Shape)
         → HaveLayouts shapes layouts.now
         → result ≡ size (type_shape shapes of) }
@@ -114,8 +114,8 @@ fn size_from_layouts(layouts: &[Layout], of: TypeId) -> usize
     match of {
         TypeId::Integer => 1,
         TypeId::Boolean => 1,
-        TypeId::Array(place) => array_cells(layouts, place),
-        TypeId::Record(place) => record_cells(layouts, place),
+        TypeId::Array(place) => array_cell_count(layouts, place),
+        TypeId::Record(place) => record_cell_count(layouts, place),
         TypeId::Unknown => 0,
     }
 }
@@ -124,7 +124,7 @@ fn size_from_layouts(layouts: &[Layout], of: TypeId) -> usize
 /// an allocation fails, or if the number of cells has more than 64 bits.
 fn lay_out_record(
     alloc: Global,
-    layouts: &[Layout],
+    layouts: &[CellLayout],
     fields: &[Field],
 ) -> Result<RecordLayout, AllocError>
     ensures { (shapes : List values.Shape)
@@ -142,7 +142,11 @@ fn lay_out_record(
 
 /// Returns the layout of an entry of the table of types, from the layouts of the entries before it.
 /// Fails if an allocation fails, or if the number of cells has more than 64 bits.
-fn entry_layout(alloc: Global, layouts: &[Layout], shape: &TypeEntry) -> Result<Layout, AllocError>
+fn entry_layout(
+    alloc: Global,
+    layouts: &[CellLayout],
+    shape: &TypeEntry,
+) -> Result<CellLayout, AllocError>
     ensures { (shapes : List values.Shape)
         → HaveLayouts shapes layouts.now
         → IfOk result (HasLayout (entry_shape shapes shape.now)) }
@@ -150,20 +154,20 @@ fn entry_layout(alloc: Global, layouts: &[Layout], shape: &TypeEntry) -> Result<
     match shape {
         TypeEntry::Array(array) => {
             let cells = cell_product(array.length, size_from_layouts(layouts, array.element))?;
-            Ok(Layout::Array(cells))
+            Ok(CellLayout::Array(cells))
         }
         TypeEntry::Record(record) => {
             let layout = lay_out_record(alloc, layouts, record.fields.as_slice())?;
-            Ok(Layout::Record(layout))
+            Ok(CellLayout::Record(layout))
         }
     }
 }
 
 impl<'k> Model for TypeLayouts<'k> {
-    ghost use Rattle.ob0_types_table.specs.KnownTables.{Tables, shapes_of};
+    ghost use Rattle.ob0_types_table.specs.KnownTables.{DeclarationTableView, shapes_of};
     ghost use Rattle.ob0_run_lowering.specs.Layouts.{HaveLayouts};
 
-    ghost Value = { Tables };
+    ghost Value = { DeclarationTableView };
 
     ghost view = { λ t. t.known.now };
 
@@ -233,7 +237,12 @@ fn offset_of_field(laid: &RecordLayout, field: Option<FieldId>) -> usize
     }
 }
 
-fn named_field_offset(known: &DeclarationTable, layouts: &[Layout], of: TypeId, name: &str) -> usize
+fn named_field_offset(
+    known: &DeclarationTable,
+    layouts: &[CellLayout],
+    of: TypeId,
+    name: &str,
+) -> usize
     ensures { HaveLayouts (shapes_of known.now) layouts.now
         → result ≡ step_offset (type_shape (shapes_of known.now) of) (values.at_field name.now) }
 {
@@ -251,7 +260,7 @@ fn named_field_offset(known: &DeclarationTable, layouts: &[Layout], of: TypeId, 
 
 /// Returns the layouts of all array and record types in the table `known`, in the table's order.
 /// Each layout is computed from the layouts before it.
-fn lay_out_types(alloc: Global, known: &DeclarationTable) -> Result<Vec<Layout>, AllocError>
+fn lay_out_types(alloc: Global, known: &DeclarationTable) -> Result<Vec<CellLayout>, AllocError>
     ensures { IfOk result (λ layouts. HaveLayouts (shapes_of known.now) layouts.items) }
 {
     let mut layouts = Vec::new(alloc);

@@ -10,29 +10,29 @@ use Rattle.ob0_run_machine.specs.declared.code.Conditional.{Conditional, out-Con
 use Rattle.ob0_run_machine.specs.declared.code.RepeatLoop.{RepeatLoop}
 use Rattle.ob0_run_machine.specs.declared.code.Instruction.{Increase, Instruction}
 use Rattle.ob0_run_machine.specs.declared.ending.EvaluationFault.{EvaluationFault}
-use Rattle.ob0_run_machine.specs.declared.ending.Stop.{Stop}
-use Rattle.ob0_run_machine.specs.declared.ending.Stop.TheVariants as stop
+use Rattle.ob0_run_machine.specs.declared.ending.StopReason.{StopReason}
+use Rattle.ob0_run_machine.specs.declared.ending.StopReason.TheVariants as stop
 use Rattle.ob0_run_machine.specs.declared.machine.Machine.{Machine}
 use Rattle.ob0_run_machine.specs.declared.memory.Memory.{Memory}
 use Rattle.ob0_run_machine.specs.Allocations.{has_failed}
-use Rattle.ob0_run_machine.specs.Answers.{end_of_stop, end_of}
+use Rattle.ob0_run_machine.specs.Answers.{end_of_stop_reason, end_of}
 use Rattle.ob0_run_machine.specs.declared.code.Variable.{Variable}
 use Rattle.ob0_run_machine.specs.declared.code.Comparator.TheVariants as relation
 use Rattle.ob0_run_machine.specs.Evaluation.{Halt, Levels, StepResult, TurnBound, address, cell_at, compare, ends, gives, number, truth, ◌>>=◌}
 use Rattle.ob0_run_machine.specs.Execution.{CallEffect, CallArguments, MachineProgress, MachineState, choose_by_truth, levels_in_call, execute, execute_sequence, execute_branches, continue_with, no_room, pass_arguments, running, stopped, execute_while, execute_repeat, continue_with_result}
 use Rattle.ob0_run_machine.specs.Lowered as lowered
-use Rattle.ob0_run_machine.specs.Machines.{StepHasEffect, CodeEffect, PerformsCalls, CallPostcondition, IsProgressAfterStep, StopsRun, StopsPassing, statement_effect, sequence_effect, elsifs_effect, entry_effect, output_items, passed_arguments, state_of}
+use Rattle.ob0_run_machine.specs.Machines.{StepHasEffect, CodeEffect, PerformsCalls, CallPostcondition, IsProgressAfterStep, StopsRun, StopsPassing, statement_effect, sequence_effect, elsifs_effect, procedure_entry_effect, output_items, passed_arguments, state_of}
 use Rattle.ob0_run_machine.specs.View.{branches_of_list, argument_of, conditional_of, call_of, variable_comparison, variable_increase, elsif_branches, else_statements, repeat_of, sequence_of, statement_of, truth_of, variable_of}
 
 stopped_then : (o : Option Halt) (m : Machine) (p : MachineProgress) (k : MachineState → MachineProgress) → StopsRun o m p → StopsRun o m (continue_with p k)
 stopped_then (Some x) m p k h = ap (λ p. continue_with p k) h
 stopped_then None m p k h = h
 
-failed_then : (e : Stop) (m : Machine) (p : MachineProgress) (k : MachineState → MachineProgress) → IsProgressAfterStep (Err e) m p → IsProgressAfterStep (Err e) m (continue_with p k)
-failed_then e = stopped_then (end_of_stop e)
+failed_then : (e : StopReason) (m : Machine) (p : MachineProgress) (k : MachineState → MachineProgress) → IsProgressAfterStep (Err e) m p → IsProgressAfterStep (Err e) m (continue_with p k)
+failed_then e = stopped_then (end_of_stop_reason e)
 
 -- the exit of a `?`
-pub leaving : {post : CallPostcondition} {r : Result (Unit {0}) Stop} {e : Stop} {m m' : Machine} {f : CodeEffect} → (y : Stop) × (r ≡ Err y) × (y ≡ e) → StepHasEffect post (Err e) m m' f → StepHasEffect post r m m' f
+pub leaving : {post : CallPostcondition} {r : Result (Unit {0}) StopReason} {e : StopReason} {m m' : Machine} {f : CodeEffect} → (y : StopReason) × (r ≡ Err y) × (y ≡ e) → StepHasEffect post (Err e) m m' f → StepHasEffect post r m m' f
 leaving {post = post} {r = r} {m = m} {m' = m'} {f = f} q h = subst (λ r. StepHasEffect post r m m' f) (sym q.1) (subst (λ y. StepHasEffect post (Err y) m m' f) (sym q.2) h)
 
 -- what is done ends the run so
@@ -40,7 +40,7 @@ abbrev pub EndsRun : CallPostcondition → EvaluationFault → Machine → Machi
 EndsRun post e m m' f = (enters : CallEffect) → PerformsCalls post enters → f enters (state_of m) ≡ stopped (end_of e) (output_items m'.output.items)
 
 -- the exit of a `?` at what ends the run
-pub ending_by : {post : CallPostcondition} {r : Result (Unit {0}) Stop} {m m' : Machine} {f : CodeEffect} (e : EvaluationFault) → (y : Stop) × (r ≡ Err y) × (end_of_stop y ≡ Some (end_of e))
+pub ending_by : {post : CallPostcondition} {r : Result (Unit {0}) StopReason} {m m' : Machine} {f : CodeEffect} (e : EvaluationFault) → (y : StopReason) × (r ≡ Err y) × (end_of_stop_reason y ≡ Some (end_of e))
     → EndsRun post e m m' f → StepHasEffect post r m m' f
 ending_by {m = m} {m' = m'} {f = f} e q h = leaving (q.0, q.1, refl) record { has_effect = λ enters p. subst (λ o. StopsRun o m' (f enters (state_of m))) (sym q.2) (h enters p) }
 
@@ -48,7 +48,7 @@ ending_by {m = m} {m' = m'} {f = f} e q h = leaving (q.0, q.1, refl) record { ha
 pub settled : {a b : Bool} {o : StepResult Bool} → gives a ≡ o → a ≡ b → gives b ≡ o
 settled h e = sym (ap gives e) ∙ h
 
-pub does_statement : {post : CallPostcondition} {r : Result (Unit {0}) Stop} {m m' : Machine} (t : ℕ) (ls : Levels) {a b : lowered.Instruction} → a ≡ b → StepHasEffect post r m m' (statement_effect t ls a) → StepHasEffect post r m m' (statement_effect t ls b)
+pub does_statement : {post : CallPostcondition} {r : Result (Unit {0}) StopReason} {m m' : Machine} (t : ℕ) (ls : Levels) {a b : lowered.Instruction} → a ≡ b → StepHasEffect post r m m' (statement_effect t ls a) → StepHasEffect post r m m' (statement_effect t ls b)
 does_statement {post = post} {r = r} {m = m} {m' = m'} t ls e h = subst (λ a. StepHasEffect post r m m' (statement_effect t ls a)) e h
 
 -- sequences
@@ -76,7 +76,7 @@ sequence_on {now = now} {t = t} {ls = ls} {xs = xs} {k = k} u x c less is h = re
       c.so_far enters p ∙ execute-next enters t ls xs k x (state_of now) less is ∙ ap (λ q. continue_with q (execute_sequence enters t ls (sequence_of (drop (k + 1) xs)))) (h.has_effect enters p);
 }
 
-pub sequence_fails : {post : CallPostcondition} {start now m : Machine} {t : ℕ} {ls : Levels} {xs : List Instruction} {k : ℕ} (e : Stop) (x : Instruction) → InSequence post start now t ls xs k → k < length xs → x ≡ get_or xs k x
+pub sequence_fails : {post : CallPostcondition} {start now m : Machine} {t : ℕ} {ls : Levels} {xs : List Instruction} {k : ℕ} (e : StopReason) (x : Instruction) → InSequence post start now t ls xs k → k < length xs → x ≡ get_or xs k x
     → StepHasEffect post (Err e) now m (statement_effect t ls (statement_of x)) → StepHasEffect post (Err e) start m (sequence_effect t ls (sequence_of xs))
 sequence_fails {now = now} {m = m} {t = t} {ls = ls} {xs = xs} {k = k} e x c less is h = record {
   has_effect = λ enters p.
@@ -120,7 +120,7 @@ branches_fail {now = now} {t = t} {ls = ls} {i = i} {xs = xs} {k = k} e x c less
     c.so_far enters p ∙ branch-next enters t ls i xs k x (state_of now) less is
     ∙ ap (λ o. choose_by_truth (state_of now) o (execute_sequence enters t ls (sequence_of x.body.items)) (from_branches enters t ls i (drop (k + 1) xs))) (sym h)
 
-pub branch_taken : {post : CallPostcondition} {start now m : Machine} {t : ℕ} {ls : Levels} {i : Conditional} {xs : List Branch} {k : ℕ} (r : Result (Unit {0}) Stop) (ss : List Instruction) (x : Branch) → InBranches post start now t ls i xs k → k < length xs → x ≡ get_or xs k x
+pub branch_taken : {post : CallPostcondition} {start now m : Machine} {t : ℕ} {ls : Levels} {i : Conditional} {xs : List Branch} {k : ℕ} (r : Result (Unit {0}) StopReason) (ss : List Instruction) (x : Branch) → InBranches post start now t ls i xs k → k < length xs → x ≡ get_or xs k x
     → gives true ≡ truth ls now.cells.items (truth_of x.condition) → ss ≡ x.body.items → StepHasEffect post r now m (sequence_effect t ls (sequence_of ss)) → StepHasEffect post r start m (elsifs_effect t ls (elsif_branches i) (else_statements i))
 branch_taken {now = now} {m = m} {t = t} {ls = ls} {i = i} {xs = xs} {k = k} r ss x c less is h same d = record {
   has_effect = λ enters p.
@@ -129,7 +129,7 @@ branch_taken {now = now} {m = m} {t = t} {ls = ls} {i = i} {xs = xs} {k = k} r s
       ∙ ap (λ ss. execute_sequence enters t ls (sequence_of ss) (state_of now)) (sym same))) (d.has_effect enters p);
 }
 
-pub branches_end : {post : CallPostcondition} {start now m : Machine} {t : ℕ} {ls : Levels} {i : Conditional} {xs : List Branch} {k : ℕ} (r : Result (Unit {0}) Stop) (ss : List Instruction) → InBranches post start now t ls i xs k → length xs ≤ k
+pub branches_end : {post : CallPostcondition} {start now m : Machine} {t : ℕ} {ls : Levels} {i : Conditional} {xs : List Branch} {k : ℕ} (r : Result (Unit {0}) StopReason) (ss : List Instruction) → InBranches post start now t ls i xs k → length xs ≤ k
     → ss ≡ (out-Conditional i).otherwise.items → StepHasEffect post r now m (sequence_effect t ls (sequence_of ss)) → StepHasEffect post r start m (elsifs_effect t ls (elsif_branches i) (else_statements i))
 branches_end {now = now} {m = m} {t = t} {ls = ls} {i = i} {xs = xs} {k = k} r ss c all same d = record {
   has_effect = λ enters p.
@@ -148,13 +148,13 @@ if-goes enters t ls i s o h = ap (if_chosen enters t ls i s) (sym h)
 pub if_fails : {post : CallPostcondition} (m : Machine) (t : ℕ) (ls : Levels) (i : Conditional) (e : EvaluationFault) → ends (end_of e) ≡ truth ls m.cells.items (truth_of (out-Conditional i).condition) → EndsRun post e m m (statement_effect t ls (conditional_of i))
 if_fails m t ls i e h = λ enters p. if-goes enters t ls i (state_of m) (ends (end_of e)) h
 
-pub if_taken : {post : CallPostcondition} {m m' : Machine} (t : ℕ) (ls : Levels) (i : Conditional) (r : Result (Unit {0}) Stop) (ss : List Instruction) → gives true ≡ truth ls m.cells.items (truth_of (out-Conditional i).condition)
+pub if_taken : {post : CallPostcondition} {m m' : Machine} (t : ℕ) (ls : Levels) (i : Conditional) (r : Result (Unit {0}) StopReason) (ss : List Instruction) → gives true ≡ truth ls m.cells.items (truth_of (out-Conditional i).condition)
     → ss ≡ (out-Conditional i).body.items → StepHasEffect post r m m' (sequence_effect t ls (sequence_of ss)) → StepHasEffect post r m m' (statement_effect t ls (conditional_of i))
 if_taken {m = m} {m' = m'} t ls i r ss h same d = record {
   has_effect = λ enters p. subst (IsProgressAfterStep r m') (sym (if-goes enters t ls i (state_of m) (gives true) h ∙ ap (λ ss. execute_sequence enters t ls (sequence_of ss) (state_of m)) (sym same))) (d.has_effect enters p);
 }
 
-pub if_passed : {post : CallPostcondition} {m m' : Machine} (t : ℕ) (ls : Levels) (i : Conditional) (r : Result (Unit {0}) Stop) → gives false ≡ truth ls m.cells.items (truth_of (out-Conditional i).condition)
+pub if_passed : {post : CallPostcondition} {m m' : Machine} (t : ℕ) (ls : Levels) (i : Conditional) (r : Result (Unit {0}) StopReason) → gives false ≡ truth ls m.cells.items (truth_of (out-Conditional i).condition)
     → StepHasEffect post r m m' (elsifs_effect t ls (elsif_branches i) (else_statements i)) → StepHasEffect post r m m' (statement_effect t ls (conditional_of i))
 if_passed {m = m} {m' = m'} t ls i r h d = record { has_effect = λ enters p. subst (IsProgressAfterStep r m') (sym (if-goes enters t ls i (state_of m) (gives false) h)) (d.has_effect enters p) }
 
@@ -215,7 +215,7 @@ while_on {now = now} {t = t} {ls = ls} {w = w} {xs = xs} {left = left} u ss c h 
       ∙ ap (λ q. continue_with q (turning enters (left - 1) t ls w xs)) (ap (λ ss. execute_sequence enters t ls (sequence_of ss) (state_of now)) (sym same) ∙ d.has_effect enters p);
 }
 
-pub while_body_fails : {post : CallPostcondition} {start now m : Machine} {t : ℕ} {ls : Levels} {w : lowered.Truth} {xs : List Instruction} {left : ℕ} (x : Stop) (ss : List Instruction) → InWhile post start now t ls w xs left → gives true ≡ truth ls now.cells.items w → left ≢ 0
+pub while_body_fails : {post : CallPostcondition} {start now m : Machine} {t : ℕ} {ls : Levels} {w : lowered.Truth} {xs : List Instruction} {left : ℕ} (x : StopReason) (ss : List Instruction) → InWhile post start now t ls w xs left → gives true ≡ truth ls now.cells.items w → left ≢ 0
     → ss ≡ xs → StepHasEffect post (Err x) now m (sequence_effect t ls (sequence_of ss)) → StepHasEffect post (Err x) start m (statement_effect t ls (lowered.while_loop w (sequence_of xs)))
 while_body_fails {now = now} {m = m} {t = t} {ls = ls} {w = w} {xs = xs} {left = left} x ss c h e same d = record {
   has_effect = λ enters p.
@@ -242,27 +242,27 @@ unfolding execute
 all-after enters t ls [] x s = continued_running (execute enters t ls (statement_of x) s) _ (λ s. refl)
 all-after enters t ls (y ∷ ys) x s = continued_twice (execute enters t ls (statement_of y) s) _ _ (execute enters t ls (statement_of x)) (all-after enters t ls ys x)
 
-pub then_last : {post : CallPostcondition} {r : Result (Unit {0}) Stop} {start now m : Machine} (t : ℕ) (ls : Levels) (xs : List Instruction) (u : Unit {0}) (x : Instruction) → StepHasEffect post (Ok u) start now (sequence_effect t ls (sequence_of xs))
+pub then_last : {post : CallPostcondition} {r : Result (Unit {0}) StopReason} {start now m : Machine} (t : ℕ) (ls : Levels) (xs : List Instruction) (u : Unit {0}) (x : Instruction) → StepHasEffect post (Ok u) start now (sequence_effect t ls (sequence_of xs))
     → StepHasEffect post r now m (statement_effect t ls (statement_of x)) → StepHasEffect post r start m (sequence_effect t ls (sequence_of (xs ++ x ∷ [])))
 then_last {r = r} {start = start} {now = now} {m = m} t ls xs u x d e = record {
   has_effect = λ enters p.
       subst (IsProgressAfterStep r m) (sym (all-after enters t ls xs x (state_of start) ∙ ap (λ q. continue_with q (execute enters t ls (statement_of x))) (d.has_effect enters p))) (e.has_effect enters p);
 }
 
-pub before_last : {post : CallPostcondition} {start m : Machine} (t : ℕ) (ls : Levels) (xs : List Instruction) (e : Stop) (x : Instruction) → StepHasEffect post (Err e) start m (sequence_effect t ls (sequence_of xs))
+pub before_last : {post : CallPostcondition} {start m : Machine} (t : ℕ) (ls : Levels) (xs : List Instruction) (e : StopReason) (x : Instruction) → StepHasEffect post (Err e) start m (sequence_effect t ls (sequence_of xs))
     → StepHasEffect post (Err e) start m (sequence_effect t ls (sequence_of (xs ++ x ∷ [])))
 before_last {start = start} {m = m} t ls xs e x d = record {
   has_effect = λ enters p.
       subst (IsProgressAfterStep (Err e) m) (sym (all-after enters t ls xs x (state_of start))) (failed_then e m (execute_sequence enters t ls (sequence_of xs) (state_of start)) (execute enters t ls (statement_of x)) (d.has_effect enters p));
 }
 
-pub steps_by : (m : Machine) (r : Result (Unit {0}) Stop) (p : MachineProgress) (e : EvaluationFault) → (y : Stop) × (r ≡ Err y) × (end_of_stop y ≡ Some (end_of e)) → stopped (end_of e) (output_items m.output.items) ≡ p → IsProgressAfterStep r m p
+pub steps_by : (m : Machine) (r : Result (Unit {0}) StopReason) (p : MachineProgress) (e : EvaluationFault) → (y : StopReason) × (r ≡ Err y) × (end_of_stop_reason y ≡ Some (end_of e)) → stopped (end_of e) (output_items m.output.items) ≡ p → IsProgressAfterStep r m p
 steps_by m r p e q h = subst (λ r. IsProgressAfterStep r m p) (sym q.1) (subst (λ o. StopsRun o m p) (sym q.2) (sym h))
 
-pub steps_as : (enters : CallEffect) (t : ℕ) (ls : Levels) (v : Variable) (r : Result (Unit {0}) Stop) (m : Machine) (s : MachineState) {a b : ℤ} → a ≡ b → IsProgressAfterStep r m (execute enters t ls (variable_increase v a) s) → IsProgressAfterStep r m (execute enters t ls (variable_increase v b) s)
+pub steps_as : (enters : CallEffect) (t : ℕ) (ls : Levels) (v : Variable) (r : Result (Unit {0}) StopReason) (m : Machine) (s : MachineState) {a b : ℤ} → a ≡ b → IsProgressAfterStep r m (execute enters t ls (variable_increase v a) s) → IsProgressAfterStep r m (execute enters t ls (variable_increase v b) s)
 steps_as enters t ls v r m s e h = subst (λ n. IsProgressAfterStep r m (execute enters t ls (variable_increase v n) s)) e h
 
-pub loop_as : {post : CallPostcondition} {r : Result (Unit {0}) Stop} {m m' : Machine} (t : ℕ) (ls : Levels) (w : lowered.Truth) (u : Variable) (xs : List Instruction) {b b' : ℤ} → b ≡ b'
+pub loop_as : {post : CallPostcondition} {r : Result (Unit {0}) StopReason} {m m' : Machine} (t : ℕ) (ls : Levels) (w : lowered.Truth) (u : Variable) (xs : List Instruction) {b b' : ℤ} → b ≡ b'
     → StepHasEffect post r m m' (statement_effect t ls (lowered.while_loop w (sequence_of (xs ++ Increase u b ∷ []))))
     → StepHasEffect post r m m' (statement_effect t ls (lowered.while_loop w (sequence_of (xs ++ Increase u b' ∷ []))))
 loop_as {post = post} {r = r} {m = m} {m' = m'} t ls w u xs e h =
@@ -307,7 +307,7 @@ again-more : (enters : CallEffect) (left t : ℕ) (ls : Levels) (r : RepeatLoop)
 unfolding again
 again-more enters left t ls r s e = ap (λ left. again enters left t ls r s) (one_less left e)
 
-pub repeat_body_fails : {post : CallPostcondition} {start now m : Machine} {t : ℕ} {ls : Levels} {r : RepeatLoop} {left : ℕ} (x : Stop) (ss : List Instruction) → InRepeat post start now t ls r left
+pub repeat_body_fails : {post : CallPostcondition} {start now m : Machine} {t : ℕ} {ls : Levels} {r : RepeatLoop} {left : ℕ} (x : StopReason) (ss : List Instruction) → InRepeat post start now t ls r left
     → ss ≡ r.body.items → StepHasEffect post (Err x) now m (sequence_effect t ls (sequence_of ss)) → StepHasEffect post (Err x) start m (statement_effect t ls (repeat_of r))
 repeat_body_fails {now = now} {m = m} {t = t} {ls = ls} {r = r} {left = left} x ss c same d = record {
   has_effect = λ enters p.
@@ -350,7 +350,7 @@ repeat_on {now = now} {t = t} {ls = ls} {r = r} {left = left} c h e = record { s
 -- calls
 
 pub call-goes : (t : ℕ) (ls : Levels) (c : call.ProcedureCall) (enters : CallEffect) (s : MachineState)
-    → statement_effect t ls (call_of c) enters s ≡ continue_with_result s (pass_arguments ls (map argument_of c.arguments.items) (passed_arguments s.cells [])) (λ p. enters c.procedure (levels_in_call ls (length s.cells) c.up p) record s { cells = p.cells })
+    → statement_effect t ls (call_of c) enters s ≡ continue_with_result s (pass_arguments ls s.cells (map argument_of c.arguments.items) (passed_arguments s.cells [])) (λ p. enters c.procedure (levels_in_call ls (length s.cells) c.up p) record s { cells = p.cells })
 unfolding execute
 call-goes t ls c enters s = refl
 
@@ -359,18 +359,18 @@ passing_stops : (m m' : Machine) (o : Option Halt) (memory : Memory) → m'.outp
 passing_stops m m' (Some x) memory out kept given next h = ap (λ o. continue_with_result (state_of m) o next) h ∙ ap (λ o. stopped x (output_items o.items)) (sym out)
 passing_stops m m' None memory out kept given next h = ap has_failed kept ∙ h
 
-pub call_fails : {post : CallPostcondition} {m m' : Machine} (memory : Memory) (e : Stop) (t : ℕ) (ls : Levels) (c : call.ProcedureCall) (xs : List Argument) (none : List ℕ)
-    → none ≡ [] → xs ≡ c.arguments.items → StopsPassing (end_of_stop e) memory (pass_arguments ls (map argument_of xs) (passed_arguments m.cells.items none)) → m'.output ≡ m.output → m'.memory ≡ memory
+pub call_fails : {post : CallPostcondition} {m m' : Machine} (memory : Memory) (e : StopReason) (t : ℕ) (ls : Levels) (c : call.ProcedureCall) (xs : List Argument) (none : List ℕ)
+    → none ≡ [] → xs ≡ c.arguments.items → StopsPassing (end_of_stop_reason e) memory (pass_arguments ls m.cells.items (map argument_of xs) (passed_arguments m.cells.items none)) → m'.output ≡ m.output → m'.memory ≡ memory
     → StepHasEffect post (Err e) m m' (statement_effect t ls (call_of c))
 call_fails {m = m} {m' = m'} memory e t ls c xs none empty same h out kept = record {
-  has_effect = λ enters p. subst (StopsRun (end_of_stop e) m') (sym (call-goes t ls c enters (state_of m)
+  has_effect = λ enters p. subst (StopsRun (end_of_stop_reason e) m') (sym (call-goes t ls c enters (state_of m)
       ∙ ap (λ o. continue_with_result (state_of m) o (λ p. enters c.procedure (levels_in_call ls (length m.cells.items) c.up p) record (state_of m) { cells = p.cells }))
-      (ap (λ xs. pass_arguments ls (map argument_of xs) (passed_arguments m.cells.items [])) (sym same) ∙ ap (λ none. pass_arguments ls (map argument_of xs) (passed_arguments m.cells.items none)) (sym empty))))
-      (passing_stops m m' (end_of_stop e) memory out kept _ _ h);
+      (ap (λ xs. pass_arguments ls m.cells.items (map argument_of xs) (passed_arguments m.cells.items [])) (sym same) ∙ ap (λ none. pass_arguments ls m.cells.items (map argument_of xs) (passed_arguments m.cells.items none)) (sym empty))))
+      (passing_stops m m' (end_of_stop_reason e) memory out kept _ _ h);
 }
 
-pub call_enters : {post : CallPostcondition} {m m' : Machine} {r : Result (Unit {0}) Stop} (cells : List ℤ) (addresses : List ℕ) (t : ℕ) (ls inner : Levels) (c : call.ProcedureCall) (xs : List Argument) (none : List ℕ)
-    → none ≡ [] → xs ≡ c.arguments.items → pass_arguments ls (map argument_of xs) (passed_arguments m.cells.items none) ≡ gives (passed_arguments cells addresses)
+pub call_enters : {post : CallPostcondition} {m m' : Machine} {r : Result (Unit {0}) StopReason} (cells : List ℤ) (addresses : List ℕ) (t : ℕ) (ls inner : Levels) (c : call.ProcedureCall) (xs : List Argument) (none : List ℕ)
+    → none ≡ [] → xs ≡ c.arguments.items → pass_arguments ls m.cells.items (map argument_of xs) (passed_arguments m.cells.items none) ≡ gives (passed_arguments cells addresses)
     → inner ≡ levels_in_call ls (length m.cells.items) c.up (passed_arguments cells addresses)
     → ((enters : CallEffect) → PerformsCalls post enters → IsProgressAfterStep r m' (enters c.procedure inner (record (state_of m) { cells = cells })))
     → StepHasEffect post r m m' (statement_effect t ls (call_of c))
@@ -378,13 +378,13 @@ call_enters {m = m} {m' = m'} {r = r} cells addresses t ls inner c xs none empty
   has_effect = λ enters p.
       subst (IsProgressAfterStep r m') (sym (call-goes t ls c enters (state_of m)
       ∙ ap (λ o. continue_with_result (state_of m) o (λ p. enters c.procedure (levels_in_call ls (length m.cells.items) c.up p) record (state_of m) { cells = p.cells }))
-      (ap (λ xs. pass_arguments ls (map argument_of xs) (passed_arguments m.cells.items [])) (sym same) ∙ ap (λ none. pass_arguments ls (map argument_of xs) (passed_arguments m.cells.items none)) (sym empty) ∙ h)
+      (ap (λ xs. pass_arguments ls m.cells.items (map argument_of xs) (passed_arguments m.cells.items [])) (sym same) ∙ ap (λ none. pass_arguments ls m.cells.items (map argument_of xs) (passed_arguments m.cells.items none)) (sym empty) ∙ h)
       ∙ ap (λ ls. enters c.procedure ls record (state_of m) { cells = cells }) (sym seen)))
       (done enters p);
 }
 
-pub enters_as : {post : CallPostcondition} {m m' : Machine} {r : Result (Unit {0}) Stop} (k up base : ℕ) (addresses : List ℕ) (ls inner : Levels) → inner ≡ levels_in_call ls base up (passed_arguments m.cells.items addresses)
-    → ((enters : CallEffect) → PerformsCalls post enters → IsProgressAfterStep r m' (enters k inner (state_of m))) → StepHasEffect post r m m' (entry_effect k up ls base addresses)
+pub enters_as : {post : CallPostcondition} {m m' : Machine} {r : Result (Unit {0}) StopReason} (k up base : ℕ) (addresses : List ℕ) (ls inner : Levels) → inner ≡ levels_in_call ls base up (passed_arguments m.cells.items addresses)
+    → ((enters : CallEffect) → PerformsCalls post enters → IsProgressAfterStep r m' (enters k inner (state_of m))) → StepHasEffect post r m m' (procedure_entry_effect k up ls base addresses)
 enters_as {m = m} {m' = m'} {r = r} k up base addresses ls inner seen done = record { has_effect = λ enters p. subst (λ seen. IsProgressAfterStep r m' (enters k seen (state_of m))) seen (done enters p) }
 
 -- the levels of an activation that is made
@@ -398,5 +398,5 @@ level_made x = ap levels_of (level.rolls-Level' x) ∙ ap (λ outer. record { ba
 pub entered_as : {base n : ℕ} {addresses given : List ℕ} {outer seen : Levels} → base ≡ n → addresses ≡ given → outer ≡ seen → record { base = base; addresses = addresses } ∷ outer ≡ record { base = n; addresses = given } ∷ seen
 entered_as {base} {n} {addresses} {given} {outer} {seen} a b c = cc
 
-pub does_sequence : {post : CallPostcondition} {r : Result (Unit {0}) Stop} {m m' : Machine} (t : ℕ) (ls : Levels) {xs ys : List Instruction} → xs ≡ ys → StepHasEffect post r m m' (sequence_effect t ls (sequence_of xs)) → StepHasEffect post r m m' (sequence_effect t ls (sequence_of ys))
+pub does_sequence : {post : CallPostcondition} {r : Result (Unit {0}) StopReason} {m m' : Machine} (t : ℕ) (ls : Levels) {xs ys : List Instruction} → xs ≡ ys → StepHasEffect post r m m' (sequence_effect t ls (sequence_of xs)) → StepHasEffect post r m m' (sequence_effect t ls (sequence_of ys))
 does_sequence {post = post} {r = r} {m = m} {m' = m'} t ls e h = subst (λ xs. StepHasEffect post r m m' (sequence_effect t ls (sequence_of xs))) e h

@@ -3,11 +3,11 @@ use Rattle.std.proofs.Common.{◌≡◌, ◌≢◌, ℕ, zero, suc, arith, ◌+�
 use Rattle.std.proofs.lemmas.List.{length-replicate}
 use Rattle.std.proofs.lemmas.Bool.{lt-ltb}
 use Rattle.ob0_run_machine.specs.declared.code.LoweredCode.{LoweredCode}
-use Rattle.ob0_run_machine.specs.declared.ending.Stop.{Stop}
-use Rattle.ob0_run_machine.specs.declared.ending.Stop.TheVariants as stop
+use Rattle.ob0_run_machine.specs.declared.ending.StopReason.{StopReason}
+use Rattle.ob0_run_machine.specs.declared.ending.StopReason.TheVariants as stop
 use Rattle.ob0_run_machine.specs.declared.level.Level as level
 use Rattle.ob0_run_machine.specs.declared.machine.Machine.{Machine}
-use Rattle.ob0_run_machine.specs.Answers.{end_of_stop}
+use Rattle.ob0_run_machine.specs.Answers.{end_of_stop_reason}
 use Rattle.ob0_run_machine.specs.Evaluation as ending
 use Rattle.ob0_run_machine.specs.Evaluation.{CallBound, Levels, innermost_level}
 use Rattle.ob0_run_machine.specs.Execution.{MachineProgress, MachineState, OutputItem, activate, call, execute_sequence, run_result, drop_variables, no_room, module_levels, run, running, stopped, run_with_added_cells, zeros}
@@ -48,8 +48,8 @@ module _ (m m₂ : Machine) (program : LoweredCode) (c t k : ℕ) (l : level.Lev
   dropped (Some x) p h = ap (drop_variables (innermost_level (levels_of l)).base) h
   dropped None p h = h
 
-  pub call_fails : (e : Stop) → StepHasEffect post (Err e) m m₂ (activation_effect o t (levels_of l)) → IsProgressAfterCall (Err e) m m₂ program c t k l
-  call_fails e d = subst (StopsRun (end_of_stop e) m₂) (sym goes) (dropped (end_of_stop e) _ (d.has_effect _ performs))
+  pub call_fails : (e : StopReason) → StepHasEffect post (Err e) m m₂ (activation_effect o t (levels_of l)) → IsProgressAfterCall (Err e) m m₂ program c t k l
+  call_fails e d = subst (StopsRun (end_of_stop_reason e) m₂) (sym goes) (dropped (end_of_stop_reason e) _ (d.has_effect _ performs))
 
   pub call_returns : (m₃ : Machine) (u v : Unit {0}) → StepHasEffect post (Ok u) m m₂ (activation_effect o t (levels_of l)) → state_of m₃ ≡ record (state_of m₂) { cells = take (innermost_level (levels_of l)).base m₂.cells.items } → IsProgressAfterCall (Ok v) m m₃ program c t k l
   call_returns m₃ u v d cut = goes ∙ ap (drop_variables (innermost_level (levels_of l)).base) (d.has_effect _ performs) ∙ ap running (sym cut)
@@ -72,18 +72,18 @@ activate-goes : (enters : _) (t : ℕ) (ls : Levels) (o : Option Routine) (p : R
 unfolding activate
 activate-goes enters t ls o p s e = ap (λ o. activate enters t ls o s) e
 
-pub activates : {post : CallPostcondition} {r : Result (Unit {0}) Stop} {m m₂ m' : Machine} {o : Option Routine} (t : ℕ) (ls : Levels) (p : Routine) → o ≡ Some p → m₂.cells.items ≡ m.cells.items ++ zeros p.cells → length m₂.cells.items < 2 ^ 64
+pub activates : {post : CallPostcondition} {r : Result (Unit {0}) StopReason} {m m₂ m' : Machine} {o : Option Routine} (t : ℕ) (ls : Levels) (p : Routine) → o ≡ Some p → m₂.cells.items ≡ m.cells.items ++ zeros p.cells → length m₂.cells.items < 2 ^ 64
     → state_of m₂ ≡ record (state_of m) { cells = m.cells.items ++ zeros p.cells } → StepHasEffect post r m₂ m' (sequence_effect t ls p.body) → StepHasEffect post r m m' (activation_effect o t ls)
 activates {r = r} {m = m} {m₂ = m₂} {m' = m'} {o = o} t ls p e grown few more d = record {
   has_effect = λ enters performs.
       subst (IsProgressAfterStep r m') (sym (activate-goes enters t ls o p (state_of m) e ∙ with-room p.cells (execute_sequence enters t ls p.body) (state_of m) m₂.cells.items grown few ∙ ap (execute_sequence enters t ls p.body) (sym more))) (d.has_effect enters performs);
 }
 
-pub leaving_steps : (r : Result (Unit {0}) Stop) (e : Stop) (m : Machine) (p : MachineProgress) → (y : Stop) × (r ≡ Err y) × (y ≡ e) → IsProgressAfterStep (Err e) m p → IsProgressAfterStep r m p
+pub leaving_steps : (r : Result (Unit {0}) StopReason) (e : StopReason) (m : Machine) (p : MachineProgress) → (y : StopReason) × (r ≡ Err y) × (y ≡ e) → IsProgressAfterStep (Err e) m p → IsProgressAfterStep r m p
 leaving_steps r e m p q h = subst (λ r. IsProgressAfterStep r m p) (sym q.1) (subst (λ y. IsProgressAfterStep (Err y) m p) (sym q.2) h)
 
 -- the statements of a program
-pub block_runs : (m m' : Machine) (program : LoweredCode) (c t : ℕ) (r : Result (Unit {0}) Stop) (post : CallPostcondition) (inner : Levels) (xs : List Instruction) → PerformsCalls post (call (program_of program).procedures c t)
+pub block_runs : (m m' : Machine) (program : LoweredCode) (c t : ℕ) (r : Result (Unit {0}) StopReason) (post : CallPostcondition) (inner : Levels) (xs : List Instruction) → PerformsCalls post (call (program_of program).procedures c t)
     → inner ≡ module_levels → xs ≡ program.body.items → StepHasEffect post r m m' (sequence_effect t inner (sequence_of xs)) → IsProgressAfterStep r m' (progress_after_body (program_of program) c t (state_of m))
 block_runs m m' program c t r post inner xs performs seen same d =
     subst (λ xs. IsProgressAfterStep r m' (sequence_effect t module_levels (sequence_of xs) (call (program_of program).procedures c t) (state_of m))) same
@@ -105,10 +105,10 @@ index_ending_at : (o : Option ending.Halt) (m : Machine) (p : MachineProgress) (
 index_ending_at (Some e) m p r end is h steps = ap (λ e. Some (record { output = output_items m.output.items; ending = e })) (ap meaning_of_end (ok-same r is h.1) ∙ h.2) ∙ sym (ap run_result steps)
 index_ending_at None m p r end is h steps = let no = subst IsErr is h in absurd (cc)
 
-pub ended_by : (m : Machine) (p : MachineProgress) (executed : Result (Unit {0}) Stop) (r : Result End AllocError) (end : End) → r ≡ Ok end → IsEndAfterExecution executed r → IsProgressAfterStep executed m p
+pub ended_by : (m : Machine) (p : MachineProgress) (executed : Result (Unit {0}) StopReason) (r : Result End AllocError) (end : End) → r ≡ Ok end → IsEndAfterExecution executed r → IsProgressAfterStep executed m p
     → Some (record { output = output_items m.output.items; ending = meaning_of_end end }) ≡ run_result p
 ended_by m p (Ok done) r end is h steps = ap (λ e. Some (record { output = output_items m.output.items; ending = meaning_of_end e })) (ok-same r is h) ∙ sym (ap run_result steps)
-ended_by m p (Err s) r end is h steps = index_ending_at (end_of_stop s) m p r end is h steps
+ended_by m p (Err s) r end is h steps = index_ending_at (end_of_stop_reason s) m p r end is h steps
 
 pub finishes : (program : lowered.LoweredCode) (input : List ℤ) (c t : ℕ) (s : MachineState) (p : MachineProgress) (more : List ℤ) → more ≡ [] ++ zeros program.cells → length more < 2 ^ 64 → s ≡ record { cells = zeros program.cells; input = input; output = [] } → progress_after_body program c t s ≡ p
     → run program input c t ≡ run_result p

@@ -3,6 +3,6 @@
 use Rattle.std.specs.Prelude.{Bool}
 use Rattle.ob0_run_machine.specs.declared.memory.Memory.{Memory}
 
--- returns whether `Memory::fail` was called, which records a failed allocation
+-- returns whether `Memory::record_failed_allocation` was called, which records a failed allocation
 abbrev pub has_failed : Memory → Bool
 has_failed memory = memory.has_failed

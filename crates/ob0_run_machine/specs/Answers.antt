@@ -1,11 +1,11 @@
--- Converts the results that the machine's functions return (`Result`, `FlatOutcome`, `Stop`) to the
+-- Converts the results that the machine's functions return (`Result`, `FlatOutcome`, `StopReason`) to the
 -- outcomes and the ends of a run that the definitions use (`StepResult`, `Halt`).
 -- Rule: none; used in contracts of the machine's steps.
 use Rattle.std.specs.Prelude.{ℤ, List, Option, Some, None, Ok, Err, Result}
 use Rattle.ob0_run_machine.specs.declared.ending.EvaluationFault.{EvaluationFault}
 use Rattle.ob0_run_machine.specs.declared.ending.EvaluationFault.TheVariants as ending
-use Rattle.ob0_run_machine.specs.declared.ending.Stop.{Stop}
-use Rattle.ob0_run_machine.specs.declared.ending.Stop.TheVariants as stop
+use Rattle.ob0_run_machine.specs.declared.ending.StopReason.{StopReason}
+use Rattle.ob0_run_machine.specs.declared.ending.StopReason.TheVariants as stop
 use Rattle.ob0_run_machine.specs.Evaluation as evaluation
 use Rattle.ob0_run_machine.specs.Evaluation.{Halt, Levels, StepResult, ends, gives, number}
 use Rattle.ob0_run_machine.specs.declared.code.Link.{Link}
@@ -22,14 +22,14 @@ end_of ending.Index = evaluation.Index
 
 -- returns the end of the run for a statement's reason to stop, or None if the reason is a failed
 -- allocation
-abbrev pub end_of_stop : Stop → Option Halt
-end_of_stop stop.Overflow = Some evaluation.Overflow
-end_of_stop stop.Divisor = Some evaluation.Divisor
-end_of_stop stop.Index = Some evaluation.Index
-end_of_stop stop.InputEnd = Some evaluation.InputEnd
-end_of_stop stop.CallBound = Some evaluation.CallBound
-end_of_stop stop.TurnBound = Some evaluation.TurnBound
-end_of_stop stop.Memory = None
+abbrev pub end_of_stop_reason : StopReason → Option Halt
+end_of_stop_reason stop.Overflow = Some evaluation.Overflow
+end_of_stop_reason stop.Divisor = Some evaluation.Divisor
+end_of_stop_reason stop.Index = Some evaluation.Index
+end_of_stop_reason stop.InputEnd = Some evaluation.InputEnd
+end_of_stop_reason stop.CallBound = Some evaluation.CallBound
+end_of_stop_reason stop.TurnBound = Some evaluation.TurnBound
+end_of_stop_reason stop.Memory = None
 
 -- converts the result of an evaluation, a `Result`, to a value or the end of the run that the fault
 -- causes

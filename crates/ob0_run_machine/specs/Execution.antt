@@ -93,26 +93,30 @@ pub record CallArguments : Type 0 where
   pub addresses : List ℕ
 
 -- returns the passed arguments `p` with the cells `more` added at the end of their cells
-abbrev pub pass_cells : CallArguments → List ℤ → CallArguments
-pass_cells p more = record p { cells = p.cells ++ more }
+abbrev pub with_passed_cells : CallArguments → List ℤ → CallArguments
+with_passed_cells p more = record p { cells = p.cells ++ more }
 
--- Evaluates an argument and passes it. For a VAR parameter, returns the passed arguments with the
--- argument's address added, otherwise with the cells of its value added. If the evaluation ends the
--- run, returns this end.
-abbrev pub pass_argument : Levels → LoweredArgument → CallArguments → StepResult CallArguments
-pass_argument ls (by_place p) done =
-    address ls done.cells p >>= (λ a. gives record done { addresses = done.addresses ++ a ∷ [] })
-pass_argument ls (by_number n) done = number ls done.cells n >>= (λ a. gives (pass_cells done (a ∷ [])))
-pass_argument ls (by_truth t) done =
-    truth ls done.cells t >>= (λ a. gives (pass_cells done (truth_as_cell a ∷ [])))
-pass_argument ls (by_block p n) done =
-    address ls done.cells p >>= (λ a. gives (pass_cells done (block_or_zeros_at done.cells a n)))
+-- Evaluates an argument over the cells before the call (`before`), and returns the passed arguments
+-- with this one added: an address for a VAR parameter, otherwise the cells of a value. If the
+-- evaluation ends the run, returns this end.
+abbrev pub pass_argument : Levels → (before : List ℤ) → LoweredArgument → CallArguments
+    → StepResult CallArguments
+pass_argument ls before (by_place p) done =
+    address ls before p >>= (λ a. gives record done { addresses = done.addresses ++ a ∷ [] })
+pass_argument ls before (by_number n) done =
+    number ls before n >>= (λ a. gives (with_passed_cells done (a ∷ [])))
+pass_argument ls before (by_truth t) done =
+    truth ls before t >>= (λ a. gives (with_passed_cells done (truth_as_cell a ∷ [])))
+pass_argument ls before (by_block p n) done =
+    address ls before p >>= (λ a. gives (with_passed_cells done (block_or_zeros_at before a n)))
 
 -- Evaluates and passes a list of arguments, from left to right, and returns the passed arguments
--- with these added. If an evaluation ends the run, returns this end.
-abbrev pub pass_arguments : Levels → List LoweredArgument → CallArguments → StepResult CallArguments
-pass_arguments ls [] done = gives done
-pass_arguments ls (a ∷ as_given) done = pass_argument ls a done >>= pass_arguments ls as_given
+-- with these added. `before` has the cells before the call. If an evaluation ends the run, returns
+-- this end.
+abbrev pub pass_arguments : Levels → (before : List ℤ) → List LoweredArgument → CallArguments
+    → StepResult CallArguments
+pass_arguments ls before [] done = gives done
+pass_arguments ls before (a ∷ as_given) done = pass_argument ls before a done >>= pass_arguments ls before as_given
 
 -- Returns the run of a WHILE, with at most `t` iterations. If the condition is FALSE, the statement
 -- ends. If the condition is TRUE, one more iteration is made. If no iteration is left, the run ends
@@ -178,7 +182,7 @@ unfoldable mutual
   execute enter t ls (repeat_loop body c) s =
       execute_repeat (t - 1) (λ s'. truth ls s'.cells c) (execute_sequence enter t ls body) s
   execute enter t ls (calls k up args) s =
-      continue_with_result s (pass_arguments ls args record { cells = s.cells; addresses = [] })
+      continue_with_result s (pass_arguments ls s.cells args record { cells = s.cells; addresses = [] })
       (λ p. enter k (levels_in_call ls (length s.cells) up p) record s { cells = p.cells })
 
   -- returns the run of a list of statements, one after the other

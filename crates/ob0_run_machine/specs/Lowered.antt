@@ -6,8 +6,8 @@
 -- and a write there changes nothing. A block is copied only if all its cells exist at both places.
 -- If some cells of a block argument don't exist, zeros are passed. A procedure that doesn't exist
 -- does nothing. An activation that doesn't exist has base 0 and no addresses. Addresses wrap at 64
--- bits. Arguments are added one by one at the end of the cells, and each argument is evaluated over
--- the cells so far (`pass_arguments`).
+-- bits. All arguments of a call are evaluated over the cells before the call. Their values are added
+-- one by one at the end of the cells (`pass_arguments`).
 -- Rule: none; used in contracts of the machine.
 use Rattle.std.specs.Prelude.{ℕ, Bool, List, ℤ}
 

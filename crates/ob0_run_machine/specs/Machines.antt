@@ -11,14 +11,14 @@ use Rattle.std.specs.Prelude.{◌≡◌, ℕ, ℤ, List, map, Ok, Err, None, Opt
 use denote.MutBor.{MutBor}
 use denote.Ref.{Bor}
 use Rattle.ob0_run_machine.specs.declared.ending.EvaluationFault.{EvaluationFault}
-use Rattle.ob0_run_machine.specs.declared.ending.Stop.{Stop}
+use Rattle.ob0_run_machine.specs.declared.ending.StopReason.{StopReason}
 use Rattle.ob0_run_machine.specs.declared.level.Level as level
 use Rattle.ob0_run_machine.specs.declared.machine.Item.{Item}
 use Rattle.ob0_run_machine.specs.declared.machine.Item.TheVariants as item
 use Rattle.ob0_run_machine.specs.declared.machine.Machine.{Machine}
 use Rattle.ob0_run_machine.specs.declared.memory.Memory.{Memory}
 use Rattle.ob0_run_machine.specs.Allocations.{has_failed}
-use Rattle.ob0_run_machine.specs.Answers.{end_of_stop, end_of}
+use Rattle.ob0_run_machine.specs.Answers.{end_of_stop_reason, end_of}
 use Rattle.ob0_run_machine.specs.Evaluation.{Halt, Levels, StepResult, ends, gives}
 use Rattle.ob0_run_machine.specs.Execution.{CallEffect, CallArguments, MachineProgress, MachineState, OutputItem, activate, call, levels_in_call, execute, execute_sequence, execute_branches, line_out, number_out, running, stopped}
 use Rattle.ob0_run_machine.specs.Levels.{levels_of}
@@ -56,19 +56,19 @@ StopsRun None m p = has_failed m.memory ≡ true
 
 -- States that `p` is the progress of a run after a step with this result. `m` is the machine after
 -- the step. The run continues in the machine's state, or has ended as `StopsRun` says.
-abbrev pub IsProgressAfterStep : Result (Unit {0}) Stop → Machine → MachineProgress → Type 0
+abbrev pub IsProgressAfterStep : Result (Unit {0}) StopReason → Machine → MachineProgress → Type 0
 IsProgressAfterStep (Ok done) m p = p ≡ running (state_of m)
-IsProgressAfterStep (Err s) m p = StopsRun (end_of_stop s) m p
+IsProgressAfterStep (Err s) m p = StopsRun (end_of_stop_reason s) m p
 
 -- The type of the postcondition of a closure that performs calls. It relates the machine before the
 -- call, the procedure's index, the called activation, the result, and the machine after the call.
 abbrev pub CallPostcondition : Type 1
-CallPostcondition = MutBor Machine → ℕ → Bor level.Level → Result (Unit {0}) Stop → MutBor Machine → Type 0
+CallPostcondition = MutBor Machine → ℕ → Bor level.Level → Result (Unit {0}) StopReason → MutBor Machine → Type 0
 
 -- States that each call for which the postcondition `post` holds has the effect `enters`.
 abbrev pub PerformsCalls : CallPostcondition → CallEffect → Type 0
 PerformsCalls post enters =
-    (at : MutBor Machine) (k : ℕ) (l : Bor level.Level) (r : Result (Unit {0}) Stop)
+    (at : MutBor Machine) (k : ℕ) (l : Bor level.Level) (r : Result (Unit {0}) StopReason)
     (after : MutBor Machine)
     → post at k l r after → IsProgressAfterStep r after.now (enters k (levels_of l.now) (state_of at.now))
 
@@ -97,7 +97,7 @@ elsifs_effect t ls bs otherwise enters s =
 -- States that a step from the machine `m` to the machine `m'` with the result `r` has the effect
 -- `doing`. This has to hold for each effect of calls that agrees with `post`, the postcondition of
 -- the closure that performs calls (`PerformsCalls`).
-pub record StepHasEffect (post : CallPostcondition) (r : Result (Unit {0}) Stop) (m m' : Machine) (doing : CodeEffect)
+pub record StepHasEffect (post : CallPostcondition) (r : Result (Unit {0}) StopReason) (m m' : Machine) (doing : CodeEffect)
     : Type 0 where
   pub has_effect : (enters : CallEffect)
       → PerformsCalls post enters
@@ -112,8 +112,8 @@ passed_arguments cells addresses = record { cells = cells; addresses = addresses
 -- levels out from the caller's activation, which is the first of `ls`. The
 -- procedure's activation has its first cell at `base`, and `addresses` are the addresses of its VAR
 -- parameters.
-abbrev pub entry_effect : ℕ → ℕ → Levels → ℕ → List ℕ → CodeEffect
-entry_effect k up ls base addresses enters s =
+abbrev pub procedure_entry_effect : ℕ → ℕ → Levels → ℕ → List ℕ → CodeEffect
+procedure_entry_effect k up ls base addresses enters s =
     enters k (levels_in_call ls base up (passed_arguments s.cells addresses)) s
 
 -- States that the outcome `o` of evaluating arguments is the given end of the run. For None, states
@@ -124,9 +124,9 @@ StopsPassing None memory o = has_failed memory ≡ true
 
 -- States that `o` is the outcome of passing arguments, given the machine's result. If the result is
 -- Ok, `o` gives these cells and addresses. If it is an error, the run ends as `StopsPassing` says.
-abbrev pub IsOutcomeOfPassing : Result (Unit {0}) Stop → Memory → List ℤ → List ℕ → StepResult CallArguments → Type 0
+abbrev pub IsOutcomeOfPassing : Result (Unit {0}) StopReason → Memory → List ℤ → List ℕ → StepResult CallArguments → Type 0
 IsOutcomeOfPassing (Ok done) memory cells addresses o = o ≡ gives (passed_arguments cells addresses)
-IsOutcomeOfPassing (Err s) memory cells addresses o = StopsPassing (end_of_stop s) memory o
+IsOutcomeOfPassing (Err s) memory cells addresses o = StopsPassing (end_of_stop_reason s) memory o
 
 -- Returns the effect of a procedure's activation: the cells of the variables that the procedure
 -- declares are added, and then its body runs. If there is no procedure (None), nothing happens.
@@ -137,7 +137,7 @@ activation_effect o t ls enters s = activate enters t ls o s
 -- machine `m`, as `call` defines it (`IsProgressAfterStep`). `k` is the procedure's index, and `l`
 -- is the level of the called activation. At most `c` calls may still be opened, including this
 -- call. Each execution of a loop may make at most `t` iterations.
-abbrev pub IsProgressAfterCall : Result (Unit {0}) Stop
+abbrev pub IsProgressAfterCall : Result (Unit {0}) StopReason
     → Machine
     → Machine
     → LoweredCode

@@ -6,8 +6,8 @@ use Rattle.std.specs.declared.alloc.AllocError.{AllocError}
 use Rattle.ob0_run_machine.specs.declared.running.End.{End}
 use Rattle.ob0_run_machine.specs.declared.running.End.TheVariants as code
 use Rattle.ob0_run_machine.specs.declared.running.Outcome.{Outcome}
-use Rattle.ob0_run_machine.specs.declared.ending.Stop.{Stop}
-use Rattle.ob0_run_machine.specs.Answers.{end_of_stop}
+use Rattle.ob0_run_machine.specs.declared.ending.StopReason.{StopReason}
+use Rattle.ob0_run_machine.specs.Answers.{end_of_stop_reason}
 use Rattle.ob0_run_machine.specs.Evaluation.{CallBound, Divisor, Done, Halt, Index, InputEnd, Overflow, TurnBound}
 use Rattle.ob0_run_machine.specs.Execution.{MachineProgress, MachineRun, MachineState, call, execute_sequence, module_levels}
 use Rattle.ob0_run_machine.specs.Lowered.{LoweredCode}
@@ -31,10 +31,10 @@ ReturnsEnd None r = IsErr r
 
 -- States that the second result is the end of a run whose statements returned the first result. It
 -- is Done if the statements returned normally, an error if an allocation failed, otherwise the end
--- for their `Stop`.
-abbrev pub IsEndAfterExecution : Result (Unit {0}) Stop → Result End AllocError → Type 0
+-- for their `StopReason`.
+abbrev pub IsEndAfterExecution : Result (Unit {0}) StopReason → Result End AllocError → Type 0
 IsEndAfterExecution (Ok done) r = r ≡ Ok code.Done
-IsEndAfterExecution (Err s) r = ReturnsEnd (end_of_stop s) r
+IsEndAfterExecution (Err s) r = ReturnsEnd (end_of_stop_reason s) r
 
 -- converts an outcome that the machine returns to a `MachineRun` with the same output and the same
 -- end

@@ -120,7 +120,7 @@ abbrev mutual
       lowered.operation lowered.product (lowered.cell (variable_of v)) right
   operation_with_link (link.Other o n) left = lowered.operation (operator_of o) left (number_of n)
 
-  -- returns the lowered operations that apply a row of links to a number, one link after the other
+  -- returns the lowered operations that apply a list of links to the number `left`, in order
   pub operation_with_row_of_links : {n : _} → number.Row_of-Link n → lowered.Number → lowered.Number
   operation_with_row_of_links number.end_of-Link left = left
   operation_with_row_of_links (number.more_of-Link l row) left = operation_with_row_of_links row (operation_with_link l left)
@@ -260,13 +260,13 @@ abbrev mutual
       lowered.chooses (lowered.branch (truth_of c) (statements_of body) (branches_of branches))
       (statements_of otherwise)
 
-  -- converts a row of statements to lowered statements
+  -- converts a list of statements to lowered statements
   pub statements_of : {n : _} → statement.Row_of-Instruction n → lowered.Instructions
   statements_of statement.end_of-Instruction = lowered.no_statement
   statements_of (statement.more_of-Instruction s row) =
       lowered.next_statement (statement_of s) (statements_of row)
 
-  -- converts a row of branches to lowered branches
+  -- converts a list of branches to lowered branches
   pub branches_of : {n : _} → if_statement.Row_of-Branch n → lowered.Branches
   branches_of if_statement.end_of-Branch = lowered.no_branch
   branches_of (if_statement.more_of-Branch c shape body row) =

@@ -8,7 +8,7 @@ ghost use Rattle.ob0_run_machine.specs.Machines.{StepHasEffect, IsProgressAfterC
 ghost use Rattle.ob0_run_machine.specs.View.{procedure_of};
 
 use crate::code::{LoweredCode, Routine};
-use crate::ending::Stop;
+use crate::ending::StopReason;
 use crate::level::Level;
 use crate::machine::Machine;
 use crate::statements::run_sequence_inline;
@@ -29,13 +29,13 @@ fn procedure_at<'p>(procedures: &'p [Routine], procedure: usize) -> Option<&'p R
 /// Runs a procedure whose arguments have been passed: adds the cells of the variables that it
 /// declares, with the value 0, and then runs its body. Does nothing if `procedure` is None. The
 /// closure `enter` performs the calls in the body.
-fn activate<F: Fn(&mut Machine<'_>, usize, &Level<'_>) -> Result<(), Stop>>(
+fn activate<F: Fn(&mut Machine<'_>, usize, &Level<'_>) -> Result<(), StopReason>>(
     procedure: Option<&Routine>,
     level: &Level<'_>,
     turns: u32,
     machine: &mut Machine<'_>,
     enter: &F,
-) -> Result<(), Stop>
+) -> Result<(), StopReason>
     requires { F.IsAlwaysCallable enter.now }
     ensures { StepHasEffect (F.post enter.now) result machine.old machine.new
         (activation_effect (option_map (λ p. procedure_of p.now) procedure.entry) turns
@@ -73,11 +73,11 @@ pub(crate) fn call(
     machine: &mut Machine<'_>,
     procedure: usize,
     level: &Level<'_>,
-) -> Result<(), Stop>
+) -> Result<(), StopReason>
     ensures { IsProgressAfterCall result machine.old machine.new program.now calls turns procedure level.now }
 {
     if calls == 0 {
-        return Err(Stop::CallBound);
+        return Err(StopReason::CallBound);
     }
     let left = calls - 1;
     let enter = |machine: &mut Machine<'_>, procedure: usize, level: &Level<'_>|

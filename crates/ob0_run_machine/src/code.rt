@@ -114,8 +114,8 @@ pub enum Number {
     Negative(Box<Number>),
     /// A single operation on two numbers.
     Operation(Box<Operation>),
-    /// Two or more operations from left to right. Each is applied to the result of the operation
-    /// before it.
+    /// Two or more operations in order. Each operation except the first has the result of the
+    /// operation before it as an operand.
     Chain(Box<Chain>),
 }
 
@@ -137,8 +137,8 @@ pub struct Operation {
     pub link: Link,
 }
 
-/// A chain of operations: a first operand, and the links that are applied to it, from left to
-/// right.
+/// A chain of operations: a first operand, and the links that are applied to it in order, each to
+/// the result so far.
 #[cycle(numbers)]
 #[derive(Drop)]
 pub struct Chain {

@@ -13,10 +13,10 @@ pub(crate) enum EvaluationFault {
     Index,
 }
 
-/// The reason why a statement ends a run. A `Stop` has no payload, so a `Result<(), Stop>` is
-/// returned in registers.
+/// The reason why a statement ends a run. A `StopReason` has no payload, so a `Result<(),
+/// StopReason>` is returned in registers.
 #[derive(Clone, Copy, PartialEq, Eq, Debug)]
-pub(crate) enum Stop {
+pub(crate) enum StopReason {
     Overflow,
     Divisor,
     Index,
@@ -27,37 +27,37 @@ pub(crate) enum Stop {
     Memory,
 }
 
-impl From<EvaluationFault> for Stop {
-    ghost use Rattle.ob0_run_machine.specs.Answers.{end_of_stop, end_of};
+impl From<EvaluationFault> for StopReason {
+    ghost use Rattle.ob0_run_machine.specs.Answers.{end_of_stop_reason, end_of};
 
-    ghost from_gives = { λ x e. end_of_stop e ≡ Some (end_of x) };
+    ghost from_gives = { λ x e. end_of_stop_reason e ≡ Some (end_of x) };
 
     #[inline(always)]
-    fn from(ending: EvaluationFault) -> Stop {
+    fn from(ending: EvaluationFault) -> StopReason {
         match ending {
-            EvaluationFault::Overflow => Stop::Overflow,
-            EvaluationFault::Divisor => Stop::Divisor,
-            EvaluationFault::Index => Stop::Index,
+            EvaluationFault::Overflow => StopReason::Overflow,
+            EvaluationFault::Divisor => StopReason::Divisor,
+            EvaluationFault::Index => StopReason::Index,
         }
     }
 }
 
-impl From<AllocError> for Stop {
-    ghost use Rattle.ob0_run_machine.specs.declared.ending.Stop.TheVariants.{Memory};
+impl From<AllocError> for StopReason {
+    ghost use Rattle.ob0_run_machine.specs.declared.ending.StopReason.TheVariants.{Memory};
 
     ghost from_gives = { λ _ e. e ≡ Memory };
 
-    fn from(_: AllocError) -> Stop {
-        Stop::Memory
+    fn from(_: AllocError) -> StopReason {
+        StopReason::Memory
     }
 }
 
-impl<T: Drop> From<AllocFailed<T>> for Stop {
-    ghost use Rattle.ob0_run_machine.specs.declared.ending.Stop.TheVariants.{Memory};
+impl<T: Drop> From<AllocFailed<T>> for StopReason {
+    ghost use Rattle.ob0_run_machine.specs.declared.ending.StopReason.TheVariants.{Memory};
 
     ghost from_gives = { λ _ e. e ≡ Memory };
 
-    fn from(_: AllocFailed<T>) -> Stop {
-        Stop::Memory
+    fn from(_: AllocFailed<T>) -> StopReason {
+        StopReason::Memory
     }
 }

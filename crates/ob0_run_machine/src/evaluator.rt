@@ -190,7 +190,7 @@ fn evaluate_operation(o: &Operation, level: &Level<'_>, cells: &[i32]) -> FlatOu
     ensures { outcome_of result ≡ number (levels_of level.now) cells.now (operation_of o.now) }
 {
     match &o.first {
-        FirstOperand::Variable(v) => into_flat_outcome(apply(
+        FirstOperand::Variable(v) => into_flat_outcome(apply_link(
             &o.link,
             variable_value(*v, level, cells),
             level,
@@ -206,7 +206,7 @@ fn evaluate_general_operation(o: &Operation, level: &Level<'_>, cells: &[i32]) -
     ensures { outcome_of result ≡ number (levels_of level.now) cells.now (operation_of o.now) }
 {
     match evaluate_first_operand(&o.first, level, cells) {
-        Ok(left) => into_flat_outcome(apply(&o.link, left, level, cells)),
+        Ok(left) => into_flat_outcome(apply_link(&o.link, left, level, cells)),
         Err(ending) => into_flat_outcome(Err(ending)),
     }
 }
@@ -219,8 +219,8 @@ fn evaluate_chain_flat(c: &Chain, level: &Level<'_>, cells: &[i32]) -> FlatOutco
     into_flat_outcome(evaluate_chain(c, level, cells))
 }
 
-/// Returns the value of a chain of operations, or the first fault that occurs. The operations are
-/// evaluated from left to right.
+/// Returns the value of a chain of operations, or the first fault that occurs. The links are
+/// applied in order, each to the result so far.
 #[inline(always)]
 #[cycle(evaluation)]
 pub(crate) fn evaluate_chain(
@@ -232,17 +232,22 @@ pub(crate) fn evaluate_chain(
 {
     let mut left = evaluate_first_operand(&c.first, level, cells)?;
     for link in &c.rest {
-        left = apply(link, left, level, cells)?;
+        left = apply_link(link, left, level, cells)?;
     }
     Ok(left)
 }
 
 /// Applies a link to the number `left`, which is the result so far. Returns the new result, or the
 /// fault that ends the evaluation. If the link's operand is neither a literal nor a variable,
-/// `apply_to_expression` evaluates it. So `apply` is small enough to be inlined.
+/// `apply_to_expression` evaluates it. So `apply_link` is small enough to be inlined.
 #[inline(always)]
 #[cycle(evaluation)]
-fn apply(link: &Link, left: i32, level: &Level<'_>, cells: &[i32]) -> Result<i32, EvaluationFault>
+fn apply_link(
+    link: &Link,
+    left: i32,
+    level: &Level<'_>,
+    cells: &[i32],
+) -> Result<i32, EvaluationFault>
     ensures { outcome_of_result result ≡ outcome_of_applied_link (levels_of level.now) cells.now link.now left }
 {
     match link {
@@ -298,7 +303,7 @@ pub(crate) fn evaluate_update(
         (operation_with_link link.now (lowered.cell (variable_of variable))) }
 {
     let left = variable_value(variable, level, cells);
-    apply(link, left, level, cells)
+    apply_link(link, left, level, cells)
 }
 
 /// Returns whether the cell at a place is TRUE, or the fault that ends the evaluation of the place.
@@ -394,10 +399,10 @@ fn evaluate_general_truth(
             let a = evaluate_truth_out_of_line(operand, level, cells)?;
             Ok(!a)
         }
-        Truth::Both(operands) => evaluate_both(operands, level, cells),
-        Truth::Either(operands) => evaluate_either(operands, level, cells),
-        Truth::All(several) => evaluate_all(several, level, cells),
-        Truth::Any(several) => evaluate_any(several, level, cells),
+        Truth::Both(operands) => evaluate_conjunction_pair(operands, level, cells),
+        Truth::Either(operands) => evaluate_disjunction_pair(operands, level, cells),
+        Truth::All(several) => evaluate_conjunction_list(several, level, cells),
+        Truth::Any(several) => evaluate_disjunction_list(several, level, cells),
         Truth::Related(relation, operands) => compare_operands(*relation, operands, level, cells),
         Truth::LessThanLiteral(v, n) => {
             Ok(compare_variable(Comparator::Less, *v, *n, level, cells))
@@ -408,8 +413,8 @@ fn evaluate_general_truth(
             Ok(compare_variable(*r, *v, right, level, cells))
         }
         Truth::ElementToVariable(r, q, v) => into_result(compare_element(*r, q, *v, level, cells)),
-        Truth::Same(operands) => evaluate_same(operands, level, cells),
-        Truth::Different(operands) => evaluate_different(operands, level, cells),
+        Truth::Same(operands) => evaluate_truth_equality(operands, level, cells),
+        Truth::Different(operands) => evaluate_truth_inequality(operands, level, cells),
     }
 }
 
@@ -468,7 +473,7 @@ fn compare_operands(
 }
 
 #[cycle(truths)]
-fn evaluate_both(
+fn evaluate_conjunction_pair(
     operands: &TruthPair,
     level: &Level<'_>,
     cells: &[i32],
@@ -485,7 +490,7 @@ fn evaluate_both(
 }
 
 #[cycle(truths)]
-fn evaluate_either(
+fn evaluate_disjunction_pair(
     operands: &TruthPair,
     level: &Level<'_>,
     cells: &[i32],
@@ -502,7 +507,7 @@ fn evaluate_either(
 }
 
 #[cycle(truths)]
-fn evaluate_same(
+fn evaluate_truth_equality(
     operands: &TruthPair,
     level: &Level<'_>,
     cells: &[i32],
@@ -517,7 +522,7 @@ fn evaluate_same(
 }
 
 #[cycle(truths)]
-fn evaluate_different(
+fn evaluate_truth_inequality(
     operands: &TruthPair,
     level: &Level<'_>,
     cells: &[i32],
@@ -534,7 +539,7 @@ fn evaluate_different(
 /// Returns the conjunction of several truth values, or the first fault that occurs. The values are
 /// evaluated from left to right. After the first FALSE nothing more is evaluated.
 #[cycle(truths)]
-fn evaluate_all(
+fn evaluate_conjunction_list(
     several: &TruthList,
     level: &Level<'_>,
     cells: &[i32],
@@ -544,14 +549,14 @@ fn evaluate_all(
 {
     let mut left = evaluate_truth_out_of_line(&several.first, level, cells)?;
     for t in &several.rest {
-        left = evaluate_and(left, t, level, cells)?;
+        left = evaluate_and_with_left_value(left, t, level, cells)?;
     }
     Ok(left)
 }
 
 #[inline(always)]
 #[cycle(truths)]
-fn evaluate_and(
+fn evaluate_and_with_left_value(
     left: bool,
     t: &Truth,
     level: &Level<'_>,
@@ -570,7 +575,7 @@ fn evaluate_and(
 /// Returns the disjunction of several truth values, or the first fault that occurs. The values are
 /// evaluated from left to right. After the first TRUE nothing more is evaluated.
 #[cycle(truths)]
-fn evaluate_any(
+fn evaluate_disjunction_list(
     several: &TruthList,
     level: &Level<'_>,
     cells: &[i32],
@@ -580,14 +585,14 @@ fn evaluate_any(
 {
     let mut left = evaluate_truth_out_of_line(&several.first, level, cells)?;
     for t in &several.rest {
-        left = evaluate_or(left, t, level, cells)?;
+        left = evaluate_or_with_left_value(left, t, level, cells)?;
     }
     Ok(left)
 }
 
 #[inline(always)]
 #[cycle(truths)]
-fn evaluate_or(
+fn evaluate_or_with_left_value(
     left: bool,
     t: &Truth,
     level: &Level<'_>,

@@ -6,9 +6,9 @@
 //! `FlatOutcome`. The inlined functions that can fail return a `Result` and use `?`.
 //! `into_flat_outcome` and `into_result` convert between the two types.
 //!
-//! The functions that run statements return a `Result<(), Stop>`. A `Stop` has no payload, so this
-//! result is also returned in registers. `end_of_stop` gives the end of the run for a `Stop`, or
-//! None if an allocation failed.
+//! The functions that run statements return a `Result<(), StopReason>`. A `StopReason` has no
+//! payload, so this result is also returned in registers. `end_of_stop_reason` gives the end of the
+//! run for a `StopReason`, or None if an allocation failed.
 
 ghost use Rattle.std.specs.Prelude.{◌≡◌};
 ghost use Rattle.ob0_run_machine.specs.Answers.{outcome_of, outcome_of_result};

@@ -7,7 +7,7 @@ ghost use Rattle.ob0_run_machine.specs.Machines.{IsProgressAfterStep, item_of, s
 ghost use Rattle.ob0_run_machine.specs.Allocations.{has_failed};
 
 use crate::cell_copies::copy_cells;
-use crate::ending::Stop;
+use crate::ending::StopReason;
 use crate::memory::Memory;
 use std::alloc::AllocError;
 
@@ -67,13 +67,13 @@ impl<'i> Machine<'i> {
     }
 
     /// Removes the next number from the input and stores it in the cell at an address. The number
-    /// is lost if there is no such cell. Returns `Stop::InputEnd` if no input is left.
-    pub(crate) fn read_number(&mut self, address: usize) -> Result<(), Stop>
+    /// is lost if there is no such cell. Returns `StopReason::InputEnd` if no input is left.
+    pub(crate) fn read_number(&mut self, address: usize) -> Result<(), StopReason>
         ensures { IsProgressAfterStep result self.new
             (read_number (state_of self.old) address (state_of self.old).input) }
     {
         match self.input {
-            [] => Err(Stop::InputEnd),
+            [] => Err(StopReason::InputEnd),
             [first, rest @ ..] => {
                 store(&mut self.cells, address, *first);
                 self.input = rest;

@@ -1,16 +1,17 @@
 //! Defines `Memory`, the allocator of a run with a flag for a failed allocation. The lists of a run
 //! grow only by functions in this file, so the flag shows whether an allocation has failed.
 //!
-//! A step may report a failed allocation only if `Memory::fail` was called (`IsProgressAfterStep`,
-//! `IsOutcomeOfPassing`). So a fault or a bound can't be reported as a failed allocation. A
-//! function that grows a list fails only if the list had too little capacity (`full`). No contract
-//! states that the run needed a larger list, or that the allocator refused the request.
+//! A step may report a failed allocation only if `Memory::record_failed_allocation` was called
+//! (`IsProgressAfterStep`, `IsOutcomeOfPassing`). So a fault or a bound can't be reported as a
+//! failed allocation. A function that grows a list fails only if the list had too little capacity
+//! (`full`). No contract states that the run needed a larger list, or that the allocator refused
+//! the request.
 
-ghost use Rattle.std.specs.Prelude.{◌≡◌, ◌+◌, ◌++◌, ◌∷◌, ◌<◌, ◌≤◌, ◌^◌, [], OnErr, OnOk, false, length, true, vec_capacity, vec_len};
+ghost use Rattle.std.specs.Prelude.{◌≡◌, ◌+◌, ◌++◌, ◌∷◌, ◌<◌, ◌≤◌, ◌^◌, [], OnErr, OnOk, false, length, take, true, vec_capacity, vec_len};
 ghost use Rattle.ob0_run_machine.specs.Execution.{block_or_zeros_at, zeros};
 ghost use Rattle.ob0_run_machine.specs.Allocations.{has_failed};
 
-use crate::cell_copies::copy_up;
+use crate::cell_copies::copy_to_later_cells;
 use std::alloc::{AllocError, Global};
 
 /// The largest number of cells that `push_zeros` adds one by one.
@@ -42,8 +43,8 @@ impl Memory {
         Vec::new(self.alloc)
     }
 
-    /// Adds an item at the end of a list. If the allocation fails, records this (`fail`) and
-    /// returns an error.
+    /// Adds an item at the end of a list. If the allocation fails, records this
+    /// (`record_failed_allocation`) and returns an error.
     #[inline(always)]
     pub(crate) fn push<T: Copy>(&mut self, list: &mut Vec<T>, item: T) -> Result<(), AllocError>
         ensures items { OnOk result (list.new.items ≡ list.old.items ++ item ∷ []) }
@@ -53,7 +54,7 @@ impl Memory {
     {
         match list.push(item) {
             Ok(()) => Ok(()),
-            Err(_) => Err(self.fail()),
+            Err(_) => Err(self.record_failed_allocation()),
         }
     }
 
@@ -90,42 +91,45 @@ impl Memory {
         ensures room { OnOk result (length cells.new.items < 2 ^ 64) }
     {
         match cells.len().checked_add(count) {
-            None => Err(self.fail()),
+            None => Err(self.record_failed_allocation()),
             Some(length) => match cells.resize(length, 0) {
                 Ok(()) => Ok(()),
-                Err(_) => Err(self.fail()),
+                Err(_) => Err(self.record_failed_allocation()),
             },
         }
     }
 
     /// Adds at the end of `cells` a copy of the `count` cells that begin at the address `from`.
-    /// Adds `count` zeros instead if fewer than `count` cells begin at this address.
-    pub(crate) fn push_block(
+    /// Adds `count` zeros instead if fewer than `count` of the first `base` cells begin at this
+    /// address.
+    pub(crate) fn push_copied_cells(
         &mut self,
         cells: &mut Vec<i32>,
+        base: usize,
         from: usize,
         count: usize,
     ) -> Result<(), AllocError>
-        ensures items { OnOk result
-            (cells.new.items ≡ cells.old.items ++ block_or_zeros_at cells.old.items from count) }
+        requires { base ≤ length cells.old.items }
+        ensures items { OnOk result (cells.new.items
+            ≡ cells.old.items ++ block_or_zeros_at (take base cells.old.items) from count) }
         ensures failed { OnErr result (has_failed self.new ≡ true) }
         ensures full { OnErr result (vec_capacity cells.old < vec_len cells.old + count) }
     {
+        if count > base {
+            return self.push_zeros(cells, count);
+        }
+        if from > base - count {
+            return self.push_zeros(cells, count);
+        }
         let length = cells.len();
-        if count > length {
-            return self.push_zeros(cells, count);
-        }
-        if from > length - count {
-            return self.push_zeros(cells, count);
-        }
         self.push_zeros(cells, count)?;
-        copy_up(cells.as_mut_slice(), length, from, count);
+        copy_to_later_cells(cells.as_mut_slice(), length, from, count);
         Ok(())
     }
 
     /// Records that an allocation has failed, and returns the error to report.
     #[cold]
-    fn fail(&mut self) -> AllocError
+    fn record_failed_allocation(&mut self) -> AllocError
         ensures { has_failed self.new ≡ true }
     {
         self.has_failed = true;

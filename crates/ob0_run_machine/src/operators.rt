@@ -167,8 +167,8 @@ pub(crate) fn add_offset(address: usize, offset: usize) -> usize
 
 /// Returns the address of the element at `index`, in an array of `length` elements with `stride`
 /// cells each. `address` is the address of the array's first element. If `address` is instead the
-/// address of a part of the first element, returns the address of the same part of the element at
-/// `index`. Returns the fault Index if the array has no such element.
+/// address of a cell inside the first element, returns the address of the corresponding cell of the
+/// element at `index`. Returns the fault Index if the array has no such element.
 #[inline(always)]
 pub(crate) fn element_address(
     address: usize,

@@ -8,7 +8,7 @@ ghost use Rattle.ob0_run_machine.specs.View.{program_of};
 
 use crate::calls::call;
 use crate::code::LoweredCode;
-use crate::ending::Stop;
+use crate::ending::StopReason;
 use crate::level::Level;
 use crate::machine::{Item, Machine};
 use crate::memory::Memory;
@@ -41,14 +41,14 @@ pub struct Outcome {
     pub end: End,
 }
 
-/// Runs the statements of a program's body, starting in the state `machine`. Returns a `Stop` if
-/// the run ended before the end of the program.
+/// Runs the statements of a program's body, starting in the state `machine`. Returns a `StopReason`
+/// if the run ended before the end of the program.
 fn execute(
     program: &LoweredCode,
     calls: u32,
     turns: u32,
     machine: &mut Machine<'_>,
-) -> Result<(), Stop>
+) -> Result<(), StopReason>
     ensures { IsProgressAfterStep result machine.new
         (progress_after_body (program_of program.now) calls turns (state_of machine.old)) }
 {
@@ -64,21 +64,21 @@ fn execute(
 }
 
 /// Converts the result of a program's statements to the end of the run: Done for Ok, otherwise the
-/// end with the same name as the `Stop`. Returns an error exactly if an allocation failed
-/// (`Stop::Memory`).
-fn end_of(executed: Result<(), Stop>) -> Result<End, AllocError>
+/// end with the same name as the `StopReason`. Returns an error exactly if an allocation failed
+/// (`StopReason::Memory`).
+fn end_of(executed: Result<(), StopReason>) -> Result<End, AllocError>
     ensures { IsEndAfterExecution executed result }
 {
     match executed {
         Ok(()) => Ok(End::Done),
         Err(stop) => match stop {
-            Stop::Overflow => Ok(End::Overflow),
-            Stop::Divisor => Ok(End::Divisor),
-            Stop::Index => Ok(End::Index),
-            Stop::InputEnd => Ok(End::InputEnd),
-            Stop::CallBound => Ok(End::CallBound),
-            Stop::TurnBound => Ok(End::TurnBound),
-            Stop::Memory => Err(AllocError),
+            StopReason::Overflow => Ok(End::Overflow),
+            StopReason::Divisor => Ok(End::Divisor),
+            StopReason::Index => Ok(End::Index),
+            StopReason::InputEnd => Ok(End::InputEnd),
+            StopReason::CallBound => Ok(End::CallBound),
+            StopReason::TurnBound => Ok(End::TurnBound),
+            StopReason::Memory => Err(AllocError),
         },
     }
 }

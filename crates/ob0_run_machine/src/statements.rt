@@ -10,7 +10,7 @@ ghost use Rattle.ob0_run_machine.specs.declared.code.Instruction.{Increase};
 ghost use Rattle.ob0_run_machine.specs.Execution.{CallEffect, execute};
 ghost use Rattle.ob0_run_machine.specs.Levels.{levels_of};
 ghost use Rattle.ob0_run_machine.specs.Lowered as lowered;
-ghost use Rattle.ob0_run_machine.specs.Machines.{StepHasEffect, IsProgressAfterStep, entry_effect, statement_effect, sequence_effect, elsifs_effect, progress_after_step, state_of};
+ghost use Rattle.ob0_run_machine.specs.Machines.{StepHasEffect, IsProgressAfterStep, procedure_entry_effect, statement_effect, sequence_effect, elsifs_effect, progress_after_step, state_of};
 ghost use Rattle.ob0_run_machine.specs.View.{operation_with_link, conditional_of, call_of, chain_of, variable_comparison, variable_increase, number_of, elsif_branches, else_statements, place_of, repeat_of, variable_element_of, sequence_of, statement_of, truth_of, variable_of, while_of};
 
 use crate::addresses::VarAddresses;
@@ -19,7 +19,7 @@ use crate::code::{
     Chain, Comparator, Conditional, Instruction, Link, Number, Place, ProcedureCall, RepeatLoop,
     Truth, Variable, VariableElement, WhileLoop,
 };
-use crate::ending::{EvaluationFault, Stop};
+use crate::ending::{EvaluationFault, StopReason};
 use crate::evaluator::{
     cell_at, evaluate_chain, evaluate_number, evaluate_truth, evaluate_update, locate,
     variable_address, variable_element_address,
@@ -164,7 +164,7 @@ fn store_truth(
 /// fault Index if the array has no such element.
 #[tactic(auto, unfolding(crate::specs::Execution::execute))]
 #[inline(never)]
-fn store_constant(
+fn store_truth_constant_in_element(
     r: &VariableElement,
     b: bool,
     level: &Level<'_>,
@@ -200,7 +200,7 @@ fn copy_block(
 }
 
 #[tactic(auto, unfolding(crate::specs::Execution::execute))]
-fn run_read(place: &Place, level: &Level<'_>, machine: &mut Machine<'_>) -> Result<(), Stop>
+fn run_read(place: &Place, level: &Level<'_>, machine: &mut Machine<'_>) -> Result<(), StopReason>
     ensures { (enters : CallEffect) (t : ℕ)
         → IsProgressAfterStep result machine.new (execute enters t (levels_of level.now)
         (lowered.reads (place_of place.now)) (state_of machine.old)) }
@@ -210,7 +210,7 @@ fn run_read(place: &Place, level: &Level<'_>, machine: &mut Machine<'_>) -> Resu
 }
 
 #[tactic(auto, unfolding(crate::specs::Execution::execute))]
-fn run_write(n: &Number, level: &Level<'_>, machine: &mut Machine<'_>) -> Result<(), Stop>
+fn run_write(n: &Number, level: &Level<'_>, machine: &mut Machine<'_>) -> Result<(), StopReason>
     ensures { (enters : CallEffect) (t : ℕ)
         → IsProgressAfterStep result machine.new (execute enters t (levels_of level.now)
         (lowered.writes (number_of n.now)) (state_of machine.old)) }
@@ -221,7 +221,7 @@ fn run_write(n: &Number, level: &Level<'_>, machine: &mut Machine<'_>) -> Result
 }
 
 #[tactic(auto, unfolding(crate::specs::Execution::execute))]
-fn run_write_line(level: &Level<'_>, machine: &mut Machine<'_>) -> Result<(), Stop>
+fn run_write_line(level: &Level<'_>, machine: &mut Machine<'_>) -> Result<(), StopReason>
     ensures { (enters : CallEffect) (t : ℕ)
         → IsProgressAfterStep result machine.new
         (execute enters t (levels_of level.now) lowered.writes_line (state_of machine.old)) }
@@ -234,17 +234,17 @@ fn run_write_line(level: &Level<'_>, machine: &mut Machine<'_>) -> Result<(), St
 /// first cell of the procedure's activation, and `addresses` are the addresses of its VAR
 /// parameters.
 #[inline(always)]
-fn enter_procedure<F: Fn(&mut Machine<'_>, usize, &Level<'_>) -> Result<(), Stop>>(
+fn enter_procedure<F: Fn(&mut Machine<'_>, usize, &Level<'_>) -> Result<(), StopReason>>(
     c: &ProcedureCall,
     base: usize,
     addresses: &[usize],
     level: &Level<'_>,
     machine: &mut Machine<'_>,
     enter: &F,
-) -> Result<(), Stop>
+) -> Result<(), StopReason>
     requires { F.IsAlwaysCallable enter.now }
     ensures { StepHasEffect (F.post enter.now) result machine.old machine.new
-        (entry_effect c.now.procedure c.now.up (levels_of level.now) base addresses.now) }
+        (procedure_entry_effect c.now.procedure c.now.up (levels_of level.now) base addresses.now) }
 {
     let entered = Level {
         base,
@@ -256,12 +256,12 @@ fn enter_procedure<F: Fn(&mut Machine<'_>, usize, &Level<'_>) -> Result<(), Stop
 
 /// Passes the arguments of a call, then enters its procedure.
 #[inline(never)]
-fn run_call<F: Fn(&mut Machine<'_>, usize, &Level<'_>) -> Result<(), Stop>>(
+fn run_call<F: Fn(&mut Machine<'_>, usize, &Level<'_>) -> Result<(), StopReason>>(
     c: &ProcedureCall,
     level: &Level<'_>,
     machine: &mut Machine<'_>,
     enter: &F,
-) -> Result<(), Stop>
+) -> Result<(), StopReason>
     requires { F.IsAlwaysCallable enter.now }
     ensures { (t : ℕ)
         → StepHasEffect (F.post enter.now) result machine.old machine.new
@@ -273,6 +273,7 @@ fn run_call<F: Fn(&mut Machine<'_>, usize, &Level<'_>) -> Result<(), Stop>>(
         &mut machine.memory,
         c.arguments.as_slice(),
         level,
+        base,
         &mut machine.cells,
         &mut addresses,
     )?;
@@ -299,13 +300,13 @@ fn evaluate_condition(
 
 #[inline(always)]
 #[cycle(execution)]
-fn run_statement<F: Fn(&mut Machine<'_>, usize, &Level<'_>) -> Result<(), Stop>>(
+fn run_statement<F: Fn(&mut Machine<'_>, usize, &Level<'_>) -> Result<(), StopReason>>(
     s: &Instruction,
     level: &Level<'_>,
     turns: u32,
     machine: &mut Machine<'_>,
     enter: &F,
-) -> Result<(), Stop>
+) -> Result<(), StopReason>
     requires { F.IsAlwaysCallable enter.now }
     ensures { StepHasEffect (F.post enter.now) result machine.old machine.new
         (statement_effect turns (levels_of level.now) (statement_of s.now)) }
@@ -319,7 +320,9 @@ fn run_statement<F: Fn(&mut Machine<'_>, usize, &Level<'_>) -> Result<(), Stop>>
         Instruction::Update(variable, link) => Ok(update(*variable, link, level, machine)?),
         Instruction::Increase(variable, by) => Ok(increase(*variable, *by, level, machine)?),
         Instruction::StoreTruth(place, t) => Ok(store_truth(place, t, level, machine)?),
-        Instruction::StoreConstant(r, b) => Ok(store_constant(r, *b, level, machine)?),
+        Instruction::StoreConstant(r, b) => Ok(store_truth_constant_in_element(
+            r, *b, level, machine,
+        )?),
         Instruction::Copy(to, from, count) => Ok(copy_block(to, from, *count, level, machine)?),
         Instruction::Read(place) => run_read(place, level, machine),
         Instruction::Write(n) => run_write(n, level, machine),
@@ -335,13 +338,15 @@ fn run_statement<F: Fn(&mut Machine<'_>, usize, &Level<'_>) -> Result<(), Stop>>
 /// procedures run their bodies without a function call.
 #[inline(always)]
 #[cycle(execution)]
-pub(crate) fn run_sequence_inline<F: Fn(&mut Machine<'_>, usize, &Level<'_>) -> Result<(), Stop>>(
+pub(crate) fn run_sequence_inline<
+    F: Fn(&mut Machine<'_>, usize, &Level<'_>) -> Result<(), StopReason>,
+>(
     statements: &[Instruction],
     level: &Level<'_>,
     turns: u32,
     machine: &mut Machine<'_>,
     enter: &F,
-) -> Result<(), Stop>
+) -> Result<(), StopReason>
     requires { F.IsAlwaysCallable enter.now }
     ensures { StepHasEffect (F.post enter.now) result machine.old machine.new
         (sequence_effect turns (levels_of level.now) (sequence_of statements.now)) }
@@ -356,13 +361,13 @@ pub(crate) fn run_sequence_inline<F: Fn(&mut Machine<'_>, usize, &Level<'_>) -> 
 /// the chosen statements of an IF, and the program's own statements.
 #[inline(never)]
 #[cycle(execution)]
-pub(crate) fn run_sequence<F: Fn(&mut Machine<'_>, usize, &Level<'_>) -> Result<(), Stop>>(
+pub(crate) fn run_sequence<F: Fn(&mut Machine<'_>, usize, &Level<'_>) -> Result<(), StopReason>>(
     statements: &[Instruction],
     level: &Level<'_>,
     turns: u32,
     machine: &mut Machine<'_>,
     enter: &F,
-) -> Result<(), Stop>
+) -> Result<(), StopReason>
     requires { F.IsAlwaysCallable enter.now }
     ensures { StepHasEffect (F.post enter.now) result machine.old machine.new
         (sequence_effect turns (levels_of level.now) (sequence_of statements.now)) }
@@ -370,17 +375,17 @@ pub(crate) fn run_sequence<F: Fn(&mut Machine<'_>, usize, &Level<'_>) -> Result<
     run_sequence_inline(statements, level, turns, machine, enter)
 }
 
-/// Runs statements in order. If there are no statements, as in an IF without ELSE, no function is
-/// called.
+/// Runs statements in order. If there are none, as for an IF without ELSE, `run_sequence`, which
+/// isn't inlined, isn't called.
 #[inline(always)]
 #[cycle(execution)]
-fn run_sequence_unless_empty<F: Fn(&mut Machine<'_>, usize, &Level<'_>) -> Result<(), Stop>>(
+fn run_sequence_unless_empty<F: Fn(&mut Machine<'_>, usize, &Level<'_>) -> Result<(), StopReason>>(
     statements: &[Instruction],
     level: &Level<'_>,
     turns: u32,
     machine: &mut Machine<'_>,
     enter: &F,
-) -> Result<(), Stop>
+) -> Result<(), StopReason>
     requires { F.IsAlwaysCallable enter.now }
     ensures { StepHasEffect (F.post enter.now) result machine.old machine.new
         (sequence_effect turns (levels_of level.now) (sequence_of statements.now)) }
@@ -396,13 +401,13 @@ fn run_sequence_unless_empty<F: Fn(&mut Machine<'_>, usize, &Level<'_>) -> Resul
 /// TRUE.
 #[inline(always)]
 #[cycle(execution)]
-fn run_conditional<F: Fn(&mut Machine<'_>, usize, &Level<'_>) -> Result<(), Stop>>(
+fn run_conditional<F: Fn(&mut Machine<'_>, usize, &Level<'_>) -> Result<(), StopReason>>(
     i: &Conditional,
     level: &Level<'_>,
     turns: u32,
     machine: &mut Machine<'_>,
     enter: &F,
-) -> Result<(), Stop>
+) -> Result<(), StopReason>
     requires { F.IsAlwaysCallable enter.now }
     ensures { StepHasEffect (F.post enter.now) result machine.old machine.new
         (statement_effect turns (levels_of level.now) (conditional_of i.now)) }
@@ -422,13 +427,13 @@ fn run_conditional<F: Fn(&mut Machine<'_>, usize, &Level<'_>) -> Result<(), Stop
 /// is no such ELSIF part.
 #[inline(never)]
 #[cycle(execution)]
-fn run_elsifs<F: Fn(&mut Machine<'_>, usize, &Level<'_>) -> Result<(), Stop>>(
+fn run_elsifs<F: Fn(&mut Machine<'_>, usize, &Level<'_>) -> Result<(), StopReason>>(
     i: &Conditional,
     level: &Level<'_>,
     turns: u32,
     machine: &mut Machine<'_>,
     enter: &F,
-) -> Result<(), Stop>
+) -> Result<(), StopReason>
     requires { F.IsAlwaysCallable enter.now }
     ensures { StepHasEffect (F.post enter.now) result machine.old machine.new
         (elsifs_effect turns (levels_of level.now) (elsif_branches i.now) (else_statements i.now)) }
@@ -442,10 +447,10 @@ fn run_elsifs<F: Fn(&mut Machine<'_>, usize, &Level<'_>) -> Result<(), Stop>>(
 }
 
 /// Adds the number `by` to the variable at an address, as `increase_at` does. Returns a fault as a
-/// `Stop`, the error type of a statement.
+/// `StopReason`, the error type of a statement.
 #[tactic(auto, unfolding(crate::specs::Execution::execute))]
 #[inline(always)]
-fn increase_or_stop(address: usize, by: i32, machine: &mut Machine<'_>) -> Result<(), Stop>
+fn increase_or_stop(address: usize, by: i32, machine: &mut Machine<'_>) -> Result<(), StopReason>
     ensures { (enters : CallEffect) (t : ℕ) (ls : Levels) (v : Variable)
         → address_of ls machine.old.cells.items (variable_of v) ≡ gives address
         → IsProgressAfterStep result machine.new
@@ -522,7 +527,7 @@ fn is_below_limit(address: usize, limit: CountingLimit, machine: &Machine<'_>) -
 /// The last one adds the number `by` to the variable at `address`.
 #[inline(always)]
 #[cycle(execution)]
-fn run_counting_loop_body<F: Fn(&mut Machine<'_>, usize, &Level<'_>) -> Result<(), Stop>>(
+fn run_counting_loop_body<F: Fn(&mut Machine<'_>, usize, &Level<'_>) -> Result<(), StopReason>>(
     statements: &[Instruction],
     address: usize,
     by: i32,
@@ -530,7 +535,7 @@ fn run_counting_loop_body<F: Fn(&mut Machine<'_>, usize, &Level<'_>) -> Result<(
     turns: u32,
     machine: &mut Machine<'_>,
     enter: &F,
-) -> Result<(), Stop>
+) -> Result<(), StopReason>
     requires { F.IsAlwaysCallable enter.now }
     ensures { (v : Variable)
         → ((cells : List ℤ)
@@ -549,7 +554,7 @@ fn run_counting_loop_body<F: Fn(&mut Machine<'_>, usize, &Level<'_>) -> Result<(
 /// `run_while` does.
 #[inline(always)]
 #[cycle(execution)]
-fn run_counting_loop<F: Fn(&mut Machine<'_>, usize, &Level<'_>) -> Result<(), Stop>>(
+fn run_counting_loop<F: Fn(&mut Machine<'_>, usize, &Level<'_>) -> Result<(), StopReason>>(
     condition: CountingCondition,
     statements: &[Instruction],
     increased: Variable,
@@ -558,7 +563,7 @@ fn run_counting_loop<F: Fn(&mut Machine<'_>, usize, &Level<'_>) -> Result<(), St
     turns: u32,
     machine: &mut Machine<'_>,
     enter: &F,
-) -> Result<(), Stop>
+) -> Result<(), StopReason>
     requires { F.IsAlwaysCallable enter.now }
     ensures { (n : lowered.Number)
         → IsCountingLimit (levels_of level.now) n condition.limit
@@ -575,7 +580,7 @@ fn run_counting_loop<F: Fn(&mut Machine<'_>, usize, &Level<'_>) -> Result<(), St
             return Ok(());
         }
         if left == 0 {
-            return Err(Stop::TurnBound);
+            return Err(StopReason::TurnBound);
         }
         left -= 1;
         run_counting_loop_body(statements, changed, by, level, turns, machine, enter)?;
@@ -586,13 +591,13 @@ fn run_counting_loop<F: Fn(&mut Machine<'_>, usize, &Level<'_>) -> Result<(), St
 /// iterations.
 #[inline(never)]
 #[cycle(execution)]
-fn run_while<F: Fn(&mut Machine<'_>, usize, &Level<'_>) -> Result<(), Stop>>(
+fn run_while<F: Fn(&mut Machine<'_>, usize, &Level<'_>) -> Result<(), StopReason>>(
     w: &WhileLoop,
     level: &Level<'_>,
     turns: u32,
     machine: &mut Machine<'_>,
     enter: &F,
-) -> Result<(), Stop>
+) -> Result<(), StopReason>
     requires { F.IsAlwaysCallable enter.now }
     ensures { StepHasEffect (F.post enter.now) result machine.old machine.new
         (statement_effect turns (levels_of level.now) (while_of w.now)) }
@@ -609,13 +614,13 @@ fn run_while<F: Fn(&mut Machine<'_>, usize, &Level<'_>) -> Result<(), Stop>>(
 /// the condition is still TRUE after `turns` iterations.
 #[inline(always)]
 #[cycle(execution)]
-fn run_general_while<F: Fn(&mut Machine<'_>, usize, &Level<'_>) -> Result<(), Stop>>(
+fn run_general_while<F: Fn(&mut Machine<'_>, usize, &Level<'_>) -> Result<(), StopReason>>(
     w: &WhileLoop,
     level: &Level<'_>,
     turns: u32,
     machine: &mut Machine<'_>,
     enter: &F,
-) -> Result<(), Stop>
+) -> Result<(), StopReason>
     requires { F.IsAlwaysCallable enter.now }
     ensures { StepHasEffect (F.post enter.now) result machine.old machine.new
         (statement_effect turns (levels_of level.now) (while_of w.now)) }
@@ -626,7 +631,7 @@ fn run_general_while<F: Fn(&mut Machine<'_>, usize, &Level<'_>) -> Result<(), St
             return Ok(());
         }
         if left == 0 {
-            return Err(Stop::TurnBound);
+            return Err(StopReason::TurnBound);
         }
         left -= 1;
         run_sequence_inline(&w.body, level, turns, machine, enter)?;
@@ -637,13 +642,13 @@ fn run_general_while<F: Fn(&mut Machine<'_>, usize, &Level<'_>) -> Result<(), St
 /// iterations. The first iteration is made even if `turns` is 0.
 #[inline(never)]
 #[cycle(execution)]
-fn run_repeat<F: Fn(&mut Machine<'_>, usize, &Level<'_>) -> Result<(), Stop>>(
+fn run_repeat<F: Fn(&mut Machine<'_>, usize, &Level<'_>) -> Result<(), StopReason>>(
     r: &RepeatLoop,
     level: &Level<'_>,
     turns: u32,
     machine: &mut Machine<'_>,
     enter: &F,
-) -> Result<(), Stop>
+) -> Result<(), StopReason>
     requires { F.IsAlwaysCallable enter.now }
     ensures { StepHasEffect (F.post enter.now) result machine.old machine.new
         (statement_effect turns (levels_of level.now) (repeat_of r.now)) }
@@ -655,7 +660,7 @@ fn run_repeat<F: Fn(&mut Machine<'_>, usize, &Level<'_>) -> Result<(), Stop>>(
             return Ok(());
         }
         if further == 0 {
-            return Err(Stop::TurnBound);
+            return Err(StopReason::TurnBound);
         }
         further -= 1;
     }

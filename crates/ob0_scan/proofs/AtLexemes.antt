@@ -10,7 +10,7 @@ use Rattle.ob0_scan.specs.declared.lexeme.LexemeKind.TheVariants as lexeme
 use Rattle.ob0_scan.specs.declared.lexeme.Span.{Span}
 use Rattle.ob0_scan.specs.declared.lexeme.Token.{Token}
 use Rattle.ob0_scan.specs.Lexed.{Lexeme, text_of_lexemes, AreLeadingLexemes}
-use Rattle.ob0_scan.specs.TextWithTokens.{span_from, tokens_of_lexeme, comments_of_lexeme, tokens_from, comments_from}
+use Rattle.ob0_scan.specs.TextWithTokens.{span_from, tokens_of_lexeme, comments_of_lexeme, tokens_of_lexemes_from, comments_of_lexemes_from}
 use Rattle.ob0_scan.specs.Reused.{span_after_shift, token_after_shift}
 use Rattle.ob0_scan.proofs.Cuts.{nonempty}
 
@@ -38,7 +38,7 @@ abbrev pub of_tokens : AtLexemes Token
 of_tokens = record {
   span = λ (t : Token). t.span;
   head = λ s l. tokens_of_lexeme l.kind (span_from s (length l.text));
-  all = tokens_from;
+  all = tokens_of_lexemes_from;
   none = λ s. refl;
   step = λ s l ls. refl;
   one = λ s l. token_one l.kind (span_from s (length l.text));
@@ -48,7 +48,7 @@ abbrev pub of_comments : AtLexemes Span
 of_comments = record {
   span = λ (c : Span). c;
   head = λ s l. comments_of_lexeme l.kind (span_from s (length l.text));
-  all = comments_from;
+  all = comments_of_lexemes_from;
   none = λ s. refl;
   step = λ s l ls. refl;
   one = λ s l. comment_one l.kind (span_from s (length l.text));
@@ -283,14 +283,14 @@ module _ (removed added : ℕ) where
   comment_moved lexeme.Comment here there e = ap (comments_of_lexeme lexeme.Comment) e
   comment_moved (lexeme.Token k) here there e = refl
 
-  pub tokens_moved : (at place : ℕ) (ls : List Lexeme) → at + removed ≡ place + added → removed ≤ place → tokens_from at ls ≡ map (token_after_shift removed added) (tokens_from place ls)
+  pub tokens_moved : (at place : ℕ) (ls : List Lexeme) → at + removed ≡ place + added → removed ≤ place → tokens_of_lexemes_from at ls ≡ map (token_after_shift removed added) (tokens_of_lexemes_from place ls)
   tokens_moved at place [] e h = refl
   tokens_moved at place (l ∷ ls) e h =
       ap₂ (λ xs ys. xs ++ ys) (token_moved l.kind (span_from at (length l.text)) (span_from place (length l.text)) (moved_span at place (length l.text) e h)) (tokens_moved (at + length l.text) (place + length l.text) ls (omega arith) (omega arith))
-      ∙ sym (map-append (token_after_shift removed added) (tokens_of_lexeme l.kind (span_from place (length l.text))) (tokens_from (place + length l.text) ls))
+      ∙ sym (map-append (token_after_shift removed added) (tokens_of_lexeme l.kind (span_from place (length l.text))) (tokens_of_lexemes_from (place + length l.text) ls))
 
-  pub comments_moved : (at place : ℕ) (ls : List Lexeme) → at + removed ≡ place + added → removed ≤ place → comments_from at ls ≡ map (span_after_shift removed added) (comments_from place ls)
+  pub comments_moved : (at place : ℕ) (ls : List Lexeme) → at + removed ≡ place + added → removed ≤ place → comments_of_lexemes_from at ls ≡ map (span_after_shift removed added) (comments_of_lexemes_from place ls)
   comments_moved at place [] e h = refl
   comments_moved at place (l ∷ ls) e h =
       ap₂ (λ xs ys. xs ++ ys) (comment_moved l.kind (span_from at (length l.text)) (span_from place (length l.text)) (moved_span at place (length l.text) e h)) (comments_moved (at + length l.text) (place + length l.text) ls (omega arith) (omega arith))
-      ∙ sym (map-append (span_after_shift removed added) (comments_of_lexeme l.kind (span_from place (length l.text))) (comments_from (place + length l.text) ls))
+      ∙ sym (map-append (span_after_shift removed added) (comments_of_lexeme l.kind (span_from place (length l.text))) (comments_of_lexemes_from (place + length l.text) ls))

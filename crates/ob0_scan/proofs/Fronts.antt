@@ -11,7 +11,7 @@ use Rattle.ob0_scan.specs.declared.lexeme.LexemeKind.TheVariants as lexeme
 use Rattle.ob0_scan.specs.declared.lexeme.Span.{Span}
 use Rattle.ob0_scan.specs.declared.lexeme.Token.{Token}
 use Rattle.ob0_scan.specs.Lexed.{Lexeme, text_of_lexemes}
-use Rattle.ob0_scan.specs.TextWithTokens.{span_from, tokens_of_lexeme, comments_of_lexeme, tokens_from, comments_from}
+use Rattle.ob0_scan.specs.TextWithTokens.{span_from, tokens_of_lexeme, comments_of_lexeme, tokens_of_lexemes_from, comments_of_lexemes_from}
 use Rattle.ob0_scan.specs.RescanState.{token_end_or_zero, comment_end_or_zero, end_of_last_lexeme}
 use Rattle.ob0_scan.proofs.Cuts.{joined_push, tokens_push, comments_push}
 use Rattle.ob0_scan.proofs.AtLexemes.{of_tokens, of_comments, Full, full_parts, Lies, lies, none_end}
@@ -36,8 +36,8 @@ pub record Front (place s : ℕ) (ls : List Lexeme) : Type 0 where
   pub at_is : s + length (text_of_lexemes front) ≡ at
   pub near : 0 < length front → at < place
   pub shape : (front ≡ []) ⊎ Last front
-  pub tokens_done : prefix_len (λ (t : Token). ltb t.span.end place) (tokens_from at back) ≡ 0
-  pub comments_done : prefix_len (λ (c : Span). ltb c.end place) (comments_from at back) ≡ 0
+  pub tokens_done : prefix_len (λ (t : Token). ltb t.span.end place) (tokens_of_lexemes_from at back) ≡ 0
+  pub comments_done : prefix_len (λ (c : Span). ltb c.end place) (comments_of_lexemes_from at back) ≡ 0
 
 module _ (place s : ℕ) (l : Lexeme) (ls : List Lexeme) where
   stop : Full (l ∷ ls) → place ≤ s + length l.text → Front place s (l ∷ ls)
@@ -68,10 +68,10 @@ module _ (place s : ℕ) (l : Lexeme) (ls : List Lexeme) where
         at_is = add-zero s;
         near = λ h. absurd (omega (arith, h));
         shape = inl refl;
-        tokens_done = ap (λ k. prefix_len (λ (t : Token). ltb t.span.end place) (tokens_of_lexeme k (span_from s (length l.text)) ++ tokens_from (s + length l.text) ls)) white
-            ∙ ap₂ (λ n t. prefix_len (λ (t : Token). ltb t.span.end place) (tokens_from n t)) (no_bytes r e) rest ∙ r.tokens_done;
-        comments_done = ap (λ k. prefix_len (λ (c : Span). ltb c.end place) (comments_of_lexeme k (span_from s (length l.text)) ++ comments_from (s + length l.text) ls)) white
-            ∙ ap₂ (λ n t. prefix_len (λ (c : Span). ltb c.end place) (comments_from n t)) (no_bytes r e) rest ∙ r.comments_done;
+        tokens_done = ap (λ k. prefix_len (λ (t : Token). ltb t.span.end place) (tokens_of_lexeme k (span_from s (length l.text)) ++ tokens_of_lexemes_from (s + length l.text) ls)) white
+            ∙ ap₂ (λ n t. prefix_len (λ (t : Token). ltb t.span.end place) (tokens_of_lexemes_from n t)) (no_bytes r e) rest ∙ r.tokens_done;
+        comments_done = ap (λ k. prefix_len (λ (c : Span). ltb c.end place) (comments_of_lexeme k (span_from s (length l.text)) ++ comments_of_lexemes_from (s + length l.text) ls)) white
+            ∙ ap₂ (λ n t. prefix_len (λ (c : Span). ltb c.end place) (comments_of_lexemes_from n t)) (no_bytes r e) rest ∙ r.comments_done;
       }
 
   longer : s + length l.text < place → (r : Front place (s + length l.text) ls) → Last (l ∷ r.front) → Front place s (l ∷ ls)
@@ -144,19 +144,19 @@ one_further (lexeme.Token k) ts cs n len black ht hc =
     ap₂ (λ o (us : List Span). max (token_end_or_zero o) (comment_end_or_zero (slice_get us (length us - 1)))) (last_of ts (record { kind = k; span = span_from n len })) (append-nil cs)
     ∙ max_left (n + len) (comment_end_or_zero (slice_get cs (length cs - 1))) (omega arith)
 
-pub front_end : (ls : List Lexeme) → Full ls → (ls ≡ []) ⊎ Last ls → end_of_last_lexeme (tokens_from 0 ls) (comments_from 0 ls) ≡ length (text_of_lexemes ls)
-front_end ls f (inl e) = ap (λ t. end_of_last_lexeme (tokens_from 0 t) (comments_from 0 t)) e ∙ sym (ap (λ t. length (text_of_lexemes t)) e)
+pub front_end : (ls : List Lexeme) → Full ls → (ls ≡ []) ⊎ Last ls → end_of_last_lexeme (tokens_of_lexemes_from 0 ls) (comments_of_lexemes_from 0 ls) ≡ length (text_of_lexemes ls)
+front_end ls f (inl e) = ap (λ t. end_of_last_lexeme (tokens_of_lexemes_from 0 t) (comments_of_lexemes_from 0 t)) e ∙ sym (ap (λ t. length (text_of_lexemes t)) e)
 front_end ls f (inr w) =
     let init = w.init in
     let l = w.last in
     let n : ℕ = 0 + length (text_of_lexemes init) in
     let parts = full_parts init (l ∷ []) (subst Full w.are f) in
-    let ts = tokens_from 0 init in
-    let cs = comments_from 0 init in
+    let ts = tokens_of_lexemes_from 0 init in
+    let cs = comments_of_lexemes_from 0 init in
     let low_tokens : All (λ (t : Token). t.span.end ≤ n) ts = All-weaker (λ (t : Token). Lies 0 n t.span) (λ (t : Token). t.span.end ≤ n) (λ t h. h.ends) ts (lies of_tokens 0 init parts.0) in
     let low_comments : All (λ (c : Span). c.end ≤ n) cs = All-weaker (λ (c : Span). Lies 0 n c) (λ (c : Span). c.end ≤ n) (λ c h. h.ends) cs (lies of_comments 0 init parts.0) in
     let long : length (text_of_lexemes ls) ≡ n + length l.text = ap (λ t. length (text_of_lexemes t)) w.are ∙ ap length (joined_push init l) ∙ omega (arith, length-append (text_of_lexemes init) l.text) in
-    ap (λ t. end_of_last_lexeme (tokens_from 0 t) (comments_from 0 t)) w.are
+    ap (λ t. end_of_last_lexeme (tokens_of_lexemes_from 0 t) (comments_of_lexemes_from 0 t)) w.are
     ∙ ap₂ end_of_last_lexeme (tokens_push 0 init l) (comments_push 0 init l)
     ∙ one_further l.kind ts cs n (length l.text) w.black low_tokens low_comments
     ∙ sym long

@@ -13,7 +13,7 @@ use Rattle.ob0_scan.specs.declared.scanner.Scanner.{Scanner}
 use Rattle.ob0_scan.specs.declared.incremental_scan.RescannedMiddle.{RescannedMiddle}
 use Rattle.ob0_scan.specs.Lexed.{Lexeme, text_of_lexemes}
 use Rattle.ob0_scan.specs.TextWithTokens.{TextWithTokens, IsScan}
-use Rattle.ob0_scan.specs.Reused.{span_after_shift, token_after_shift, tokens_ending_before, comments_ending_before, tokens_beginning_from}
+use Rattle.ob0_scan.specs.Reused.{span_after_shift, token_after_shift, tokens_ending_before, comments_ending_before, tokens_beginning_at_or_after}
 use Rattle.ob0_scan.specs.RescanState.{IsShiftable, IsRescannedMiddle, AddsNewLexemes, scan_with_new_middle}
 use Rattle.ob0_scan.proofs.AtLexemes.{AtLexemes, of_tokens, of_comments, Full, Lies, full, lies, AreAscending, ascending, starts_after, back_later, front_all}
 use Rattle.ob0_scan.proofs.RescannedMiddle.{Settled, reused}
@@ -93,7 +93,7 @@ module _ (old : TextWithTokens) (o : IsScan old) (new : List ℕ) (from removed 
         tokens_before = All-weaker (λ (x : Token). ltb x.span.end from ≡ true) (λ (x : Token). x.span.end ≤ from) (λ x w. omega (arith, ltb-true x.span.end from w)) (take b.old_start.tokens old.tokens)
             (All-same (λ (x : Token). ltb x.span.end from ≡ true) (take b.old_start.tokens old.tokens) (tokens_ending_before from old.tokens) (ts.front ∙ ef) (front_all (λ (x : Token). ltb x.span.end from) old.tokens));
         tokens_after = All-weaker (λ (x : Token). t.at + removed - added ≤ x.span.start) (λ (x : Token). from + removed ≤ x.span.start) (λ x later. omega (arith, later, w.met.behind_change)) (drop b.old_end.tokens old.tokens)
-            (All-same (λ (x : Token). t.at + removed - added ≤ x.span.start) (drop b.old_end.tokens old.tokens) (tokens_beginning_from (t.at + removed - added) old.tokens) (ts.back ∙ w.met.tokens_are)
+            (All-same (λ (x : Token). t.at + removed - added ≤ x.span.start) (drop b.old_end.tokens old.tokens) (tokens_beginning_at_or_after (t.at + removed - added) old.tokens) (ts.back ∙ w.met.tokens_are)
             (back_later (λ (x : Token). x.span.start) (t.at + removed - added) old.tokens (subst (AreAscending (λ (x : Token). x.span.start)) (sym o.tokens) (ascending of_tokens (λ (v : Span). v.start) starts_after 0 o.lexemes (full o.lexemes [] o.lexed.each)))));
         tokens_are_movable = All-same (λ (x : Token). IsShiftable removed added x.span) (drop b.old_end.tokens old.tokens) rs ts.back w.tokens_are_movable;
         comments_are_movable = All-same (λ (x : Span). IsShiftable removed added x) (drop b.old_end.comments old.comments) qs cs.back w.comments_are_movable;

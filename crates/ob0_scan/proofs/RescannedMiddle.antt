@@ -5,8 +5,8 @@ use Rattle.std.proofs.lemmas.List.Elements.{All-nil, All-same, All-append, All-d
 use Rattle.ob0_scan.specs.declared.lexeme.Span.{Span}
 use Rattle.ob0_scan.specs.declared.lexeme.Token.{Token}
 use Rattle.ob0_scan.specs.declared.scanner.Scanner.{Scanner}
-use Rattle.ob0_scan.specs.TextWithTokens.{TextWithTokens, IsScan, max_text_length, span_from, tokens_of_lexeme, comments_of_lexeme, tokens_from, comments_from}
-use Rattle.ob0_scan.specs.Reused.{ReplacesRange, NoLexemeBeginsAt, IsNewBehindChange, Reuses, span_after_shift, token_after_shift, tokens_ending_before, comments_ending_before, tokens_beginning_from, comments_beginning_from}
+use Rattle.ob0_scan.specs.TextWithTokens.{TextWithTokens, IsScan, max_text_length, span_from, tokens_of_lexeme, comments_of_lexeme, tokens_of_lexemes_from, comments_of_lexemes_from}
+use Rattle.ob0_scan.specs.Reused.{ReplacesRange, NoLexemeBeginsAt, IsNewAfterChange, ReusesOldLexemes, span_after_shift, token_after_shift, tokens_ending_before, comments_ending_before, tokens_beginning_at_or_after, comments_beginning_at_or_after}
 use Rattle.ob0_scan.specs.RescanState.{first_token_begins_at, first_comment_begins_at, IsShiftable, AddsOneLexeme, AddsNewLexemes, CanStopRescanAt}
 use Rattle.ob0_scan.specs.Progress.{IsScannedUpTo}
 use Rattle.ob0_scan.specs.UnderWay.{IsConsistentScanner}
@@ -36,8 +36,8 @@ reads_none old from removed added s = record {
   comments = [];
   tokens_are = sym (append-nil s.tokens.items);
   comments_are = sym (append-nil s.comments.items);
-  tokens_new_behind_change = All-nil (λ (t : Token). IsNewBehindChange old from removed added t.span);
-  comments_new_behind_change = All-nil (λ (c : Span). IsNewBehindChange old from removed added c);
+  tokens_new_behind_change = All-nil (λ (t : Token). IsNewAfterChange old from removed added t.span);
+  comments_new_behind_change = All-nil (λ (c : Span). IsNewAfterChange old from removed added c);
 }
 
 pub reads_more : (old : TextWithTokens) (from removed added : ℕ) (s t u : Scanner) → AddsNewLexemes old from removed added s t → AddsOneLexeme t u → (from + added ≤ t.at → NoLexemeBeginsAt old (t.at + removed - added)) → AddsNewLexemes old from removed added s u
@@ -48,27 +48,27 @@ reads_more old from removed added s t u r w new =
       comments = r.comments ++ comments_of_lexeme w.kind place;
       tokens_are = w.tokens ∙ ap (λ x. x ++ tokens_of_lexeme w.kind place) r.tokens_are ∙ append_assoc s.tokens.items r.tokens (tokens_of_lexeme w.kind place);
       comments_are = w.comments ∙ ap (λ x. x ++ comments_of_lexeme w.kind place) r.comments_are ∙ append_assoc s.comments.items r.comments (comments_of_lexeme w.kind place);
-      tokens_new_behind_change = All-append (λ (x : Token). IsNewBehindChange old from removed added x.span) r.tokens (tokens_of_lexeme w.kind place) r.tokens_new_behind_change (token_with (λ (x : Token). IsNewBehindChange old from removed added x.span) w.kind place (λ kind. new));
-      comments_new_behind_change = All-append (λ (x : Span). IsNewBehindChange old from removed added x) r.comments (comments_of_lexeme w.kind place) r.comments_new_behind_change (comment_with (λ (x : Span). IsNewBehindChange old from removed added x) w.kind place new);
+      tokens_new_behind_change = All-append (λ (x : Token). IsNewAfterChange old from removed added x.span) r.tokens (tokens_of_lexeme w.kind place) r.tokens_new_behind_change (token_with (λ (x : Token). IsNewAfterChange old from removed added x.span) w.kind place (λ kind. new));
+      comments_new_behind_change = All-append (λ (x : Span). IsNewAfterChange old from removed added x) r.comments (comments_of_lexeme w.kind place) r.comments_new_behind_change (comment_with (λ (x : Span). IsNewAfterChange old from removed added x) w.kind place new);
     }
 
 module _ (old : TextWithTokens) (o : IsScan old) where
-  pub none_begins : (place : ℕ) → (first_token_begins_at place (tokens_beginning_from place old.tokens) || first_comment_begins_at place (comments_beginning_from place old.comments)) ≡ false → NoLexemeBeginsAt old place
+  pub none_begins : (place : ℕ) → (first_token_begins_at place (tokens_beginning_at_or_after place old.tokens) || first_comment_begins_at place (comments_beginning_at_or_after place old.comments)) ≡ false → NoLexemeBeginsAt old place
   none_begins place e =
-      let parts = either_false (first_token_begins_at place (tokens_beginning_from place old.tokens)) (first_comment_begins_at place (comments_beginning_from place old.comments)) e in
+      let parts = either_false (first_token_begins_at place (tokens_beginning_at_or_after place old.tokens)) (first_comment_begins_at place (comments_beginning_at_or_after place old.comments)) e in
       let some = full o.lexemes [] o.lexed.each in
       record {
-        tokens = none_at (λ (t : Token). t.span.start) place old.tokens (subst (AreAscending (λ (t : Token). t.span.start)) (sym o.tokens) (ascending of_tokens (λ (v : Span). v.start) starts_after 0 o.lexemes some)) (sym (token_first place (tokens_beginning_from place old.tokens)) ∙ parts.0);
-        comments = none_at (λ (c : Span). c.start) place old.comments (subst (AreAscending (λ (c : Span). c.start)) (sym o.comments) (ascending of_comments (λ (v : Span). v.start) starts_after 0 o.lexemes some)) (sym (comment_first place (comments_beginning_from place old.comments)) ∙ parts.1);
+        tokens = none_at (λ (t : Token). t.span.start) place old.tokens (subst (AreAscending (λ (t : Token). t.span.start)) (sym o.tokens) (ascending of_tokens (λ (v : Span). v.start) starts_after 0 o.lexemes some)) (sym (token_first place (tokens_beginning_at_or_after place old.tokens)) ∙ parts.0);
+        comments = none_at (λ (c : Span). c.start) place old.comments (subst (AreAscending (λ (c : Span). c.start)) (sym o.comments) (ascending of_comments (λ (v : Span). v.start) starts_after 0 o.lexemes some)) (sym (comment_first place (comments_beginning_at_or_after place old.comments)) ∙ parts.1);
       }
 
-  token_border : (place : ℕ) → first_token_begins_at place (tokens_beginning_from place old.tokens) ≡ true → Border 0 o.lexemes place
-  token_border place e = at_first (λ (t : Token). t.span.start) (Border 0 o.lexemes) place (tokens_beginning_from place old.tokens) (sym (token_first place (tokens_beginning_from place old.tokens)) ∙ e)
-      (All-drop (λ (t : Token). Border 0 o.lexemes t.span.start) _ old.tokens (All-same (λ (t : Token). Border 0 o.lexemes t.span.start) old.tokens (tokens_from 0 o.lexemes) o.tokens (begin_at_borders of_tokens 0 o.lexemes)))
+  token_border : (place : ℕ) → first_token_begins_at place (tokens_beginning_at_or_after place old.tokens) ≡ true → Border 0 o.lexemes place
+  token_border place e = at_first (λ (t : Token). t.span.start) (Border 0 o.lexemes) place (tokens_beginning_at_or_after place old.tokens) (sym (token_first place (tokens_beginning_at_or_after place old.tokens)) ∙ e)
+      (All-drop (λ (t : Token). Border 0 o.lexemes t.span.start) _ old.tokens (All-same (λ (t : Token). Border 0 o.lexemes t.span.start) old.tokens (tokens_of_lexemes_from 0 o.lexemes) o.tokens (begin_at_borders of_tokens 0 o.lexemes)))
 
-  comment_border : (place : ℕ) → first_comment_begins_at place (comments_beginning_from place old.comments) ≡ true → Border 0 o.lexemes place
-  comment_border place e = at_first (λ (c : Span). c.start) (Border 0 o.lexemes) place (comments_beginning_from place old.comments) (sym (comment_first place (comments_beginning_from place old.comments)) ∙ e)
-      (All-drop (λ (c : Span). Border 0 o.lexemes c.start) _ old.comments (All-same (λ (c : Span). Border 0 o.lexemes c.start) old.comments (comments_from 0 o.lexemes) o.comments (begin_at_borders of_comments 0 o.lexemes)))
+  comment_border : (place : ℕ) → first_comment_begins_at place (comments_beginning_at_or_after place old.comments) ≡ true → Border 0 o.lexemes place
+  comment_border place e = at_first (λ (c : Span). c.start) (Border 0 o.lexemes) place (comments_beginning_at_or_after place old.comments) (sym (comment_first place (comments_beginning_at_or_after place old.comments)) ∙ e)
+      (All-drop (λ (c : Span). Border 0 o.lexemes c.start) _ old.comments (All-same (λ (c : Span). Border 0 o.lexemes c.start) old.comments (comments_of_lexemes_from 0 o.lexemes) o.comments (begin_at_borders of_comments 0 o.lexemes)))
 
   module _ (new : List ℕ) (from removed added : ℕ) (r : ReplacesRange old.text new from removed added) where
     -- The end of the new text corresponds to the end of the old one.
@@ -83,8 +83,8 @@ module _ (old : TextWithTokens) (o : IsScan old) where
         let none = none_following old o new from removed added r in
         record {
           behind_change = omega (arith, r.inside_new);
-          tokens_are = sym (ap (λ p. tokens_beginning_from p old.tokens) place ∙ none.0);
-          comments_are = sym (ap (λ p. comments_beginning_from p old.comments) place ∙ none.1);
+          tokens_are = sym (ap (λ p. tokens_beginning_at_or_after p old.tokens) place ∙ none.0);
+          comments_are = sym (ap (λ p. comments_beginning_at_or_after p old.comments) place ∙ none.1);
           border = inl e;
         }
 
@@ -94,16 +94,16 @@ module _ (old : TextWithTokens) (o : IsScan old) where
         (λ begins. ⊎_elim
         (λ token. token_border (at + removed - added) token)
         (λ comment. comment_border (at + removed - added) comment)
-        (either_true (first_token_begins_at (at + removed - added) (tokens_beginning_from (at + removed - added) old.tokens)) (first_comment_begins_at (at + removed - added) (comments_beginning_from (at + removed - added) old.comments))
+        (either_true (first_token_begins_at (at + removed - added) (tokens_beginning_at_or_after (at + removed - added) old.tokens)) (first_comment_begins_at (at + removed - added) (comments_beginning_at_or_after (at + removed - added) old.comments))
         (ap₂ (λ ts cs. first_token_begins_at (at + removed - added) ts || first_comment_begins_at (at + removed - added) cs) (sym m.tokens_are) (sym m.comments_are) ∙ begins)))
         m.border
 
 -- The old tokens and comments before the change, the newly read ones and the later old ones
--- together meet `Reuses`.
+-- together meet `ReusesOldLexemes`.
 pub reused : (old new : TextWithTokens) (from removed added : ℕ) (s t : Scanner) (tokens : List Token) (comments : List Span) (end : ℕ) (fs : List Token) (gs : List Span) → fs ≡ tokens_ending_before from old.tokens → gs ≡ comments_ending_before from old.comments → s.tokens.items ≡ [] → s.comments.items ≡ []
     → AddsNewLexemes old from removed added s t → CanStopRescanAt old end from removed added t.at tokens comments
     → new.tokens ≡ (fs ++ t.tokens.items) ++ map (token_after_shift removed added) tokens → new.comments ≡ (gs ++ t.comments.items) ++ map (span_after_shift removed added) comments
-    → (read : ℕ) → read ≡ length t.tokens.items + length t.comments.items → Reuses old new from removed added read
+    → (read : ℕ) → read ≡ length t.tokens.items + length t.comments.items → ReusesOldLexemes old new from removed added read
 reused old new from removed added s t tokens comments end fs gs ft fc st sc r m et ec read e =
     let read_tokens : t.tokens.items ≡ r.tokens = r.tokens_are ∙ ap (λ x. x ++ r.tokens) st in
     let read_comments : t.comments.items ≡ r.comments = r.comments_are ∙ ap (λ x. x ++ r.comments) sc in
@@ -145,8 +145,8 @@ settled old o new from removed added r t tokens comments text under none short f
     let whole = finished old o new from removed added r t.at place ts cs p.utf8 short p.place.0 met.behind_change same (p.cut none) border in
     record {
       met = met;
-      tokens_are_movable = All-same (λ (x : Token). IsShiftable removed added x.span) tokens (tokens_beginning_from place old.tokens) met.tokens_are move.0;
-      comments_are_movable = All-same (λ (x : Span). IsShiftable removed added x) comments (comments_beginning_from place old.comments) met.comments_are move.1;
+      tokens_are_movable = All-same (λ (x : Token). IsShiftable removed added x.span) tokens (tokens_beginning_at_or_after place old.tokens) met.tokens_are move.0;
+      comments_are_movable = All-same (λ (x : Span). IsShiftable removed added x) comments (comments_beginning_at_or_after place old.comments) met.comments_are move.1;
       scan = subst (λ x. IsScan (make_scan new (ts ++ map (token_after_shift removed added) x) (cs ++ map (span_after_shift removed added) comments))) (sym met.tokens_are)
-          (subst (λ x. IsScan (make_scan new (ts ++ map (token_after_shift removed added) (tokens_beginning_from place old.tokens)) (cs ++ map (span_after_shift removed added) x))) (sym met.comments_are) whole);
+          (subst (λ x. IsScan (make_scan new (ts ++ map (token_after_shift removed added) (tokens_beginning_at_or_after place old.tokens)) (cs ++ map (span_after_shift removed added) x))) (sym met.comments_are) whole);
     }

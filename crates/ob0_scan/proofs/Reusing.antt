@@ -9,10 +9,10 @@ use Rattle.ob0_scan.specs.declared.lexeme.Token.{Token}
 use Rattle.ob0_scan.specs.declared.fault.Fault.{Fault}
 use Rattle.ob0_scan.specs.Lexed.{Lexeme, text_of_lexemes, IsFirstLexeme, AreLeadingLexemes}
 use Rattle.ob0_scan.specs.Ends.{EndsBeforeByte}
-use Rattle.ob0_scan.specs.TextWithTokens.{tokens_from, comments_from, IsRangeOf, TextWithTokens, IsScan, max_text_length}
+use Rattle.ob0_scan.specs.TextWithTokens.{tokens_of_lexemes_from, comments_of_lexemes_from, IsRangeOf, TextWithTokens, IsScan, max_text_length}
 use Rattle.ob0_scan.specs.Faults.{AreFirstFaultsFrom, lexeme}
 use Rattle.ob0_scan.specs.Progress.{IsCutIntoLexemesUpTo, IsScannedUpTo}
-use Rattle.ob0_scan.specs.Reused.{ReplacesRange, span_after_shift, token_after_shift, tokens_ending_before, comments_ending_before, tokens_beginning_from, comments_beginning_from}
+use Rattle.ob0_scan.specs.Reused.{ReplacesRange, span_after_shift, token_after_shift, tokens_ending_before, comments_ending_before, tokens_beginning_at_or_after, comments_beginning_at_or_after}
 use Rattle.ob0_scan.specs.RescanState.{end_of_last_lexeme, IsShiftable}
 use Rattle.ob0_scan.proofs.Borders.{first_from_end, end_from_first}
 use Rattle.ob0_scan.proofs.Spans.{LexemesFrom, next_from}
@@ -104,8 +104,8 @@ module _ (old : TextWithTokens) (o : IsScan old) (new : List ℕ) (from removed 
       let whole : text_of_lexemes f.front ++ text_of_lexemes f.back ≡ old.text = sym (joined_append f.front f.back) ∙ ap text_of_lexemes (sym f.split) ∙ o.lexed.whole in
       let long : length (text_of_lexemes f.front) ≡ f.at = omega (arith, f.at_is) in
       let close : f.at ≤ from = ⊎_elim (λ e. omega (arith, long, ap (λ t. length (text_of_lexemes t)) e)) (λ last. omega (arith, f.near (omega (arith, ap length last.are, length-append last.init (last.last ∷ []))))) f.shape in
-      let tokens : tokens_ending_before from old.tokens ≡ tokens_from 0 f.front = ap (tokens_ending_before from) (o.tokens ∙ ap (tokens_from 0) f.split) ∙ front_split of_tokens 0 f.at from f.front f.back parts.0 (λ h. subst (λ n. n < from) (sym f.at_is) (f.near h)) f.at_is f.tokens_done in
-      let comments : comments_ending_before from old.comments ≡ comments_from 0 f.front = ap (comments_ending_before from) (o.comments ∙ ap (comments_from 0) f.split) ∙ front_split of_comments 0 f.at from f.front f.back parts.0 (λ h. subst (λ n. n < from) (sym f.at_is) (f.near h)) f.at_is f.comments_done in
+      let tokens : tokens_ending_before from old.tokens ≡ tokens_of_lexemes_from 0 f.front = ap (tokens_ending_before from) (o.tokens ∙ ap (tokens_of_lexemes_from 0) f.split) ∙ front_split of_tokens 0 f.at from f.front f.back parts.0 (λ h. subst (λ n. n < from) (sym f.at_is) (f.near h)) f.at_is f.tokens_done in
+      let comments : comments_ending_before from old.comments ≡ comments_of_lexemes_from 0 f.front = ap (comments_ending_before from) (o.comments ∙ ap (comments_of_lexemes_from 0) f.split) ∙ front_split of_comments 0 f.at from f.front f.back parts.0 (λ h. subst (λ n. n < from) (sym f.at_is) (f.near h)) f.at_is f.comments_done in
       let ends : end_of_last_lexeme (tokens_ending_before from old.tokens) (comments_ending_before from old.comments) ≡ f.at = ap₂ end_of_last_lexeme tokens comments ∙ front_end f.front parts.0 f.shape ∙ long in
       let following : drop f.at old.text ≡ text_of_lexemes f.back = ap (drop f.at) (sym whole) ∙ drop_at (text_of_lexemes f.front) (text_of_lexemes f.back) f.at long in
       let same : 0 < length f.front → get_or (text_of_lexemes f.back ++ []) 0 0 ≡ get_or (drop f.at new) 0 0 = λ some.
@@ -135,22 +135,22 @@ module _ (old : TextWithTokens) (o : IsScan old) (new : List ℕ) (from removed 
 
   -- At a border of the old lexemes, the later lexemes spell the rest of the old text and have its
   -- tokens and comments.
-  border_facts : (p : ℕ) (b : Border 0 o.lexemes p) → (text_of_lexemes b.back ≡ drop p old.text) × AreLeadingLexemes b.back [] × (tokens_beginning_from p old.tokens ≡ tokens_from p b.back) × (comments_beginning_from p old.comments ≡ comments_from p b.back) × Full b.back
+  border_facts : (p : ℕ) (b : Border 0 o.lexemes p) → (text_of_lexemes b.back ≡ drop p old.text) × AreLeadingLexemes b.back [] × (tokens_beginning_at_or_after p old.tokens ≡ tokens_of_lexemes_from p b.back) × (comments_beginning_at_or_after p old.comments ≡ comments_of_lexemes_from p b.back) × Full b.back
   border_facts p b =
       let parts = full_parts b.front b.back (subst Full b.split some_each) in
       let each = lexemes_parts b.front b.back [] (subst (λ t. AreLeadingLexemes t []) b.split o.lexed.each) in
       let whole : text_of_lexemes b.front ++ text_of_lexemes b.back ≡ old.text = sym (joined_append b.front b.back) ∙ ap text_of_lexemes (sym b.split) ∙ o.lexed.whole in (
         sym (drop_at (text_of_lexemes b.front) (text_of_lexemes b.back) p (omega (arith, b.at))) ∙ ap (drop p) whole,
         each.1,
-        ap (tokens_beginning_from p) (o.tokens ∙ ap (tokens_from 0) b.split) ∙ back_split of_tokens 0 p b.front b.back parts.0 parts.1 b.at,
-        ap (comments_beginning_from p) (o.comments ∙ ap (comments_from 0) b.split) ∙ back_split of_comments 0 p b.front b.back parts.0 parts.1 b.at,
+        ap (tokens_beginning_at_or_after p) (o.tokens ∙ ap (tokens_of_lexemes_from 0) b.split) ∙ back_split of_tokens 0 p b.front b.back parts.0 parts.1 b.at,
+        ap (comments_beginning_at_or_after p) (o.comments ∙ ap (comments_of_lexemes_from 0) b.split) ∙ back_split of_comments 0 p b.front b.back parts.0 parts.1 b.at,
         parts.1,
       )
 
   -- If a scan stopped at a border of the old lexemes, it can be completed with the old tokens and
   -- comments after that border, shifted. The result is a scan of the new text.
   pub finished : (at p : ℕ) (tokens : List Token) (comments : List Span) → IsUtf8 new → length new ≤ max_text_length → at ≤ length new → from + added ≤ at → at + removed ≡ p + added → IsCutIntoLexemesUpTo new at tokens comments → Border 0 o.lexemes p
-      → IsScan (record { text = new; tokens = tokens ++ map (token_after_shift removed added) (tokens_beginning_from p old.tokens); comments = comments ++ map (span_after_shift removed added) (comments_beginning_from p old.comments) })
+      → IsScan (record { text = new; tokens = tokens ++ map (token_after_shift removed added) (tokens_beginning_at_or_after p old.tokens); comments = comments ++ map (span_after_shift removed added) (comments_beginning_at_or_after p old.comments) })
   finished at p tokens comments utf8 short inside following e cut b =
       let facts = border_facts p b in
       let rest : text_of_lexemes b.back ≡ drop at new = facts.0 ∙ sym (same_rest at p following e) in
@@ -164,29 +164,29 @@ module _ (old : TextWithTokens) (o : IsScan old) (new : List ℕ) (from removed 
           whole = joined_append cut.lexemes b.back ∙ ap₂ (λ x y. x ++ y) cut.front rest ∙ take-append-drop at new;
           each = lexemes_append cut.lexemes b.back [] (subst (AreLeadingLexemes cut.lexemes) (sym rest ∙ sym (append-nil (text_of_lexemes b.back))) cut.each) facts.1;
         };
-        tokens = ap₂ (λ x y. x ++ y) cut.tokens_are (ap (map (token_after_shift removed added)) facts.2 ∙ sym (tokens_moved removed added at p b.back e low) ∙ ap (λ n. tokens_from n b.back) (sym place)) ∙ sym (all-append of_tokens 0 cut.lexemes b.back);
-        comments = ap₂ (λ x y. x ++ y) cut.comments_are (ap (map (span_after_shift removed added)) facts.3 ∙ sym (comments_moved removed added at p b.back e low) ∙ ap (λ n. comments_from n b.back) (sym place)) ∙ sym (all-append of_comments 0 cut.lexemes b.back);
+        tokens = ap₂ (λ x y. x ++ y) cut.tokens_are (ap (map (token_after_shift removed added)) facts.2 ∙ sym (tokens_moved removed added at p b.back e low) ∙ ap (λ n. tokens_of_lexemes_from n b.back) (sym place)) ∙ sym (all-append of_tokens 0 cut.lexemes b.back);
+        comments = ap₂ (λ x y. x ++ y) cut.comments_are (ap (map (span_after_shift removed added)) facts.3 ∙ sym (comments_moved removed added at p b.back e low) ∙ ap (λ n. comments_of_lexemes_from n b.back) (sym place)) ∙ sym (all-append of_comments 0 cut.lexemes b.back);
       }
 
   movable_lies : (p q : ℕ) (s : Span) → removed ≤ p → q ≤ max_text_length → length new ≤ max_text_length → Lies p q s → IsShiftable removed added s
   movable_lies p q s low most short w = record { start_at_least_removed = omega (arith, w.starts); ordered = omega (arith, w.some); small = omega (arith, w.ends, r.inside_new) }
 
-  pub movable : (p : ℕ) → length new ≤ max_text_length → removed ≤ p → Border 0 o.lexemes p → All (λ (t : Token). IsShiftable removed added t.span) (tokens_beginning_from p old.tokens) × All (λ (c : Span). IsShiftable removed added c) (comments_beginning_from p old.comments)
+  pub movable : (p : ℕ) → length new ≤ max_text_length → removed ≤ p → Border 0 o.lexemes p → All (λ (t : Token). IsShiftable removed added t.span) (tokens_beginning_at_or_after p old.tokens) × All (λ (c : Span). IsShiftable removed added c) (comments_beginning_at_or_after p old.comments)
   movable p short low b =
       let facts = border_facts p b in
       let whole : length (text_of_lexemes b.front) + length (text_of_lexemes b.back) ≡ length old.text = sym (length-append (text_of_lexemes b.front) (text_of_lexemes b.back)) ∙ ap length (sym (joined_append b.front b.back) ∙ ap text_of_lexemes (sym b.split) ∙ o.lexed.whole) in
       let most : p + length (text_of_lexemes b.back) ≤ max_text_length = omega (arith, b.at, whole, o.short) in
       let q : ℕ = p + length (text_of_lexemes b.back) in (
-        All-same (λ (t : Token). IsShiftable removed added t.span) (tokens_beginning_from p old.tokens) (tokens_from p b.back) facts.2
-            (All-weaker (λ (t : Token). Lies p q t.span) (λ (t : Token). IsShiftable removed added t.span) (λ t w. movable_lies p q t.span low most short w) (tokens_from p b.back) (lies of_tokens p b.back facts.4)),
-        All-same (λ (c : Span). IsShiftable removed added c) (comments_beginning_from p old.comments) (comments_from p b.back) facts.3
-            (All-weaker (λ (c : Span). Lies p q c) (λ (c : Span). IsShiftable removed added c) (λ c w. movable_lies p q c low most short w) (comments_from p b.back) (lies of_comments p b.back facts.4)),
+        All-same (λ (t : Token). IsShiftable removed added t.span) (tokens_beginning_at_or_after p old.tokens) (tokens_of_lexemes_from p b.back) facts.2
+            (All-weaker (λ (t : Token). Lies p q t.span) (λ (t : Token). IsShiftable removed added t.span) (λ t w. movable_lies p q t.span low most short w) (tokens_of_lexemes_from p b.back) (lies of_tokens p b.back facts.4)),
+        All-same (λ (c : Span). IsShiftable removed added c) (comments_beginning_at_or_after p old.comments) (comments_of_lexemes_from p b.back) facts.3
+            (All-weaker (λ (c : Span). Lies p q c) (λ (c : Span). IsShiftable removed added c) (λ c w. movable_lies p q c low most short w) (comments_of_lexemes_from p b.back) (lies of_comments p b.back facts.4)),
       )
 
   -- The end of the old text is a border of its lexemes.
   pub end_border : Border 0 o.lexemes (length old.text)
   end_border = record { front = o.lexemes; back = []; split = sym (append-nil o.lexemes); at = omega (arith, ap length o.lexed.whole) }
 
-  pub none_following : (tokens_beginning_from (length old.text) old.tokens ≡ []) × (comments_beginning_from (length old.text) old.comments ≡ [])
+  pub none_following : (tokens_beginning_at_or_after (length old.text) old.tokens ≡ []) × (comments_beginning_at_or_after (length old.text) old.comments ≡ [])
   unfolding end_border
   none_following = let facts = border_facts (length old.text) end_border in (facts.2, facts.3)

@@ -9,7 +9,7 @@ use Rattle.ob0_scan.specs.declared.lexeme.LexemeKind.{LexemeKind}
 use Rattle.ob0_scan.specs.declared.scanner.Scanner.{Scanner}
 use Rattle.ob0_scan.specs.declared.incremental_scan.RescannedMiddle.{RescannedMiddle}
 use Rattle.ob0_scan.specs.TextWithTokens.{TextWithTokens, IsScan, span_from, tokens_of_lexeme, comments_of_lexeme}
-use Rattle.ob0_scan.specs.Reused.{tokens_beginning_from, comments_beginning_from, span_after_shift, token_after_shift, Reuses, IsNewBehindChange}
+use Rattle.ob0_scan.specs.Reused.{tokens_beginning_at_or_after, comments_beginning_at_or_after, span_after_shift, token_after_shift, ReusesOldLexemes, IsNewAfterChange}
 
 -- Returns the byte offset at which a token ends, or 0 for None.
 abbrev pub token_end_or_zero : Option Token → ℕ
@@ -73,8 +73,8 @@ pub record AddsNewLexemes (old : TextWithTokens) (from removed added : ℕ) (s t
   pub comments : List Span
   pub tokens_are : t.tokens.items ≡ s.tokens.items ++ tokens
   pub comments_are : t.comments.items ≡ s.comments.items ++ comments
-  pub tokens_new_behind_change : All (λ (t : Token). IsNewBehindChange old from removed added t.span) tokens
-  pub comments_new_behind_change : All (λ (c : Span). IsNewBehindChange old from removed added c) comments
+  pub tokens_new_behind_change : All (λ (t : Token). IsNewAfterChange old from removed added t.span) tokens
+  pub comments_new_behind_change : All (λ (c : Span). IsNewAfterChange old from removed added c) comments
 
 -- States that a scan of the new text can stop at the byte offset `at`, which is after the change.
 -- Either the new text ends there (`end` is its length in bytes), or an old token or comment begins
@@ -83,8 +83,8 @@ pub record AddsNewLexemes (old : TextWithTokens) (from removed added : ℕ) (s t
 pub record CanStopRescanAt (old : TextWithTokens) (end from removed added at : ℕ) (tokens : List Token)
     (comments : List Span) : Type 0 where
   pub behind_change : from + added ≤ at
-  pub tokens_are : tokens ≡ tokens_beginning_from (at + removed - added) old.tokens
-  pub comments_are : comments ≡ comments_beginning_from (at + removed - added) old.comments
+  pub tokens_are : tokens ≡ tokens_beginning_at_or_after (at + removed - added) old.tokens
+  pub comments_are : comments ≡ comments_beginning_at_or_after (at + removed - added) old.comments
   pub border : (at ≡ end)
       ⊎ IsTrue
       (first_token_begins_at (at + removed - added) tokens || first_comment_begins_at (at + removed - added) comments)
@@ -106,7 +106,7 @@ scan_with_new_middle old new removed added b = record {
 -- States that `b` has the correct middle part of the scan of the new text. If the tokens and
 -- comments in `b` replace the old ones with the indexes in `b`, and the spans of the later old ones
 -- are shifted, the result is the scan of the new text. The old tokens and comments that are kept
--- are the ones that `Reuses` describes.
+-- are the ones that `ReusesOldLexemes` describes.
 pub record IsRescannedMiddle (old : TextWithTokens) (new : List ℕ) (from removed added : ℕ) (b : RescannedMiddle)
     : Type 0 where
   pub tokens_ordered : b.old_start.tokens ≤ b.old_end.tokens
@@ -121,5 +121,5 @@ pub record IsRescannedMiddle (old : TextWithTokens) (new : List ℕ) (from remov
   pub comments_are_movable : All (λ (c : Span). IsShiftable removed added c)
       (drop b.old_end.comments old.comments)
   pub scan : IsScan (scan_with_new_middle old new removed added b)
-  pub reuses : Reuses old (scan_with_new_middle old new removed added b) from removed added
+  pub reuses : ReusesOldLexemes old (scan_with_new_middle old new removed added b) from removed added
       (length b.tokens.items + length b.comments.items)

@@ -37,8 +37,8 @@ name_or_empty (kind.Symbol symbol) text = []
 
 -- Returns the spellings of the identifiers among a text's tokens, in order, with an empty text for
 -- each other token.
-abbrev pub names_in : List ℕ → List Token → List (List ℕ)
-names_in text tokens = map (λ (t : Token). name_or_empty t.kind (text_in_span text t.span)) tokens
+abbrev pub spellings_of_identifiers_in : List ℕ → List Token → List (List ℕ)
+spellings_of_identifiers_in text tokens = map (λ (t : Token). name_or_empty t.kind (text_in_span text t.span)) tokens
 
 -- Returns the tokens of a text as words: their kinds and spellings, without their spans.
 abbrev pub words_of_tokens : List ℕ → List Token → List Word
@@ -66,23 +66,23 @@ comments_ending_before place comments =
     take (prefix_len (λ c. nat_lt c.end place) comments) comments
 
 -- Returns the tokens without the leading ones that begin before the byte offset `place`.
-abbrev pub tokens_beginning_from : ℕ → List Token → List Token
-tokens_beginning_from place tokens = drop (prefix_len (λ t. nat_lt t.span.start place) tokens) tokens
+abbrev pub tokens_beginning_at_or_after : ℕ → List Token → List Token
+tokens_beginning_at_or_after place tokens = drop (prefix_len (λ t. nat_lt t.span.start place) tokens) tokens
 
 -- Returns the comments without the leading ones that begin before the byte offset `place`.
-abbrev pub comments_beginning_from : ℕ → List Span → List Span
-comments_beginning_from place comments = drop (prefix_len (λ c. nat_lt c.start place) comments) comments
+abbrev pub comments_beginning_at_or_after : ℕ → List Span → List Span
+comments_beginning_at_or_after place comments = drop (prefix_len (λ c. nat_lt c.start place) comments) comments
 
 -- States that no token and no comment of the scan begins at this byte offset.
 pub record NoLexemeBeginsAt (s : TextWithTokens) (place : ℕ) : Type 0 where
   pub tokens : All (λ (t : Token). t.span.start ≢ place) s.tokens
   pub comments : All (λ (c : Span). c.start ≢ place) s.comments
 
--- States that if a span of the new text begins after the change, no token or comment begins at the
--- corresponding offset in the old text. A span that begins before the end of the changed bytes
--- always meets this condition.
-abbrev pub IsNewBehindChange : TextWithTokens → ℕ → ℕ → ℕ → Span → Type 0
-IsNewBehindChange old from removed added span =
+-- States about a span of the new text: if the span begins after the change, then no token or
+-- comment begins at the corresponding offset in the old text. For a span that begins before the end
+-- of the changed bytes, states nothing.
+abbrev pub IsNewAfterChange : TextWithTokens → ℕ → ℕ → ℕ → Span → Type 0
+IsNewAfterChange old from removed added span =
     from + added ≤ span.start → NoLexemeBeginsAt old (span.start + removed - added)
 
 -- States that the tokens and comments of the new text have three parts. The first part has the old
@@ -91,17 +91,17 @@ IsNewBehindChange old from removed added span =
 -- one of these begins after the change, no old token or comment begins at the corresponding place
 -- in the old text. So the last part, unless it is empty, starts at the first place after the change
 -- at which tokens or comments of both texts begin.
-pub record Reuses (old new : TextWithTokens) (from removed added read : ℕ) : Type 0 where
+pub record ReusesOldLexemes (old new : TextWithTokens) (from removed added read : ℕ) : Type 0 where
   pub place : ℕ
   pub behind_change : from + removed ≤ place
   pub tokens_between : List Token
   pub comments_between : List Span
   pub tokens : new.tokens
       ≡ (tokens_ending_before from old.tokens ++ tokens_between)
-      ++ map (token_after_shift removed added) (tokens_beginning_from place old.tokens)
+      ++ map (token_after_shift removed added) (tokens_beginning_at_or_after place old.tokens)
   pub comments : new.comments
       ≡ (comments_ending_before from old.comments ++ comments_between)
-      ++ map (span_after_shift removed added) (comments_beginning_from place old.comments)
+      ++ map (span_after_shift removed added) (comments_beginning_at_or_after place old.comments)
   pub read_count : read ≡ length tokens_between + length comments_between
-  pub tokens_new_behind_change : All (λ (t : Token). IsNewBehindChange old from removed added t.span) tokens_between
-  pub comments_new_behind_change : All (λ (c : Span). IsNewBehindChange old from removed added c) comments_between
+  pub tokens_new_behind_change : All (λ (t : Token). IsNewAfterChange old from removed added t.span) tokens_between
+  pub comments_new_behind_change : All (λ (c : Span). IsNewAfterChange old from removed added c) comments_between

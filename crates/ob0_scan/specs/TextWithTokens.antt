@@ -54,18 +54,18 @@ comments_of_lexeme (lexeme.Token kind) span = []
 
 -- Returns the tokens among these lexemes, with their spans. The first lexeme begins at the byte
 -- offset `start`.
-abbrev pub tokens_from : ℕ → List Lexeme → List Token
-tokens_from start [] = []
-tokens_from start (l ∷ lexemes) =
-    tokens_of_lexeme l.kind (span_from start (length l.text)) ++ tokens_from (start + length l.text) lexemes
+abbrev pub tokens_of_lexemes_from : ℕ → List Lexeme → List Token
+tokens_of_lexemes_from start [] = []
+tokens_of_lexemes_from start (l ∷ lexemes) =
+    tokens_of_lexeme l.kind (span_from start (length l.text)) ++ tokens_of_lexemes_from (start + length l.text) lexemes
 
 -- Returns the spans of the comments among these lexemes. The first lexeme begins at the byte offset
 -- `start`.
-abbrev pub comments_from : ℕ → List Lexeme → List Span
-comments_from start [] = []
-comments_from start (l ∷ lexemes) =
+abbrev pub comments_of_lexemes_from : ℕ → List Lexeme → List Span
+comments_of_lexemes_from start [] = []
+comments_of_lexemes_from start (l ∷ lexemes) =
     comments_of_lexeme l.kind (span_from start (length l.text))
-    ++ comments_from (start + length l.text) lexemes
+    ++ comments_of_lexemes_from (start + length l.text) lexemes
 
 -- The greatest length in bytes of a text that is scanned.
 abbrev pub max_text_length : ℕ
@@ -92,8 +92,8 @@ pub record IsScan (s : TextWithTokens) : Type 0 where
   pub short : length s.text ≤ max_text_length
   pub lexemes : List Lexeme
   pub lexed : LexesInto s.text lexemes
-  pub tokens : s.tokens ≡ tokens_from 0 lexemes
-  pub comments : s.comments ≡ comments_from 0 lexemes
+  pub tokens : s.tokens ≡ tokens_of_lexemes_from 0 lexemes
+  pub comments : s.comments ≡ comments_of_lexemes_from 0 lexemes
 
 -- States that the span is a range of the text. Its start isn't after its end, and both are in the
 -- text and at character borders.

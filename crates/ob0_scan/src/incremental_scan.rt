@@ -4,12 +4,12 @@
 //! `rescan_in_place` takes the tokens of the old text and turns them into the tokens of the new
 //! text. If the new text has faults, the function returns the faults and the old tokens. `rescan`
 //! does the same with a copy of the old tokens. Both functions return the tokens and comments that
-//! `scan` of the new text returns. `Reuses` (`specs/Reused`) says which of these are old:
+//! `scan` of the new text returns. `ReusesOldLexemes` (`specs/Reused`) says which of these are old:
 //! - Before the change: each token and comment that ends before it. (A token that ends right at the
 //!   change may continue with the inserted text.)
 //! - After the change, shifted by `added - removed` bytes: each token and comment that begins at a
 //!   certain place or later. This is the first place after the change at which a token or comment
-//!   begins in both texts (`IsNewBehindChange`).
+//!   begins in both texts (`IsNewAfterChange`).
 //!
 //! If `same_kinds` is true in the result, the new tokens have the same kinds as the old tokens. If
 //! `same_names` is true, the identifiers have the same spellings. If `same_words` is true, all
@@ -20,10 +20,10 @@
 //! White space isn't kept, so the white space there is read again. Once the scanner is after the
 //! change, it tests before each step whether an old token or comment begins at the corresponding
 //! place in the old text. Binary search also finds the first old tokens and comments after the
-//! change (`lexemes_beginning_from`). Before each step, `skip_lexemes_before` skips the old ones
-//! that begin before that place. So all these tests together visit each old token at most once. The
-//! spans of a scan are in order (`SpansAreInOrder`), so binary search finds the same number as
-//! visiting them one by one (`proofs/Halved`).
+//! change (`lexemes_beginning_at_or_after`). Before each step, `skip_lexemes_before` skips the old
+//! ones that begin before that place. So all these tests together visit each old token at most
+//! once. The spans of a scan are in order (`SpansAreInOrder`), so binary search finds the same
+//! number as visiting them one by one (`proofs/Halved`).
 //!
 //! The newly read tokens and comments are placed between the two reused parts
 //! (`IsRescannedMiddle`). When reading is complete, the second reused part is moved within its
@@ -53,9 +53,9 @@ ghost use Rattle.std.specs.Prelude.{◌≡◌, ℕ, List, [], false, ◌+◌, �
 ghost use Rattle.ob0_scan.specs.declared.lexeme.TokenKind.TheVariants.{Identifier, Integer};
 ghost use Rattle.ob0_scan.specs.declared.incremental_scan.RescanRefusal.TheVariants as rescanned;
 ghost use Rattle.ob0_scan.specs.TextWithTokens.{IsScanOf, word_of_token, text_in_span};
-ghost use Rattle.ob0_scan.specs.Refused.{IsRightRefusal, IsRightRescanRefusal};
+ghost use Rattle.ob0_scan.specs.Refused.{IsRightScanRefusal, IsRightRescanRefusal};
 ghost use Rattle.ob0_scan.specs.UnderWay.{IsConsistentScanner};
-ghost use Rattle.ob0_scan.specs.Reused.{ReplacesRange, Reuses, kinds, kind_without_value, name_or_empty, names_in, words_of_tokens};
+ghost use Rattle.ob0_scan.specs.Reused.{ReplacesRange, ReusesOldLexemes, kinds, kind_without_value, name_or_empty, spellings_of_identifiers_in, words_of_tokens};
 ghost use Rattle.ob0_scan.specs.SameKinds.{PrefixAndSuffixHaveSameKinds, PrefixAndSuffixHaveSameWords};
 ghost use Rattle.ob0_scan.specs.Rescanned.{IsRescanOf};
 ghost use Rattle.ob0_scan.specs.RescanState.{AddsNewLexemes, CanStopRescanAt, IsRescannedMiddle};
@@ -63,7 +63,7 @@ ghost use Rattle.ob0_scan.specs.RescanState.{AddsNewLexemes, CanStopRescanAt, Is
 use crate::fault::{Fault, ScanRefusal};
 use crate::lexeme::{Span, Token, TokenKind};
 use crate::old_lexemes::{LexemeSlices, ReplacedRange};
-use crate::scanner::{MAX_TEXT_LENGTH, Scanner, too_long_faults};
+use crate::scanner::{MAX_TEXT_LENGTH, Scanner, faults_of_too_long_text};
 use crate::tokens::{CommonPrefixAndSuffix, Rescan, RescanWithComparison, Tokens};
 use std::alloc::{AllocError, Global};
 use thiserror::Error;
@@ -106,8 +106,8 @@ impl RescannedMiddle {
     fn has_same_names_as_replaced(&self, new_text: &str, old: &Tokens) -> bool
         requires ordered { self.now.old_start.tokens ≤ self.now.old_end.tokens }
         requires inside { self.now.old_end.tokens ≤ length old.now.tokens }
-        ensures { result ≡ true → names_in new_text.now self.now.tokens.items
-            ≡ names_in old.now.text (take (self.now.old_end.tokens - self.now.old_start.tokens)
+        ensures { result ≡ true → spellings_of_identifiers_in new_text.now self.now.tokens.items
+            ≡ spellings_of_identifiers_in old.now.text (take (self.now.old_end.tokens - self.now.old_start.tokens)
             (drop self.now.old_start.tokens old.now.tokens)) }
     {
         let replaced = &old.tokens()[self.old_start.tokens..self.old_end.tokens];
@@ -164,7 +164,7 @@ fn is_same_word(new_text: &[u8], new: Token, old_text: &[u8], old: Token) -> boo
 /// Returns whether two lists of tokens of two texts are equally long and have identifiers with the
 /// same spellings at the same indexes.
 fn have_same_names(new_text: &[u8], new: &[Token], old_text: &[u8], old: &[Token]) -> bool
-    ensures { result ≡ true → names_in new_text.now new.now ≡ names_in old_text.now old.now }
+    ensures { result ≡ true → spellings_of_identifiers_in new_text.now new.now ≡ spellings_of_identifiers_in old_text.now old.now }
 {
     if new.len() != old.len() {
         return false;
@@ -291,8 +291,8 @@ pub fn rescan(
 ) -> Result<Rescan, ScanRefusal>
     requires { ReplacesRange old.now.text new_text.now from removed added }
     ensures ok { IfOk result (λ r. IsScanOf new_text.now r.tokens) }
-    ensures err { IfErr result (IsRightRefusal new_text.now) }
-    ensures reused { IfOk result (λ r. Reuses old.now r.tokens from removed added r.read) }
+    ensures err { IfErr result (IsRightScanRefusal new_text.now) }
+    ensures reused { IfOk result (λ r. ReusesOldLexemes old.now r.tokens from removed added r.read) }
 {
     match rescan_in_place(alloc, old.copy(alloc)?, new_text, from, removed, added) {
         Ok(found) => Ok(found.rescan),
@@ -320,12 +320,12 @@ pub fn rescan_in_place(
     ensures ok { IfOk result (λ r. IsScanOf new_text.now r.rescan.tokens) }
     ensures err { IfErr result (IsRightRescanRefusal old new_text.now) }
     ensures reused { IfOk result
-        (λ r. Reuses old r.rescan.tokens from removed added r.rescan.read) }
+        (λ r. ReusesOldLexemes old r.rescan.tokens from removed added r.rescan.read) }
     ensures alike { IfOk result
         (λ r. r.same_kinds ≡ true → kinds r.rescan.tokens.tokens ≡ kinds old.tokens) }
     ensures same_names { IfOk result
-        (λ r. r.same_names ≡ true → names_in r.rescan.tokens.text r.rescan.tokens.tokens
-        ≡ names_in old.text old.tokens) }
+        (λ r. r.same_names ≡ true → spellings_of_identifiers_in r.rescan.tokens.text r.rescan.tokens.tokens
+        ≡ spellings_of_identifiers_in old.text old.tokens) }
     ensures same_words { IfOk result
         (λ r. r.same_words ≡ true → words_of_tokens r.rescan.tokens.text r.rescan.tokens.tokens
         ≡ words_of_tokens old.text old.tokens) }
@@ -372,7 +372,7 @@ fn rescan_refusal(
     change: ReplacedRange,
     refusal: ScanRefusal,
 ) -> Result<RescanWithComparison, RescanRefusal>
-    requires { IsRightRefusal new_text.now refusal }
+    requires { IsRightScanRefusal new_text.now refusal }
     ensures ok { IfOk result
         (IsRescanOf old new_text.now change.from change.removed change.added) }
     ensures err { IfErr result (IsRightRescanRefusal old new_text.now) }
@@ -394,14 +394,14 @@ fn rescan_middle(
     requires { ReplacesRange old.now.text new_text.now change.from change.removed change.added }
     ensures ok { IfOk result
         (IsRescannedMiddle old.now new_text.now change.from change.removed change.added) }
-    ensures err { IfErr result (IsRightRefusal new_text.now) }
+    ensures err { IfErr result (IsRightScanRefusal new_text.now) }
 {
     if new_text.len() > MAX_TEXT_LENGTH {
-        return Err(ScanRefusal::Faults(too_long_faults(alloc)?));
+        return Err(ScanRefusal::Faults(faults_of_too_long_text(alloc)?));
     }
     let all = old.lexeme_slices();
     let front = all.lexemes_ending_before(change.from);
-    let mut scanner = Scanner::scanner_after(alloc, new_text, front);
+    let mut scanner = Scanner::scanner_after_known_lexemes(alloc, new_text, front);
     let rest = scan_until_old_lexeme(&mut scanner, old, change)?;
     let Scanner {
         text: _,
@@ -453,7 +453,7 @@ fn scan_until_old_lexeme<'o>(
 {
     let mut rest = old
         .lexeme_slices()
-        .lexemes_beginning_from(change.from + change.removed);
+        .lexemes_beginning_at_or_after(change.from + change.removed);
     while scanner.at < scanner.text.len() {
         if scanner.faults.is_empty() && scanner.at >= change.from + change.added {
             let place = change.offset_in_old_text(scanner.at);

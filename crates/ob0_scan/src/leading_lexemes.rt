@@ -5,7 +5,7 @@ ghost use Rattle.std.specs.List.{AllPass, prefix_len};
 ghost use Rattle.std.specs.Char.{is_ascii_alphabetic, is_ascii_alphanumeric, is_ascii_digit};
 ghost use Rattle.std.specs.Str.{IsCharBoundary};
 ghost use Rattle.ob0_scan.specs.Comments.{IsComment};
-ghost use Rattle.ob0_scan.specs.Classes.{is_space, max_integer, symbol_text, IsIdentifierOrReservedWord, IsLexemeOfKind, decimal_value};
+ghost use Rattle.ob0_scan.specs.Classes.{is_white_space, max_integer, symbol_text, IsIdentifierOrReservedWord, IsLexemeOfKind, decimal_value};
 ghost use Rattle.ob0_scan.specs.TextStart.{IsLongestSymbol, StartsWithNoSymbol};
 ghost use Rattle.ob0_scan.specs.Begins.{StartsWithLexemeOrFault};
 ghost use Rattle.ob0_scan.specs.Faults.{IsFirstCharLength};
@@ -25,17 +25,20 @@ pub enum TextStart {
 }
 
 /// Returns whether a byte is white space: a space, a tab, CR or LF.
-pub fn is_space(byte: u8) -> bool
-    ensures { result ≡ is_space byte }
+pub fn is_white_space(byte: u8) -> bool
+    ensures { result ≡ is_white_space byte }
 {
     byte == b' ' || byte == b'\t' || byte == b'\n' || byte == b'\r'
 }
 
 /// Returns the number of leading bytes that are white space.
-fn leading_space_len(bytes: &[u8]) -> usize
-    ensures { result ≡ prefix_len is_space bytes.now }
+fn leading_white_space_len(bytes: &[u8]) -> usize
+    ensures { result ≡ prefix_len is_white_space bytes.now }
 {
-    bytes.iter().take_while(|byte| is_space(**byte)).count()
+    bytes
+        .iter()
+        .take_while(|byte| is_white_space(**byte))
+        .count()
 }
 
 /// Returns the number of leading bytes that are digits.
@@ -103,7 +106,7 @@ fn comment_len(bytes: &[u8]) -> Option<usize>
 
 /// Returns the longest symbol at the beginning of the bytes, with its length in bytes. Returns None
 /// if the bytes begin with no symbol.
-fn first_symbol(bytes: &[u8]) -> Option<(Symbol, usize)>
+fn leading_symbol(bytes: &[u8]) -> Option<(Symbol, usize)>
     ensures found { IfSome result (λ found. IsLongestSymbol bytes.now found.0 found.1) }
     ensures none { IfNone result (StartsWithNoSymbol bytes.now) }
 {
@@ -157,7 +160,7 @@ fn word_kind(word: &[u8]) -> TokenKind
 
 /// Returns the word at the beginning of a text that begins with a letter.
 #[inline(always)]
-fn first_word(text: &str) -> TextStart
+fn leading_word(text: &str) -> TextStart
     requires { IsTrue (is_ascii_alphabetic (slice_index text.now 0)) }
     ensures { StartsWithLexemeOrFault text.now result }
 {
@@ -169,7 +172,7 @@ fn first_word(text: &str) -> TextStart
 /// Returns the integer at the beginning of a text that begins with a digit. If a letter directly
 /// follows the digits, or the value is too large, returns the fault instead.
 #[inline(always)]
-fn first_integer(text: &str) -> TextStart
+fn leading_integer(text: &str) -> TextStart
     requires { IsTrue (is_ascii_digit (slice_index text.now 0)) }
     ensures { StartsWithLexemeOrFault text.now result }
 {
@@ -189,7 +192,7 @@ fn first_integer(text: &str) -> TextStart
 
 /// Returns the comment at the beginning of a text that begins with `(*`. If the comment isn't
 /// closed, returns the fault instead.
-fn first_comment(text: &str) -> TextStart
+fn leading_comment(text: &str) -> TextStart
     requires { take 2 text.now ≡ codes "(*" }
     ensures { StartsWithLexemeOrFault text.now result }
 {
@@ -207,15 +210,15 @@ pub fn leading_lexeme(text: &str) -> TextStart
 {
     let bytes = text.as_bytes();
     let byte = bytes[0];
-    if is_space(byte) {
-        TextStart::Lexeme(LexemeKind::Space, leading_space_len(bytes))
+    if is_white_space(byte) {
+        TextStart::Lexeme(LexemeKind::Space, leading_white_space_len(bytes))
     } else if byte.is_ascii_alphabetic() {
-        first_word(text)
+        leading_word(text)
     } else if byte.is_ascii_digit() {
-        first_integer(text)
+        leading_integer(text)
     } else if bytes.starts_with(b"(*") {
-        first_comment(text)
-    } else if let Some((symbol, len)) = first_symbol(bytes) {
+        leading_comment(text)
+    } else if let Some((symbol, len)) = leading_symbol(bytes) {
         TextStart::Lexeme(LexemeKind::Token(TokenKind::Symbol(symbol)), len)
     } else {
         TextStart::Fault(FaultCode::BadChar, first_char_len(text))

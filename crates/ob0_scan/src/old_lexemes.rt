@@ -14,7 +14,7 @@ ghost use Rattle.std.specs.List.{All, prefix_len};
 ghost use Rattle.std.specs.List.Sorted.{IsNonDecreasingBy};
 ghost use Rattle.ob0_scan.specs.declared.lexeme.Span.{Span};
 ghost use Rattle.ob0_scan.specs.declared.lexeme.Token.{Token};
-ghost use Rattle.ob0_scan.specs.Reused.{ReplacesRange, span_after_shift, token_after_shift, tokens_ending_before, comments_ending_before, tokens_beginning_from, comments_beginning_from};
+ghost use Rattle.ob0_scan.specs.Reused.{ReplacesRange, span_after_shift, token_after_shift, tokens_ending_before, comments_ending_before, tokens_beginning_at_or_after, comments_beginning_at_or_after};
 ghost use Rattle.ob0_scan.specs.RescanState.{token_end_or_zero, comment_end_or_zero, end_of_last_lexeme, first_token_begins_at, first_comment_begins_at, SpansAreInOrder, IsShiftable};
 
 use crate::lexeme::{Span, Token};
@@ -98,10 +98,10 @@ impl<'t> LexemeSlices<'t> {
 
     /// Returns the tokens and comments without the leading ones that begin before the byte offset
     /// `offset`, by binary search.
-    pub(crate) fn lexemes_beginning_from(self, offset: usize) -> LexemeSlices<'t>
+    pub(crate) fn lexemes_beginning_at_or_after(self, offset: usize) -> LexemeSlices<'t>
         requires { SpansAreInOrder self.tokens.now self.comments.now }
-        ensures tokens { result.tokens.now ≡ tokens_beginning_from offset self.entry.tokens.now }
-        ensures comments { result.comments.now ≡ comments_beginning_from offset self.entry.comments.now }
+        ensures tokens { result.tokens.now ≡ tokens_beginning_at_or_after offset self.entry.tokens.now }
+        ensures comments { result.comments.now ≡ comments_beginning_at_or_after offset self.entry.comments.now }
     {
         let tokens = count_tokens_beginning_before(self.tokens, offset);
         let comments = count_comments_beginning_before(self.comments, offset);
@@ -114,8 +114,8 @@ impl<'t> LexemeSlices<'t> {
     /// Returns the tokens and comments without the leading ones that begin before the byte offset
     /// `offset`. The skipped ones should be few, because they are visited one by one.
     pub(crate) fn skip_lexemes_before(self, offset: usize) -> LexemeSlices<'t>
-        ensures tokens { result.tokens.now ≡ tokens_beginning_from offset self.entry.tokens.now }
-        ensures comments { result.comments.now ≡ comments_beginning_from offset self.entry.comments.now }
+        ensures tokens { result.tokens.now ≡ tokens_beginning_at_or_after offset self.entry.tokens.now }
+        ensures comments { result.comments.now ≡ comments_beginning_at_or_after offset self.entry.comments.now }
     {
         let tokens = count_tokens_beginning_before_linearly(self.tokens, offset);
         let comments = count_comments_beginning_before_linearly(self.comments, offset);

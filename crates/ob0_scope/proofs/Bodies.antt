@@ -3,7 +3,7 @@
 use Rattle.std.proofs.Common.{◌≡◌, ◌<◌, ◌≤◌, ℕ, zero, ◌+◌, if◌then◌else◌, nat_lt, List, [], ◌∷◌, length, drop, get_or, refl, sym, ap, ◌∙◌, lt-ltb, le-ltb}
 use Rattle.std.proofs.lemmas.List.{drop_all, drop_more}
 use Rattle.ob0_tree.specs.Tree.{Tree, block, body, constants, declares, forms_block, item, items, maybe, more, procedure, type_definitions, variables}
-use Rattle.ob0_tree.specs.View.{block_of, body_of, constants_of, items_of, procedure_of, types_of, variables_of}
+use Rattle.ob0_tree.specs.View.{block_of, body_of, constant_section_of, items_of, procedure_of, type_section_of, variable_section_of}
 use Rattle.ob0_tree.specs.declared.tree.Block.{Block, out-Block}
 use Rattle.ob0_tree.specs.declared.tree.Procedure.{Procedure, out-Procedure}
 use Rattle.ob0_tree.proofs.Viewed.{block_parts, procedure_parts}
@@ -48,7 +48,7 @@ pub block_place : (low own : ℕ) (b : Block) (xs : List Procedure) → xs ≡ (
 block_place low own b xs e =
     let c = out-Block b in
     ap (place_of_block low own) (block_parts b)
-    ∙ (in_block low own (constants_of c.constants) (types_of c.types) (variables_of c.variables) (items_of procedure_of c.procedures.items) (body_of c.body)
+    ∙ (in_block low own (constant_section_of c.constants) (type_section_of c.types) (variable_section_of c.variables) (items_of procedure_of c.procedures.items) (body_of c.body)
     ∙ ap (λ ys. from_procedures low own (items_of procedure_of ys) (body_of c.body)) (sym e))
 
 module _ (low own : ℕ) (statements : Tree ℕ (maybe body)) where

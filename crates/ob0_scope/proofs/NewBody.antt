@@ -10,7 +10,6 @@ use Rattle.std.proofs.lemmas.Bool.Decides.{nat_tests}
 use Rattle.std.proofs.lemmas.List.{map-append}
 use Rattle.std.proofs.lemmas.List.Folds.{list_any-append}
 use Rattle.std.specs.List.{list_any}
-use Rattle.ob0_scan.specs.declared.fault.Fault.{Fault}
 use Rattle.ob0_scan.specs.declared.tokens.CommonPrefixAndSuffix.{CommonPrefixAndSuffix}
 use Rattle.ob0_scan.specs.TextWithTokens.{TextWithTokens}
 use Rattle.ob0_tree.specs.declared.tree.Role.{Role}
@@ -27,15 +26,17 @@ use Rattle.ob0_language_names.specs.Scopes.{relabel_module}
 use Rattle.ob0_tree.specs.FirstIdentifier.{token_of_first_identifier}
 use Rattle.ob0_tree.proofs.AscendingNumbers.{AllBelow, AllFrom, below_more, from_less, leaves_append}
 use Rattle.ob0_tree.proofs.MappedIdentifiers.{beside_role, identifiers-mapped_tree, leaves_mapped}
-use Rattle.ob0_scope_table.specs.BodyReplaced.{IsBodyReplaced, PathToBody, body_at_path, closing_name_at_path, moved_token_index, path_to_body_in_module, module_without_body}
+use Rattle.ob0_scope_table.specs.BodyReplaced.{IsBodyReplaced, PathToBody, body_at_path, closing_name_at_path, shifted_token_index, path_to_body_in_module, module_without_body}
 use Rattle.ob0_scope_table.specs.DuplicatesAndEndNames.{declaration_faults}
 use Rattle.ob0_scope_table.specs.OneBody.{is_outside_range}
 use Rattle.ob0_scope_table.specs.Resolution.{IsBindingTable, IsResolution, ordinal_and_spelling_at, declaring_names, ordinal_in, undeclared_faults_by_table, ordinal_and_spelling}
+use Rattle.ob0_scope_table.specs.declared.faults.FaultAtTokens.{FaultAtTokens}
 use Rattle.ob0_scope_table.specs.declared.resolved.Bindings.{Bindings}
 use Rattle.ob0_scope_table.proofs.BodyReplaced.{names_outside, without_mapped}
 use Rattle.ob0_scope_table.proofs.Moved.{moved_above, moved_below}
 use Rattle.ob0_scope_table.proofs.Plain.{declares_nothing}
-use Rattle.ob0_scope_numbering.specs.MarkWalk.{initial_walk_state, visit_module}
+use Rattle.ob0_scope_numbering.specs.MarkWalk.{initial_walk_state}
+use Rattle.ob0_scope_numbering.specs.IdentifierWalk.{visit_module}
 use Rattle.ob0_scope_numbering.specs.Marks.{OrdinalMark, with_marks}
 use Rattle.ob0_scope_numbering.specs.BodyWalk.{renumber_module, initial_walk_state_with_table}
 use Rattle.ob0_scope_numbering.specs.Written.{original_spellings}
@@ -71,15 +72,15 @@ names_walked ((role.ModuleName, i) ∷ xs) = later_names xs i []
 
 -- ---- the new indexes of tokens
 
-stays : (s : CommonPrefixAndSuffix) (xs : List (Role × ℕ)) → AllBelow s.prefix (names_without_roles xs) → map (beside_role (moved_token_index s)) xs ≡ xs
+stays : (s : CommonPrefixAndSuffix) (xs : List (Role × ℕ)) → AllBelow s.prefix (names_without_roles xs) → map (beside_role (shifted_token_index s)) xs ≡ xs
 stays s [] h = refl
 stays s (x ∷ xs) h = λ i. (x.0, moved_below s x.1 h.0 i) ∷ stays s xs h.1 i
 
 goes_far : (s : CommonPrefixAndSuffix) (range : BodyRange) (xs : List (Role × ℕ)) → s.prefix ≤ s.old_suffix → s.old_suffix < range.old_closing → range.closing ≡ s.new_suffix + (range.old_closing - s.old_suffix) → AllFrom range.old_closing (names_without_roles xs)
-    → map (beside_role (moved_token_index s)) xs ≡ map (beside_role (far range)) xs
+    → map (beside_role (shifted_token_index s)) xs ≡ map (beside_role (far range)) xs
 goes_far s range [] le less e h = refl
 goes_far s range (x ∷ xs) le less e h =
-    let here : moved_token_index s x.1 ≡ far range x.1 = moved_above s x.1 le (omega (arith, less, h.0)) ∙ omega (arith, le, less, e, h.0) in
+    let here : shifted_token_index s x.1 ≡ far range x.1 = moved_above s x.1 le (omega (arith, less, h.0)) ∙ omega (arith, le, less, e, h.0) in
     λ i. (x.0, here i) ∷ goes_far s range xs le less e h.1 i
 
 far_from : (range : BodyRange) (xs : List (Role × ℕ)) → AllFrom range.closing (names_without_roles (map (beside_role (far range)) xs))
@@ -136,9 +137,9 @@ module _ (old new : ParsedModule) (path : PathToBody) (s : CommonPrefixAndSuffix
       let same : sn.before ++ new_tail ≡ so.before ++ map (beside_role (far exact)) old_tail =
       sym sn.rest_is
       ∙ (ap (identifiers role.Declaring) r.outside
-      ∙ (identifiers-mapped_tree (moved_token_index s) (moved_token_index s) role.Declaring (module_without_body path (tree_of old))
-      ∙ (ap (map (beside_role (moved_token_index s))) so.rest_is
-      ∙ (map-append (beside_role (moved_token_index s)) so.before old_tail
+      ∙ (identifiers-mapped_tree (shifted_token_index s) (shifted_token_index s) role.Declaring (module_without_body path (tree_of old))
+      ∙ (ap (map (beside_role (shifted_token_index s))) so.rest_is
+      ∙ (map-append (beside_role (shifted_token_index s)) so.before old_tail
       ∙ (λ i. stays s so.before (below_more r.first s.prefix (names_without_roles so.before) (omega (arith, front)) po.before_below) i ++ goes_far s exact old_tail old_range back closing po.after_from i))))) in
       let parts = same_parts r.first sn.before new_tail so.before (map (beside_role (far exact)) old_tail) pn.before_below po.before_below (from_less r.first new_closing (names_without_roles new_tail) (omega (arith, less)) pn.after_from)
       (from_less r.first new_closing (names_without_roles (map (beside_role (far exact)) old_tail)) (omega (arith, less)) (far_from exact old_tail)) same in
@@ -198,9 +199,9 @@ both_each : (f g : ℕ → Option ℕ) (h : ℕ → ℕ) (xs ys : List ℕ) → 
 both_each f g h [] ys e = (tt, each_of f g h ys e)
 both_each f g h (x ∷ xs) ys e = let rest = both_each f g h xs ys (ap (drop 1) e) in ((ap (λ l. get_or l 0 None) e, rest.0), rest.1)
 
-ordinals_at : (source : TextWithTokens) (ordinals : List (Option ℕ)) (xs : List ℕ) → map (λ (p : Option ℕ × List ℕ). p.0) (map (ordinal_and_spelling_at source ordinals) xs) ≡ map (ordinal_in ordinals) xs
-ordinals_at source ordinals [] = refl
-ordinals_at source ordinals (x ∷ xs) = ap (λ l. ordinal_in ordinals x ∷ l) (ordinals_at source ordinals xs)
+ordinals_at_tokens : (source : TextWithTokens) (ordinals : List (Option ℕ)) (xs : List ℕ) → map (λ (p : Option ℕ × List ℕ). p.0) (map (ordinal_and_spelling_at source ordinals) xs) ≡ map (ordinal_in ordinals) xs
+ordinals_at_tokens source ordinals [] = refl
+ordinals_at_tokens source ordinals (x ∷ xs) = ap (λ l. ordinal_in ordinals x ∷ l) (ordinals_at_tokens source ordinals xs)
 
 -- The bindings of names outside the body are unchanged.
 same_outside : (old new : ParsedModule) (path : PathToBody) (s : CommonPrefixAndSuffix) (before now : List (Option ℕ)) → IsBodyReplaced old new path s → IsBindingTable old before → IsBindingTable new now
@@ -212,7 +213,7 @@ same_outside old new path s before now r was is =
     ∙ (sym (without_relabelled naming_by_spelling ordinal_and_spelling path (named_tree_of m))
     ∙ (ap (module_without_body path) bound ∙ without_mapped (ordinal_and_spelling_at m.source ordinals) (token_value_at m.source) path (tree_of m))) in
     let listed : (m : ParsedModule) (ordinals : List (Option ℕ)) → map (λ (p : Option ℕ × List ℕ). p.0) (identifier_names (mapped_tree (ordinal_and_spelling_at m.source ordinals) (token_value_at m.source) (module_without_body path (tree_of m)))) ≡ map (ordinal_in ordinals) (identifier_names (module_without_body path (tree_of m))) =
-    λ m ordinals. ap (map (λ (p : Option ℕ × List ℕ). p.0)) (leaves_mapped (ordinal_and_spelling_at m.source ordinals) (token_value_at m.source) (module_without_body path (tree_of m))) ∙ ordinals_at m.source ordinals (identifier_names (module_without_body path (tree_of m))) in
+    λ m ordinals. ap (map (λ (p : Option ℕ × List ℕ). p.0)) (leaves_mapped (ordinal_and_spelling_at m.source ordinals) (token_value_at m.source) (module_without_body path (tree_of m))) ∙ ordinals_at_tokens m.source ordinals (identifier_names (module_without_body path (tree_of m))) in
     sym (listed new now)
     ∙ (ap (λ t. map (λ (p : Option ℕ × List ℕ). p.0) (identifier_names t)) (sym (outside new now is) ∙ (ap (relabel_module naming_by_spelling ordinal_and_spelling) (names_outside old new path s r) ∙ outside old before was))
     ∙ listed old before)
@@ -345,10 +346,10 @@ module _ (old new : ParsedModule) (path : PathToBody) (range : BodyRange) (known
 
 -- ---- the complete result
 
-pub new_body_bound : (m : ParsedModule) (b : Bindings) (range : BodyRange) (own : List ℕ) (ordinals : List (Option ℕ)) (declaration_tokens uses : List ℕ) (once faults : List Fault) → IsRangeOfNewBody m b range own
+pub new_body_bound : (m : ParsedModule) (b : Bindings) (range : BodyRange) (own : List ℕ) (ordinals : List (Option ℕ)) (declaration_tokens uses : List ℕ) (once faults : List FaultAtTokens) → IsRangeOfNewBody m b range own
     → length m.source.tokens ≤ length (ordinals_in_changed_text range b.ordinals.items) → declaration_tokens ≡ tokens_in_changed_text range b.declaration_tokens.items []
     → ordinals ≡ (renumber_module declaration_tokens range.first (tree_of m) (initial_walk_state_with_table (original_spellings m.source) (ordinals_in_changed_text range b.ordinals.items))).marks → uses ≡ tokens_in_changed_text range b.occurrences.items own
-    → once ≡ declaration_faults m → faults ≡ once ++ undeclared_faults_by_table m.source ordinals uses
+    → once ≡ declaration_faults m → faults ≡ once ++ undeclared_faults_by_table ordinals uses
     → IsResolution (record { module_read = m; ordinals = ordinals; declaration_tokens = declaration_tokens; uses = uses; faults = faults })
 new_body_bound m b range own ordinals declaration_tokens uses once faults n long declared numbered used twice all =
     let was = n.was_bound in

@@ -7,12 +7,13 @@ use Rattle.std.specs.List.{list_any}
 use Rattle.std.proofs.lemmas.Cmp.{nat_list_eq_equiv}
 use Rattle.std.proofs.lemmas.List.Folds.{list_any-append}
 use Rattle.std.proofs.lemmas.Slice.Eq.{bytes_eq-Decides}
-use Rattle.ob0_tree.specs.Tree.{Sort, Tree, mapped_tree, occurrences, block, constant, constants, formals, further_name, further_section, item, items, maybe, module_text, names, procedure, section, type_definition, type_definitions, variable, variables, adds, array_type, assigns, begins, branches, calls, compares, declares, declares_constant, declares_constants, declares_procedure, declares_type, declares_types, declares_variable, declares_variables, designator, else_branch, elsif_branch, empty, end, field, forms_block, index, integer, is_module, listed, more, multiplies, named_type, negation, no_arguments, no_fields, no_formals, none, one, parenthesised, product, record_type, relates, repeat_loop, runs, some_arguments, some_fields, some_formals, sum, then_argument, then_fields, then_name, then_section, then_statement, value_section, variable_section, while_loop}
+use Rattle.ob0_tree.specs.Tree.{Sort, Tree, mapped_leaves, mapped_tree, occurrences, block, constant, constants, formals, further_name, further_section, item, items, maybe, module_text, names, procedure, section, type_definition, type_definitions, variable, variables, declares, declares_constant, declares_constants, declares_procedure, declares_type, declares_types, declares_variable, declares_variables, end, forms_block, is_module, listed, more, no_formals, none, one, some_formals, then_name, then_section, value_section, variable_section}
+use Rattle.ob0_tree.proofs.Mapped.{mapped_twice}
 use Rattle.ob0_language_names.specs.Mapping.{map_names}
 use Rattle.ob0_language_names.specs.Names.{Label, Name, naming_by_spelling, as_written, declared, same_name}
 use Rattle.ob0_language_names.specs.Occurrences.{IsFreeName, bindings, scopes_in_block, scopes_in_procedure, scopes_in_procedures, declares_ordinal, another_declaration_has_name}
 use Rattle.ob0_language_names.specs.Parts.{constant_names, formal_names, formal_sections, further_names, declared_type_names, names_in_list, procedure_name, section_constants, parameter_section_names, section_types, section_variables, variable_names}
-use Rattle.ob0_language_names.specs.Scopes.{Labelling, Scope, ordinal_after_names, ordinal_after_procedure, label_from_ordinal, body_scope, declare_names, declare_procedure_names, first_procedure_ordinal, first_type_ordinal, first_variable_ordinal, labels_of_declared_names, label_of, ordinal_of, predeclared_scope, scope_before_procedures, relabel_block, relabel_constant_section, relabel_constants, relabel_formals, relabel_names, relabel_procedure, relabel_procedures, relabel_section, relabel_sections, relabel_type_section, relabel_types, relabel_uses, relabel_variable_section, relabel_variables, renamed, same_ordinal, scope_before_types, scope_before_variables}
+use Rattle.ob0_language_names.specs.Scopes.{Labelling, Scope, ordinal_after_names, ordinal_after_procedure, label_from_ordinal, body_scope, declare_names, declare_procedure_names, first_procedure_ordinal, first_type_ordinal, first_variable_ordinal, labels_of_declared_names, label_of, ordinal_in_scope, predeclared_scope, scope_before_procedures, relabel_block, relabel_constant_section, relabel_constants, relabel_formals, relabel_names, relabel_procedure, relabel_procedures, relabel_parameter_section, relabel_parameter_sections, relabel_type_section, relabel_types, relabel_uses, relabel_variable_section, relabel_variables, renamed, same_ordinal, scope_before_types, scope_before_variables}
 use Rattle.ob0_language_names.proofs.DistinctNames.{new_name}
 use Rattle.ob0_language_names.proofs.Relabelled.{constants-section, formals-section, names-relabel, parameter_section_names-relabel, types-section, variables-section}
 use Rattle.ob0_language_names.proofs.RenamedDeclarations.{constants-labels, sections-labels, types-labels, variables-labels}
@@ -42,59 +43,11 @@ and-false false c e = refl
 module _ (f : ℕ → Name) (g : ℕ → ℕ) (look' keep' : Name → Name) (look keep look₂ keep₂ : Name → Label)
     (looks : (i : ℕ) → look (look' (f i)) ≡ look₂ (f i)) (keeps : (i : ℕ) → keep (keep' (f i)) ≡ keep₂ (f i)) where
   twice : {s : Sort} (t : Tree ℕ s) → map_names look keep (map_names look' keep' (mapped_tree f g t)) ≡ map_names look₂ keep₂ (mapped_tree f g t)
-  twice none = refl
-  twice (one t) = λ i. one (twice t i)
-  twice end = refl
-  twice (more t ts) = λ i. more (twice t i) (twice ts i)
-  twice (compares left compared) = λ i. compares (twice left i) (twice compared i)
-  twice (relates relation right) = λ i. relates relation (twice right i)
-  twice (sum sign first terms) = λ i. sum sign (twice first i) (twice terms i)
-  twice (adds operator t) = λ i. adds operator (twice t i)
-  twice (product first factors) = λ i. product (twice first i) (twice factors i)
-  twice (multiplies operator t) = λ i. multiplies operator (twice t i)
-  twice (designator name selectors) = λ i. designator (looks name i) (twice selectors i)
-  twice (integer n) = refl
-  twice (parenthesised e) = λ i. parenthesised (twice e i)
-  twice (negation t) = λ i. negation (twice t i)
-  twice (field name) = λ i. field (keeps name i)
-  twice (index e) = λ i. index (twice e i)
-  twice empty = refl
-  twice (assigns name selectors e) = λ i. assigns (looks name i) (twice selectors i) (twice e i)
-  twice (calls name args) = λ i. calls (looks name i) (twice args i)
-  twice (branches condition s elsifs rest) = λ i. branches (twice condition i) (twice s i) (twice elsifs i) (twice rest i)
-  twice (while_loop condition s) = λ i. while_loop (twice condition i) (twice s i)
-  twice (repeat_loop s condition) = λ i. repeat_loop (twice s i) (twice condition i)
-  twice no_arguments = refl
-  twice (some_arguments e es) = λ i. some_arguments (twice e i) (twice es i)
-  twice (then_argument e) = λ i. then_argument (twice e i)
-  twice (runs first statements) = λ i. runs (twice first i) (twice statements i)
-  twice (then_statement s) = λ i. then_statement (twice s i)
-  twice (elsif_branch condition s) = λ i. elsif_branch (twice condition i) (twice s i)
-  twice (else_branch s) = λ i. else_branch (twice s i)
-  twice (listed name others) = λ i. listed (keeps name i) (twice others i)
-  twice (then_name name) = λ i. then_name (keeps name i)
-  twice (named_type name) = λ i. named_type (looks name i)
-  twice (array_type size t) = λ i. array_type (twice size i) (twice t i)
-  twice (record_type first others) = λ i. record_type (twice first i) (twice others i)
-  twice no_fields = refl
-  twice (some_fields ns t) = λ i. some_fields (twice ns i) (twice t i)
-  twice (then_fields fs) = λ i. then_fields (twice fs i)
-  twice no_formals = refl
-  twice (some_formals first others) = λ i. some_formals (twice first i) (twice others i)
-  twice (value_section ns t) = λ i. value_section (twice ns i) (twice t i)
-  twice (variable_section ns t) = λ i. variable_section (twice ns i) (twice t i)
-  twice (then_section s) = λ i. then_section (twice s i)
-  twice (declares_constant name e) = λ i. declares_constant (keeps name i) (twice e i)
-  twice (declares_constants cs) = λ i. declares_constants (twice cs i)
-  twice (declares_type name t) = λ i. declares_type (keeps name i) (twice t i)
-  twice (declares_types ts) = λ i. declares_types (twice ts i)
-  twice (declares_variable ns t) = λ i. declares_variable (twice ns i) (twice t i)
-  twice (declares_variables vs) = λ i. declares_variables (twice vs i)
-  twice (declares_procedure name fs b closing) = λ i. declares_procedure (keeps name i) (twice fs i) (twice b i) (keeps closing i)
-  twice (declares cs ts vs ps) = λ i. declares (twice cs i) (twice ts i) (twice vs i) (twice ps i)
-  twice (begins s) = λ i. begins (twice s i)
-  twice (forms_block ds b) = λ i. forms_block (twice ds i) (twice b i)
-  twice (is_module name b closing) = λ i. is_module (keeps name i) (twice b i) (keeps closing i)
+  twice t =
+      ap (mapped_leaves look keep (λ n. n)) (mapped_twice look' keep' (λ n. n) f f g t)
+      ∙ (mapped_twice look keep (λ n. n) (λ i. look' (f i)) (λ i. keep' (f i)) g t
+      ∙ ((λ j. mapped_leaves (λ i. looks i j) (λ i. keeps i j) g t)
+      ∙ sym (mapped_twice look₂ keep₂ (λ n. n) f f g t)))
 
 -- f gives the name of each token, which is never the new name of the declaration d. `here` is a
 -- scope of the text, and `there` a scope of the text in which d has the new name.
@@ -107,7 +60,7 @@ module _ (d : ℕ) (new : Name) (f : ℕ → Name) (g : ℕ → ℕ) (fresh : (i
 
   -- holds if the replacement of each name has the same binding as the name
   abbrev Agrees : Scope Name → Scope Name → Type 0
-  Agrees there here = (y : Name) → same_name y new ≡ false → ordinal_of naming_by_spelling there (ren (ordinal_of naming_by_spelling here y) y) ≡ ordinal_of naming_by_spelling here y
+  Agrees there here = (y : Name) → same_name y new ≡ false → ordinal_in_scope naming_by_spelling there (ren (ordinal_in_scope naming_by_spelling here y) y) ≡ ordinal_in_scope naming_by_spelling here y
 
   abbrev AllNew : List Name → Type 0
   AllNew [] = Unit {0}
@@ -120,8 +73,8 @@ module _ (d : ℕ) (new : Name) (f : ℕ → Name) (g : ℕ → ℕ) (fresh : (i
   -- Declaring one more name in each scope keeps them in agreement.
 
   step : (there : Scope Name) (x y : Name) (o : Option ℕ) (j k : ℕ) (s e c : Bool) → same_name y x ≡ s → (k == d) ≡ e → same_ordinal o d ≡ c
-      → same_name x new ≡ false → same_name y new ≡ false → j ≡ k → ordinal_of naming_by_spelling there (if c then new else y) ≡ o
-      → ordinal_of naming_by_spelling ((if e then new else x, j) ∷ there) (if elim s [ true ↦ e | false ↦ c ] then new else y) ≡ elim s [ true ↦ Some k | false ↦ o ]
+      → same_name x new ≡ false → same_name y new ≡ false → j ≡ k → ordinal_in_scope naming_by_spelling there (if c then new else y) ≡ o
+      → ordinal_in_scope naming_by_spelling ((if e then new else x, j) ∷ there) (if elim s [ true ↦ e | false ↦ c ] then new else y) ≡ elim s [ true ↦ Some k | false ↦ o ]
   step there x y o j k true true c sy ke ce fx fy jk is = bound_here (same_name new new) j _ ((bytes_eq-Decides new new).1 refl) ∙ ap Some jk
   step there x y o j k true false c sy ke ce fx fy jk is = bound_here (same_name y x) j _ sy ∙ ap Some jk
   step there x y o j k false true true sy ke ce fx fy jk is =
@@ -136,8 +89,8 @@ module _ (d : ℕ) (new : Name) (f : ℕ → Name) (g : ℕ → ℕ) (fresh : (i
 
   agrees_one : (there here : Scope Name) (x : Name) (j k : ℕ) → same_name x new ≡ false → j ≡ k → Agrees there here → Agrees ((ren (Some k) x, j) ∷ there) ((x, k) ∷ here)
   agrees_one there here x j k fx jk agrees y fy =
-      let o = ordinal_of naming_by_spelling here y in
-      ap (λ b. ordinal_of naming_by_spelling ((ren (Some k) x, j) ∷ there) (if b then new else y)) (ordinal-step (same_name y x) k o)
+      let o = ordinal_in_scope naming_by_spelling here y in
+      ap (λ b. ordinal_in_scope naming_by_spelling ((ren (Some k) x, j) ∷ there) (if b then new else y)) (ordinal-step (same_name y x) k o)
       ∙ step there x y o j k (same_name y x) (k == d) (same_ordinal o d) refl refl refl fx fy jk (agrees y fy)
 
   agrees_names : (xs : List Name) → AllNew xs → (there here : Scope Name) (j k : ℕ) → j ≡ k → Agrees there here → Agrees (declare_names j (labels_of_declared_names ren k xs) there) (declare_names k xs here)
@@ -253,7 +206,7 @@ module _ (d : ℕ) (new : Name) (f : ℕ → Name) (g : ℕ → ℕ) (fresh : (i
       → relabel_uses naming_by_spelling label there (relabel_uses naming_by_spelling ren here (mapped_tree f g t)) ≡ relabel_uses naming_by_spelling label here (mapped_tree f g t)
   uses_same there here agrees t =
       twice f g (label_of naming_by_spelling ren here) (ren None) (label_of naming_by_spelling label there) (label None) (label_of naming_by_spelling label here) (label None)
-      (λ i. ap (λ o. label o (ren (ordinal_of naming_by_spelling here (f i)) (f i))) (agrees (f i) (fresh i)) ∙ label-kept (ordinal_of naming_by_spelling here (f i)) (f i)) (λ i. refl) t
+      (λ i. ap (λ o. label o (ren (ordinal_in_scope naming_by_spelling here (f i)) (f i))) (agrees (f i) (fresh i)) ∙ label-kept (ordinal_in_scope naming_by_spelling here (f i)) (f i)) (λ i. refl) t
 
   constants_same : (there here : Scope Name) (j k : ℕ) → j ≡ k → Agrees there here → (cs : Tree ℕ (items constant))
       → relabel_constants naming_by_spelling label there j (relabel_constants naming_by_spelling ren here k (mapped_tree f g cs)) ≡ relabel_constants naming_by_spelling label here k (mapped_tree f g cs)
@@ -279,18 +232,18 @@ module _ (d : ℕ) (new : Name) (f : ℕ → Name) (g : ℕ → ℕ) (fresh : (i
       (after_listed ren j k jk ns') (agrees_listed j k jk _ _ (names-relabel ren k ns') (new_listed ns) there here agrees) vs i)
 
   section_same : (there here : Scope Name) (j k : ℕ) → j ≡ k → Agrees there here → (s : Tree ℕ section)
-      → relabel_section naming_by_spelling label there j (relabel_section naming_by_spelling ren here k (mapped_tree f g s)) ≡ relabel_section naming_by_spelling label here k (mapped_tree f g s)
+      → relabel_parameter_section naming_by_spelling label there j (relabel_parameter_section naming_by_spelling ren here k (mapped_tree f g s)) ≡ relabel_parameter_section naming_by_spelling label here k (mapped_tree f g s)
   section_same there here j k jk agrees (value_section ns t) = λ i. value_section (names-twice naming_by_spelling ren j k jk (mapped_tree f g ns) i) (uses_same there here agrees t i)
   section_same there here j k jk agrees (variable_section ns t) = λ i. variable_section (names-twice naming_by_spelling ren j k jk (mapped_tree f g ns) i) (uses_same there here agrees t i)
 
   sections_same : (there here : Scope Name) (j k : ℕ) → j ≡ k → Agrees there here → (fs : Tree ℕ (items further_section))
-      → relabel_sections naming_by_spelling label there j (relabel_sections naming_by_spelling ren here k (mapped_tree f g fs)) ≡ relabel_sections naming_by_spelling label here k (mapped_tree f g fs)
+      → relabel_parameter_sections naming_by_spelling label there j (relabel_parameter_sections naming_by_spelling ren here k (mapped_tree f g fs)) ≡ relabel_parameter_sections naming_by_spelling label here k (mapped_tree f g fs)
   sections_same there here j k jk agrees end = refl
   sections_same there here j k jk agrees (more (then_section s) fs) =
       let s' : Tree Name section = mapped_tree f g s in λ i.
       more (then_section (section_same there here j k jk agrees s i))
-      (sections_same (declare_names j (parameter_section_names (relabel_section naming_by_spelling ren here k s')) there) (declare_names k (parameter_section_names s') here)
-      (ordinal_after_names j (parameter_section_names (relabel_section naming_by_spelling ren here k s'))) (ordinal_after_names k (parameter_section_names s')) (after_section naming_by_spelling ren here j k jk s')
+      (sections_same (declare_names j (parameter_section_names (relabel_parameter_section naming_by_spelling ren here k s')) there) (declare_names k (parameter_section_names s') here)
+      (ordinal_after_names j (parameter_section_names (relabel_parameter_section naming_by_spelling ren here k s'))) (ordinal_after_names k (parameter_section_names s')) (after_section naming_by_spelling ren here j k jk s')
       (agrees_listed j k jk _ _ (parameter_section_names-relabel naming_by_spelling ren here k s') (new_section s) there here agrees) fs i)
 
   formals_same : (there here : Scope Name) (j k : ℕ) → j ≡ k → Agrees there here → (fs : Tree ℕ (maybe formals))
@@ -300,8 +253,8 @@ module _ (d : ℕ) (new : Name) (f : ℕ → Name) (g : ℕ → ℕ) (fresh : (i
   formals_same there here j k jk agrees (one (some_formals s fs)) =
       let s' : Tree Name section = mapped_tree f g s in λ i.
       one (some_formals (section_same there here j k jk agrees s i)
-      (sections_same (declare_names j (parameter_section_names (relabel_section naming_by_spelling ren here k s')) there) (declare_names k (parameter_section_names s') here)
-      (ordinal_after_names j (parameter_section_names (relabel_section naming_by_spelling ren here k s'))) (ordinal_after_names k (parameter_section_names s')) (after_section naming_by_spelling ren here j k jk s')
+      (sections_same (declare_names j (parameter_section_names (relabel_parameter_section naming_by_spelling ren here k s')) there) (declare_names k (parameter_section_names s') here)
+      (ordinal_after_names j (parameter_section_names (relabel_parameter_section naming_by_spelling ren here k s'))) (ordinal_after_names k (parameter_section_names s')) (after_section naming_by_spelling ren here j k jk s')
       (agrees_listed j k jk _ _ (parameter_section_names-relabel naming_by_spelling ren here k s') (new_section s) there here agrees) fs i))
 
   constant_section_same : (there here : Scope Name) (j k : ℕ) → j ≡ k → Agrees there here → (cs : Tree ℕ (maybe constants))
@@ -368,11 +321,11 @@ module _ (d : ℕ) (new : Name) (f : ℕ → Name) (g : ℕ → ℕ) (fresh : (i
   Others [] = Unit {0}
   Others (b ∷ scope) = ((b.1 == d) ≡ false) × Others scope
 
-  bound_to_others : (scope : Scope Name) → Others scope → (y : Name) → same_ordinal (ordinal_of naming_by_spelling scope y) d ≡ false
+  bound_to_others : (scope : Scope Name) → Others scope → (y : Name) → same_ordinal (ordinal_in_scope naming_by_spelling scope y) d ≡ false
   bound_to_others [] others y = refl
   bound_to_others (b ∷ scope) others y = first (same_name y b.0) (bound_to_others scope others.1 y)
     where
-      first : (s : Bool) → same_ordinal (ordinal_of naming_by_spelling scope y) d ≡ false → same_ordinal (elim s [ true ↦ Some b.1 | false ↦ ordinal_of naming_by_spelling scope y ]) d ≡ false
+      first : (s : Bool) → same_ordinal (ordinal_in_scope naming_by_spelling scope y) d ≡ false → same_ordinal (elim s [ true ↦ Some b.1 | false ↦ ordinal_in_scope naming_by_spelling scope y ]) d ≡ false
       first true rest = others.0
       first false rest = rest
 
@@ -383,7 +336,7 @@ module _ (d : ℕ) (new : Name) (f : ℕ → Name) (g : ℕ → ℕ) (fresh : (i
 
   agrees_predeclared : 7 ≤ d → Agrees (predeclared_scope naming_by_spelling) (predeclared_scope naming_by_spelling)
   agrees_predeclared h y fy =
-      ap (λ b. ordinal_of naming_by_spelling (predeclared_scope naming_by_spelling) (if b then new else y)) (bound_to_others (predeclared_scope naming_by_spelling) (other_scope h) y)
+      ap (λ b. ordinal_in_scope naming_by_spelling (predeclared_scope naming_by_spelling) (if b then new else y)) (bound_to_others (predeclared_scope naming_by_spelling) (other_scope h) y)
 
   bindings_same : 7 ≤ d → (m : Tree ℕ module_text) → bindings (renamed (mapped_tree f g m) d new) ≡ bindings (mapped_tree f g m)
   bindings_same h (is_module x b closing) =

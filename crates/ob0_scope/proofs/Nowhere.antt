@@ -11,7 +11,7 @@ use Rattle.ob0_language_names.specs.Occurrences.{IsFreeName, first_name_conflict
 use Rattle.ob0_scope.specs.declared.name_conflicts.FirstConflict as reported
 use Rattle.ob0_scope.specs.Renames.{OccursNowhere, namesake}
 use Rattle.ob0_scope.proofs.Captured.{free_where_none, no_namesake}
-use Rattle.ob0_scope.proofs.FirstCaptures.{free_means_no_conflict-holds}
+use Rattle.ob0_scope.proofs.FirstCaptures.{name_is_free_iff_no_conflict-holds}
 use Rattle.ob0_scope.proofs.NewNames.{new_is_free}
 
 pub one_more : (source : TextWithTokens) (x : Name) (n : ℕ) → ((i : ℕ) → i < n → same_name (token_text_at source i) x ≡ false) → same_name (token_text_at source n) x ≡ false
@@ -39,7 +39,7 @@ nowhere_is_free m source d new h is all =
     new_is_free d new (token_text_at m.source) (token_value_at m.source) (subst (λ (s : TextWithTokens). OccursNowhere s new) is all) h (tree_of m)
 
 pub nowhere_captured : (m : ParsedModule) (source : TextWithTokens) (d : ℕ) (new : Name) → 7 ≤ d → source ≡ m.source → OccursNowhere source new → None ≡ first_name_conflict (named_tree_of m) d new
-nowhere_captured m source d new h is all = sym ((free_means_no_conflict-holds (named_tree_of m) d new).1 (nowhere_is_free m source d new h is all))
+nowhere_captured m source d new h is all = sym ((name_is_free_iff_no_conflict-holds (named_tree_of m) d new).1 (nowhere_is_free m source d new h is all))
 
 pub nowhere_namesake : (m : ParsedModule) (source : TextWithTokens) (d : ℕ) (new : Name) → 7 ≤ d → source ≡ m.source → OccursNowhere source new → None ≡ namesake (named_tree_of m) d new
 nowhere_namesake m source d new h is all = no_namesake (named_tree_of m) d new (nowhere_is_free m source d new h is all).0

@@ -19,12 +19,12 @@ use Rattle.ob0_tree.specs.declared.tree.Role.TheVariants as role
 use Rattle.ob0_tree.proofs.MappedIdentifiers.{leaves_mapped}
 use Rattle.ob0_language_names.specs.Names.{Label, naming_by_spelling, declared, same_label}
 use Rattle.ob0_language_names.specs.Occurrences.{label_ordinal}
-use Rattle.ob0_scope_table.specs.Resolution.{IsResolution, Resolution, label_at, ordinal_in, span_at}
+use Rattle.ob0_scope_table.specs.Resolution.{IsResolution, Resolution, label_from_table, ordinal_in, span_at}
 use Rattle.ob0_scope_table.specs.Spans.{span_or_empty}
 use Rattle.ob0_language_names.specs.Scopes.{label_from_ordinal, same_ordinal}
 use Rattle.ob0_scope.specs.declared.naming.BoundName as named
 use Rattle.ob0_scope.specs.Listing.{is_identifier, is_identifier_at_offset}
-use Rattle.ob0_scope_table.specs.Spans.{is_on_span}
+use Rattle.ob0_scope_table.specs.Spans.{is_in_span_or_at_end}
 use Rattle.ob0_scope.specs.NamesAtPlaces.{LabelledIdentifier, is_declaring, name_at_offset, bound_name_of, is_bound_to, labelled_identifiers, tokens_bound_to}
 
 -- returns an identifier with the label of its token
@@ -35,16 +35,16 @@ zipped : (label : ℕ → Label) (xs : List (Role × ℕ)) → zip xs (map label
 zipped label [] = refl
 zipped label (x ∷ xs) = λ i. bound_by label x ∷ zipped label xs i
 
-pub bound_by_table : (r : Resolution) → IsResolution r → labelled_identifiers r.module_read ≡ map (bound_by (label_at r.module_read.source r.ordinals)) (identifiers role.Declaring (tree_of r.module_read))
+pub bound_by_table : (r : Resolution) → IsResolution r → labelled_identifiers r.module_read ≡ map (bound_by (label_from_table r.module_read.source r.ordinals)) (identifiers role.Declaring (tree_of r.module_read))
 bound_by_table r is =
     let m = r.module_read in
     let ids = identifiers role.Declaring (tree_of m) in
-    ap (zip ids) (ap identifier_names is.numbering ∙ leaves_mapped (label_at m.source r.ordinals) (token_value_at m.source) (tree_of m))
-    ∙ zipped (label_at m.source r.ordinals) ids
+    ap (zip ids) (ap identifier_names is.numbering ∙ leaves_mapped (label_from_table m.source r.ordinals) (token_value_at m.source) (tree_of m))
+    ∙ zipped (label_from_table m.source r.ordinals) ids
 
 -- references
 
-bound_to : (source : TextWithTokens) (ordinals : List (Option ℕ)) (d i : ℕ) → same_label (label_at source ordinals i) (declared d) ≡ same_ordinal (ordinal_in ordinals i) d
+bound_to : (source : TextWithTokens) (ordinals : List (Option ℕ)) (d i : ℕ) → same_label (label_from_table source ordinals i) (declared d) ≡ same_ordinal (ordinal_in ordinals i) d
 bound_to source ordinals d i = one (ordinal_in ordinals i)
   where
     one : (o : Option ℕ) → same_label (label_from_ordinal naming_by_spelling o (token_text_at source i)) (declared d) ≡ same_ordinal o d
@@ -61,15 +61,15 @@ tokens_listed ordinals include d xs = map (λ x. x.1) (filter (is_listed ordinal
 
 -- Filtering the identifiers and filtering the labelled identifiers give the same tokens.
 listed : (source : TextWithTokens) (ordinals : List (Option ℕ)) (include : Bool) (d : ℕ) (xs : List (Role × ℕ))
-    → tokens_listed ordinals include d xs ≡ map (λ (s : LabelledIdentifier). s.0.1) (filter (is_bound_to include d) (map (bound_by (label_at source ordinals)) xs))
+    → tokens_listed ordinals include d xs ≡ map (λ (s : LabelledIdentifier). s.0.1) (filter (is_bound_to include d) (map (bound_by (label_from_table source ordinals)) xs))
 listed source ordinals include d [] = refl
 listed source ordinals include d (x ∷ xs) =
-    let found = filter (is_bound_to include d) (map (bound_by (label_at source ordinals)) xs) in
+    let found = filter (is_bound_to include d) (map (bound_by (label_from_table source ordinals)) xs) in
     one (is_listed ordinals include d x) (filter (is_listed ordinals include d) xs) found (listed source ordinals include d xs)
-    ∙ ap (λ b. map (λ (s : LabelledIdentifier). s.0.1) (cond (b && (include || not (is_declaring x.0))) (bound_by (label_at source ordinals) x ∷ found) found)) (sym (bound_to source ordinals d x.1))
+    ∙ ap (λ b. map (λ (s : LabelledIdentifier). s.0.1) (cond (b && (include || not (is_declaring x.0))) (bound_by (label_from_table source ordinals) x ∷ found) found)) (sym (bound_to source ordinals d x.1))
   where
     one : (b : Bool) (later : List (Role × ℕ)) (found : List LabelledIdentifier) → map (λ (x : Role × ℕ). x.1) later ≡ map (λ (s : LabelledIdentifier). s.0.1) found
-        → map (λ (x : Role × ℕ). x.1) (cond b (x ∷ later) later) ≡ map (λ (s : LabelledIdentifier). s.0.1) (cond b (bound_by (label_at source ordinals) x ∷ found) found)
+        → map (λ (x : Role × ℕ). x.1) (cond b (x ∷ later) later) ≡ map (λ (s : LabelledIdentifier). s.0.1) (cond b (bound_by (label_from_table source ordinals) x ∷ found) found)
     one true later found e = ap (λ z. x.1 ∷ z) e
     one false later found e = e
 
@@ -107,14 +107,14 @@ identifier_first i (kind.ReservedWord word) = refl
 identifier_first i (kind.Integer value) = refl
 identifier_first i (kind.Symbol symbol) = refl
 
-found_from : (offset : ℕ) (span : ℕ → Span) (i : ℕ) (ts : List Token) → SpansAre span i ts → find (λ i. is_on_span offset (span i)) (identifier_indexes_from i ts) ≡ position_from (is_identifier_at_offset offset) i ts
+found_from : (offset : ℕ) (span : ℕ → Span) (i : ℕ) (ts : List Token) → SpansAre span i ts → find (λ i. is_in_span_or_at_end offset (span i)) (identifier_indexes_from i ts) ≡ position_from (is_identifier_at_offset offset) i ts
 found_from offset span i [] h = refl
 found_from offset span i (t ∷ ts) h =
     let later = identifier_indexes_from (i + 1) ts in
-    ap (λ z. find (λ i. is_on_span offset (span i)) (z ++ later)) (identifier_first i t.kind)
-    ∙ (one (is_identifier t.kind) later ∙ (λ j. cond (is_identifier t.kind && is_on_span offset (h.0 j)) (Some i) (found_from offset span (i + 1) ts h.1 j)))
+    ap (λ z. find (λ i. is_in_span_or_at_end offset (span i)) (z ++ later)) (identifier_first i t.kind)
+    ∙ (one (is_identifier t.kind) later ∙ (λ j. cond (is_identifier t.kind && is_in_span_or_at_end offset (h.0 j)) (Some i) (found_from offset span (i + 1) ts h.1 j)))
   where
-    one : (b : Bool) (later : List ℕ) → find (λ i. is_on_span offset (span i)) (cond b (i ∷ []) [] ++ later) ≡ cond (b && is_on_span offset (span i)) (Some i) (find (λ i. is_on_span offset (span i)) later)
+    one : (b : Bool) (later : List ℕ) → find (λ i. is_in_span_or_at_end offset (span i)) (cond b (i ∷ []) [] ++ later) ≡ cond (b && is_in_span_or_at_end offset (span i)) (Some i) (find (λ i. is_in_span_or_at_end offset (span i)) later)
     one true later = refl
     one false later = refl
 
@@ -122,7 +122,7 @@ found_from offset span i (t ∷ ts) h =
 abbrev pub named_so : List (Option ℕ) → ℕ → Option named.BoundName
 named_so ordinals i = option_map {U = named.BoundName} (λ ordinal. record { token = i; ordinal = ordinal }) (ordinal_in ordinals i)
 
-label_back : (source : TextWithTokens) (ordinals : List (Option ℕ)) (x : Role × ℕ) → bound_name_of (bound_by (label_at source ordinals) x) ≡ named_so ordinals x.1
+label_back : (source : TextWithTokens) (ordinals : List (Option ℕ)) (x : Role × ℕ) → bound_name_of (bound_by (label_from_table source ordinals) x) ≡ named_so ordinals x.1
 label_back source ordinals x = one (ordinal_in ordinals x.1)
   where
     one : (o : Option ℕ) → option_map {U = named.BoundName} (λ ordinal. record { token = x.1; ordinal = ordinal }) (label_ordinal (label_from_ordinal naming_by_spelling o (token_text_at source x.1))) ≡ option_map {U = named.BoundName} (λ ordinal. record { token = x.1; ordinal = ordinal }) o
@@ -130,13 +130,13 @@ label_back source ordinals x = one (ordinal_in ordinals x.1)
     one (Some k) = refl
 
 found_named : (source : TextWithTokens) (ordinals : List (Option ℕ)) (offset : ℕ) (xs : List (Role × ℕ))
-    → option_and_then bound_name_of (find (λ (s : LabelledIdentifier). is_on_span offset (span_at source s.0.1)) (map (bound_by (label_at source ordinals)) xs))
-    ≡ option_and_then (named_so ordinals) (find (λ i. is_on_span offset (span_at source i)) (names_without_roles xs))
+    → option_and_then bound_name_of (find (λ (s : LabelledIdentifier). is_in_span_or_at_end offset (span_at source s.0.1)) (map (bound_by (label_from_table source ordinals)) xs))
+    ≡ option_and_then (named_so ordinals) (find (λ i. is_in_span_or_at_end offset (span_at source i)) (names_without_roles xs))
 found_named source ordinals offset [] = refl
-found_named source ordinals offset (x ∷ xs) = one (is_on_span offset (span_at source x.1)) _ _ (found_named source ordinals offset xs)
+found_named source ordinals offset (x ∷ xs) = one (is_in_span_or_at_end offset (span_at source x.1)) _ _ (found_named source ordinals offset xs)
   where
     one : (b : Bool) (found : Option LabelledIdentifier) (later : Option ℕ) → option_and_then bound_name_of found ≡ option_and_then (named_so ordinals) later
-        → option_and_then bound_name_of (cond b (Some (bound_by (label_at source ordinals) x)) found) ≡ option_and_then (named_so ordinals) (cond b (Some x.1) later)
+        → option_and_then bound_name_of (cond b (Some (bound_by (label_from_table source ordinals) x)) found) ≡ option_and_then (named_so ordinals) (cond b (Some x.1) later)
     one true found later e = label_back source ordinals x
     one false found later e = e
 
@@ -145,6 +145,6 @@ pub name_found : (r : Resolution) (offset : ℕ) → IsResolution r → option_a
 name_found r offset is =
     let m = r.module_read in
     let spans = all_spans [] m.source.tokens in
-    sym (ap (λ xs. option_and_then bound_name_of (find (λ (s : LabelledIdentifier). is_on_span offset (span_at m.source s.0.1)) xs)) (bound_by_table r is)
+    sym (ap (λ xs. option_and_then bound_name_of (find (λ (s : LabelledIdentifier). is_in_span_or_at_end offset (span_at m.source s.0.1)) xs)) (bound_by_table r is)
     ∙ (found_named m.source r.ordinals offset (identifiers role.Declaring (tree_of m))
-    ∙ ap (option_and_then (named_so r.ordinals)) (ap (find (λ i. is_on_span offset (span_at m.source i))) (leaves_parsed m is.parsed) ∙ found_from offset (span_at m.source) 0 m.source.tokens spans)))
+    ∙ ap (option_and_then (named_so r.ordinals)) (ap (find (λ i. is_in_span_or_at_end offset (span_at m.source i))) (leaves_parsed m is.parsed) ∙ found_from offset (span_at m.source) 0 m.source.tokens spans)))

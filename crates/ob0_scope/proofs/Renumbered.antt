@@ -6,17 +6,19 @@ use Rattle.ob0_tree.specs.ParsedModule.{named_tree_of, tree_of}
 use Rattle.ob0_tree.specs.Places.{token_text_at, token_value_at}
 use Rattle.ob0_tree.specs.Tree.{mapped_tree, occurrences}
 use Rattle.ob0_language_names.specs.Names.{Label, Name, naming_by_spelling, as_written}
-use Rattle.ob0_language_names.specs.Occurrences.{bindings, first_difference, label_ordinal, same_binding}
+use Rattle.ob0_language_names.specs.Occurrences.{bindings, first_binding_difference, label_ordinal, same_binding}
 use Rattle.ob0_scope.specs.Renames.{AreOrdinalsAfterRename, have_same_binding, spellings_after_rename}
-use Rattle.ob0_scope_table.specs.Resolution.{IsResolution, Resolution, ordinal_and_spelling_at, label_at, ordinal_in, ordinal_and_spelling}
+use Rattle.ob0_scope_table.specs.Resolution.{IsResolution, Resolution, ordinal_and_spelling_at, label_from_table, ordinal_in, ordinal_and_spelling}
 use Rattle.ob0_language_names.specs.Scopes.{label_from_ordinal, numbered, renamed, same_ordinal}
 use Rattle.ob0_scope_numbering.specs.Marks.{with_marks}
-use Rattle.ob0_scope_numbering.specs.MarkWalk.{WalkState, initial_walk_state, visit_module}
+use Rattle.ob0_scope_numbering.specs.MarkWalk.{WalkState, initial_walk_state}
+use Rattle.ob0_scope_numbering.specs.IdentifierWalk.{visit_module}
 use Rattle.ob0_scope_numbering.specs.Written.{spelling_at, tree_with_spellings}
 use Rattle.ob0_scope_table.proofs.Bound.{bindings_by_table}
 use Rattle.ob0_scope.proofs.FirstCaptures.{same_binding-refl}
-use Rattle.ob0_scope.proofs.Fused.{mapped_tree-mapped_tree, relabel_module-mapped_tree}
-use Rattle.ob0_language_names.proofs.OccurrencesMapped.{occurrences-mapped_tree}
+use Rattle.ob0_scope.proofs.Fused.{relabel_module-mapped_tree}
+use Rattle.ob0_tree.proofs.Mapped.{mapped_twice}
+use Rattle.ob0_language_names.proofs.OccurrencesMapped.{occurrences-mapped}
 use Rattle.ob0_scope_numbering.proofs.Passing.{at_start, module_passed}
 use Rattle.ob0_scope_numbering.proofs.Tables.{marks_in_table}
 
@@ -28,7 +30,7 @@ pub renamed_spelled : (r : Resolution) (d : ℕ) (new : Name) → IsResolution r
 renamed_spelled r d new is =
     let m = r.module_read in
     relabel_module-mapped_tree naming_by_spelling (new_or d new) ordinal_and_spelling (named_tree_of m)
-    ∙ (ap (mapped_tree (new_or d new) (λ n. n)) is.binding ∙ mapped_tree-mapped_tree (new_or d new) (ordinal_and_spelling_at m.source r.ordinals) (token_value_at m.source) (tree_of m))
+    ∙ (ap (mapped_tree (new_or d new) (λ n. n)) is.binding ∙ mapped_twice (new_or d new) (new_or d new) (λ n. n) (ordinal_and_spelling_at m.source r.ordinals) (ordinal_and_spelling_at m.source r.ordinals) (token_value_at m.source) (tree_of m))
 
 pub renumbered : (r : Resolution) (d : ℕ) (new : Name) (v : WalkState) (ordinals : List (Option ℕ)) → IsResolution r → v ≡ visit_module (tree_of r.module_read) (initial_walk_state (spellings_after_rename r d new))
     → ordinals ≡ with_marks (replicate (length r.module_read.source.tokens) None) v.marks → AreOrdinalsAfterRename r d new ordinals
@@ -44,7 +46,7 @@ renamed_bindings : (r : Resolution) (d : ℕ) (new : Name) (ordinals : List (Opt
 renamed_bindings r d new ordinals is numbering =
     let m = r.module_read in
     let label : ℕ → Label = λ i. label_from_ordinal naming_by_spelling (ordinal_in ordinals i) (spelling_at (spellings_after_rename r d new) i) in
-    ap occurrences numbering ∙ (occurrences-mapped_tree label (token_value_at m.source) (tree_of m) ∙ ap (map label) (sym is.occurring))
+    ap occurrences numbering ∙ (occurrences-mapped label label (token_value_at m.source) (tree_of m) ∙ ap (map label) (sym is.occurring))
 
 pub ordinals_back : (written : ℕ → Name) (ordinals : List (Option ℕ)) (is : List ℕ) → map label_ordinal (map (λ i. label_from_ordinal naming_by_spelling (ordinal_in ordinals i) (written i)) is) ≡ map (ordinal_in ordinals) is
 ordinals_back written ordinals [] = refl
@@ -80,10 +82,10 @@ onward-zero (Some n) = ap Some (omega arith)
 
 first_by_index : (d : ℕ) (new : Name) (text : ℕ → Name) (ordinals old : List (Option ℕ)) (k : ℕ) (is : List ℕ)
     → position_from (λ i. not (have_same_binding (ordinal_in ordinals i) (ordinal_in old i))) k is
-    ≡ onward k (first_difference (map (λ i. label_from_ordinal naming_by_spelling (ordinal_in ordinals i) (if same_ordinal (ordinal_in old i) d then new else text i)) is) (map (λ i. label_from_ordinal naming_by_spelling (ordinal_in old i) (text i)) is))
+    ≡ onward k (first_binding_difference (map (λ i. label_from_ordinal naming_by_spelling (ordinal_in ordinals i) (if same_ordinal (ordinal_in old i) d then new else text i)) is) (map (λ i. label_from_ordinal naming_by_spelling (ordinal_in old i) (text i)) is))
 first_by_index d new text ordinals old k [] = refl
 first_by_index d new text ordinals old k (i ∷ is) =
-    let rest = first_difference (map (λ i. label_from_ordinal naming_by_spelling (ordinal_in ordinals i) (if same_ordinal (ordinal_in old i) d then new else text i)) is) (map (λ i. label_from_ordinal naming_by_spelling (ordinal_in old i) (text i)) is) in
+    let rest = first_binding_difference (map (λ i. label_from_ordinal naming_by_spelling (ordinal_in ordinals i) (if same_ordinal (ordinal_in old i) d then new else text i)) is) (map (λ i. label_from_ordinal naming_by_spelling (ordinal_in old i) (text i)) is) in
     one (have_same_binding (ordinal_in ordinals i) (ordinal_in old i)) rest (first_by_index d new text ordinals old (k + 1) is)
     ∙ ap (λ b. onward k (if b then option_map suc rest else Some 0)) (sym (alike d new (text i) (ordinal_in ordinals i) (ordinal_in old i)))
   where
@@ -92,9 +94,9 @@ first_by_index d new text ordinals old k (i ∷ is) =
     one false rest e = ap Some (omega arith)
 
 pub first_changed_is : (r : Resolution) (d : ℕ) (new : Name) (ordinals : List (Option ℕ)) → IsResolution r → AreOrdinalsAfterRename r d new ordinals
-    → position_from (λ i. not (have_same_binding (ordinal_in ordinals i) (ordinal_in r.ordinals i))) 0 r.uses ≡ first_difference (bindings (renamed (named_tree_of r.module_read) d new)) (bindings (named_tree_of r.module_read))
+    → position_from (λ i. not (have_same_binding (ordinal_in ordinals i) (ordinal_in r.ordinals i))) 0 r.uses ≡ first_binding_difference (bindings (renamed (named_tree_of r.module_read) d new)) (bindings (named_tree_of r.module_read))
 first_changed_is r d new ordinals is numbering =
     let m = r.module_read in
-    let here = bindings_by_table m r.ordinals is.numbering ∙ ap (map (label_at m.source r.ordinals)) (sym is.occurring) in
+    let here = bindings_by_table m r.ordinals is.numbering ∙ ap (map (label_from_table m.source r.ordinals)) (sym is.occurring) in
     first_by_index d new (token_text_at m.source) ordinals r.ordinals 0 r.uses
-    ∙ (onward-zero _ ∙ (λ i. first_difference (sym (renamed_bindings r d new ordinals is numbering) i) (sym here i)))
+    ∙ (onward-zero _ ∙ (λ i. first_binding_difference (sym (renamed_bindings r d new ordinals is numbering) i) (sym here i)))

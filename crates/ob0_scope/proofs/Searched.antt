@@ -13,7 +13,7 @@ use Rattle.ob0_language_names.specs.Parts.{constant_names, formal_names, formal_
 use Rattle.ob0_scope.specs.Renames.{namesake, namesake_in_scopes, other_declaration_with_name}
 use Rattle.ob0_scope_table.specs.Resolution.{IsResolution, Resolution, ordinal_and_spelling_at, ordinal_in, ordinal_and_spelling}
 use Rattle.ob0_language_names.specs.Scopes.{Scope, ordinal_after_names, ordinal_after_procedure, body_scope, declare_names, first_procedure_ordinal, predeclared_scope, scope_before_procedures, relabel_block, relabel_formals, relabel_procedure, relabel_procedures, relabel_module, same_ordinal}
-use Rattle.ob0_scope.specs.BlockSearches.{BlockSearch, namesake_in_block, namesake_in_procedure, namesake_in_procedures, is_bound_to_declaration, last_namesake, namesake_among}
+use Rattle.ob0_scope.specs.BlockSearches.{NamesakeSearchView, namesake_in_block, namesake_in_procedure, namesake_in_procedures, is_bound_to_declaration, last_namesake, namesake_among}
 use Rattle.ob0_scope.proofs.Finding.{or_assoc}
 use Rattle.ob0_language_names.proofs.DistinctNames.{labels_in, onto, onto-append}
 use Rattle.ob0_language_names.proofs.RenamedDeclarations.{labels_in-block, labels_in-names, sections-labels}
@@ -122,7 +122,7 @@ module _ (d : ℕ) (new : Name) where
     abbrev value : ℕ → ℕ
     value i = token_value_at r.module_read.source i
 
-    abbrev sought : BlockSearch
+    abbrev sought : NamesakeSearchView
     sought = record { source = r.module_read.source; ordinals = r.ordinals; declaration = d; new = new }
 
     any_bound : (is : List ℕ) → list_any (is_bound_to_declaration sought) is ≡ list_any is_d (map bound is)

@@ -20,15 +20,15 @@ use Rattle.ob0_language_names.specs.Names.{Label, Name, Naming, naming_by_spelli
 use Rattle.ob0_language_names.specs.Occurrences.{label_ordinal}
 use Rattle.ob0_language_names.specs.Parts.{constant_names, formal_names, formal_sections, further_names, declared_type_names, names_in_list, procedure_name, section_constants, parameter_section_names, section_types, section_variables, variable_names}
 use Rattle.ob0_scope_table.specs.Resolution.{IsResolution, Resolution, ordinal_in}
-use Rattle.ob0_language_names.specs.Scopes.{Labelling, Scope, ordinal_after_block, ordinal_after_names, ordinal_after_procedure, ordinal_after_procedures, label_from_ordinal, declare_names, declare_procedure_names, label_of, ordinal_of, predeclared_scope, relabel_block, relabel_constant_section, relabel_constants, relabel_formals, relabel_procedure, relabel_procedures, relabel_section, relabel_sections, relabel_type_section, relabel_types, relabel_uses, relabel_variable_section, relabel_variables, relabel_module, same_ordinal}
-use Rattle.ob0_language_names.specs.OccurrenceLookup.{naming_for_lookup_of, resolve_name_at_occurrences, resolve_at_occurrence}
+use Rattle.ob0_language_names.specs.Scopes.{Labelling, Scope, ordinal_after_block, ordinal_after_names, ordinal_after_procedure, ordinal_after_procedures, label_from_ordinal, declare_names, declare_procedure_names, label_of, ordinal_in_scope, predeclared_scope, relabel_block, relabel_constant_section, relabel_constants, relabel_formals, relabel_procedure, relabel_procedures, relabel_parameter_section, relabel_parameter_sections, relabel_type_section, relabel_types, relabel_uses, relabel_variable_section, relabel_variables, relabel_module, same_ordinal}
+use Rattle.ob0_language_names.specs.OccurrenceLookup.{naming_for_lookup_of, resolve_name_at_occurrences, resolve_name_at_occurrence}
 use Rattle.ob0_scope_numbering.specs.Marks.{zero_mark_at}
 use Rattle.ob0_scope_numbering.specs.Marks.{with_marks}
-use Rattle.ob0_scope_numbering.specs.MarkWalk.{WalkState, initial_walk_state, visit_module}
+use Rattle.ob0_scope_numbering.specs.MarkWalk.{WalkState, initial_walk_state}
+use Rattle.ob0_scope_numbering.specs.IdentifierWalk.{visit_module}
 use Rattle.ob0_scope_numbering.specs.Written.{Spellings, spelling_at}
 use Rattle.ob0_scope.proofs.Fused.{relabel_module-mapped_tree}
-use Rattle.ob0_language_names.proofs.OccurrenceNames.{occurrences-map_names}
-use Rattle.ob0_language_names.proofs.OccurrencesMapped.{occurrences-mapped_tree}
+use Rattle.ob0_language_names.proofs.OccurrencesMapped.{occurrences-mapped}
 use Rattle.ob0_scope_numbering.proofs.Passing.{at_start, module_passed, tokens_of}
 use Rattle.ob0_scope_numbering.proofs.Tables.{kept_below, marks_in_table}
 
@@ -64,26 +64,26 @@ looked_up-written y f h ((role.ModuleName, i) ∷ xs) a = looked_up-written y f 
 abbrev forget : {N : Type 0} → Labelling N (Option ℕ)
 forget ordinal x = ordinal
 
-looked : (y : Name) (scope : Scope Name) (x : Name) → ordinal_of naming_by_spelling scope y ≡ ordinal_of (naming_for_lookup_of y) scope x
+looked : (y : Name) (scope : Scope Name) (x : Name) → ordinal_in_scope naming_by_spelling scope y ≡ ordinal_in_scope (naming_for_lookup_of y) scope x
 looked y [] x = refl
 looked y (b ∷ scope) x =
-    elim (same_name y b.0) as (λ v. (elim v [ true ↦ Some b.1 | false ↦ ordinal_of naming_by_spelling scope y ]) ≡ (elim v [ true ↦ Some b.1 | false ↦ ordinal_of (naming_for_lookup_of y) scope x ]))
+    elim (same_name y b.0) as (λ v. (elim v [ true ↦ Some b.1 | false ↦ ordinal_in_scope naming_by_spelling scope y ]) ≡ (elim v [ true ↦ Some b.1 | false ↦ ordinal_in_scope (naming_for_lookup_of y) scope x ]))
     [ true ↦ refl | false ↦ looked y scope x ]
 
 module _ (y : Name) (f h : ℕ → Name) (g : ℕ → ℕ) where
   names_alike : (scope : Scope Name) (is : List ℕ) → AllWritten y f is → map (label_of naming_by_spelling forget scope) (map f is) ≡ map (label_of (naming_for_lookup_of y) forget scope) (map h is)
   names_alike scope [] a = refl
-  names_alike scope (i ∷ is) a = λ j. (ap (ordinal_of naming_by_spelling scope) a.0 ∙ looked y scope (h i)) j ∷ names_alike scope is a.1 j
+  names_alike scope (i ∷ is) a = λ j. (ap (ordinal_in_scope naming_by_spelling scope) a.0 ∙ looked y scope (h i)) j ∷ names_alike scope is a.1 j
 
   uses_alike : {s : Sort} (r : Role) → ((n : ℕ) (xs : List (Role × ℕ)) → looked_up_only ((r, n) ∷ xs) ≡ looked_up_only xs) → (scope : Scope Name) (t : Tree ℕ s) → AllSought y f h (identifiers r t)
       → occurrences (relabel_uses naming_by_spelling forget scope (mapped_tree f g t)) ≡ occurrences (relabel_uses (naming_for_lookup_of y) forget scope (mapped_tree h g t))
   uses_alike r other scope t a =
       let written = subst (AllWritten y f) (looked_up-occurrences r other t) (looked_up-written y f h (identifiers r t) a) in
-      occurrences-map_names (label_of naming_by_spelling forget scope) (forget None) (mapped_tree f g t)
-      ∙ (ap (map (label_of naming_by_spelling forget scope)) (occurrences-mapped_tree f g t)
+      occurrences-mapped (label_of naming_by_spelling forget scope) (forget None) (λ n. n) (mapped_tree f g t)
+      ∙ (ap (map (label_of naming_by_spelling forget scope)) (occurrences-mapped f f g t)
       ∙ (names_alike scope (occurrences t) written
-      ∙ (sym (ap (map (label_of (naming_for_lookup_of y) forget scope)) (occurrences-mapped_tree h g t))
-      ∙ sym (occurrences-map_names (label_of (naming_for_lookup_of y) forget scope) (forget None) (mapped_tree h g t)))))
+      ∙ (sym (ap (map (label_of (naming_for_lookup_of y) forget scope)) (occurrences-mapped h h g t))
+      ∙ sym (occurrences-mapped (label_of (naming_for_lookup_of y) forget scope) (forget None) (λ n. n) (mapped_tree h g t)))))
 
   part_alike : {s : Sort} (scope : Scope Name) (t : Tree ℕ s) → AllSought y f h (identifiers role.Declaring t)
       → occurrences (relabel_uses naming_by_spelling forget scope (mapped_tree f g t)) ≡ occurrences (relabel_uses (naming_for_lookup_of y) forget scope (mapped_tree h g t))
@@ -224,17 +224,17 @@ module _ (y : Name) (f h : ℕ → Name) (g : ℕ → ℕ) where
       ++ (ap (λ xs. occurrences (relabel_variables naming_by_spelling forget (declare_names k xs scope) (ordinal_after_names k xs) (mapped_tree f g gs))) (names_same ns c.0) ∙ variables_alike (declare_names k (names_in_list (mapped_tree h g ns)) scope) (ordinal_after_names k (names_in_list (mapped_tree h g ns))) gs b.1) i
 
   section_alike : (scope : Scope Name) (k : ℕ) (s : Tree ℕ section) → AllSought y f h (identifiers role.Declaring s)
-      → occurrences (relabel_section naming_by_spelling forget scope k (mapped_tree f g s)) ≡ occurrences (relabel_section (naming_for_lookup_of y) forget scope k (mapped_tree h g s))
+      → occurrences (relabel_parameter_section naming_by_spelling forget scope k (mapped_tree f g s)) ≡ occurrences (relabel_parameter_section (naming_for_lookup_of y) forget scope k (mapped_tree h g s))
   section_alike scope k (value_section ns t) a = part_alike scope t (split y f h (identifiers role.Declaring ns) (identifiers role.Declaring t) a).1
   section_alike scope k (variable_section ns t) a = part_alike scope t (split y f h (identifiers role.Declaring ns) (identifiers role.Declaring t) a).1
 
   sections_alike : (scope : Scope Name) (k : ℕ) (fs : Tree ℕ (items further_section)) → AllSought y f h (identifiers role.Declaring fs)
-      → occurrences (relabel_sections naming_by_spelling forget scope k (mapped_tree f g fs)) ≡ occurrences (relabel_sections (naming_for_lookup_of y) forget scope k (mapped_tree h g fs))
+      → occurrences (relabel_parameter_sections naming_by_spelling forget scope k (mapped_tree f g fs)) ≡ occurrences (relabel_parameter_sections (naming_for_lookup_of y) forget scope k (mapped_tree h g fs))
   sections_alike scope k end a = refl
   sections_alike scope k (more (then_section s) fs) a =
       let b = split y f h (identifiers role.Declaring s) (identifiers role.Declaring fs) a in
       λ i. section_alike scope k s b.0 i
-      ++ (ap (λ xs. occurrences (relabel_sections naming_by_spelling forget (declare_names k xs scope) (ordinal_after_names k xs) (mapped_tree f g fs))) (section_same s b.0) ∙ sections_alike (declare_names k (parameter_section_names (mapped_tree h g s)) scope) (ordinal_after_names k (parameter_section_names (mapped_tree h g s))) fs b.1) i
+      ++ (ap (λ xs. occurrences (relabel_parameter_sections naming_by_spelling forget (declare_names k xs scope) (ordinal_after_names k xs) (mapped_tree f g fs))) (section_same s b.0) ∙ sections_alike (declare_names k (parameter_section_names (mapped_tree h g s)) scope) (ordinal_after_names k (parameter_section_names (mapped_tree h g s))) fs b.1) i
 
   formals_alike : (scope : Scope Name) (k : ℕ) (fs : Tree ℕ (maybe formals)) → AllSought y f h (identifiers role.Declaring fs)
       → occurrences (relabel_formals naming_by_spelling forget scope k (mapped_tree f g fs)) ≡ occurrences (relabel_formals (naming_for_lookup_of y) forget scope k (mapped_tree h g fs))
@@ -298,7 +298,7 @@ module _ (y : Name) (f h : ℕ → Name) (g : ℕ → ℕ) where
 forgotten : (naming : Naming Name) (m : Tree Name module_text) → occurrences (relabel_module naming forget m) ≡ map label_ordinal (occurrences (relabel_module naming (label_from_ordinal naming) m))
 forgotten naming m =
     ap (λ (l : Labelling Name (Option ℕ)). occurrences (relabel_module naming l m)) (λ i o x. sym (back o x) i)
-    ∙ (ap occurrences (relabel_module-mapped_tree naming label_ordinal (label_from_ordinal naming) m) ∙ occurrences-mapped_tree label_ordinal (λ n. n) (relabel_module naming (label_from_ordinal naming) m))
+    ∙ (ap occurrences (relabel_module-mapped_tree naming label_ordinal (label_from_ordinal naming) m) ∙ occurrences-mapped label_ordinal label_ordinal (λ n. n) (relabel_module naming (label_from_ordinal naming) m))
   where
     back : (o : Option ℕ) (x : Name) → label_ordinal (label_from_ordinal naming o x) ≡ o
     back None x = refl
@@ -404,13 +404,13 @@ seen_in_places r y v sought ordinals is table gone tabled =
     let agree = (passed.agree (marks_in_table m w v ordinals is.parsed gone tabled)).1 in
     let reported_so : AllMarked sought ids = subst (λ (t : List (Option ℕ)). AllMarked t ids) (sym table) (uses_reported r is) in
     ap (map (ordinal_in ordinals)) is.occurring
-    ∙ (sym (occurrences-mapped_tree (ordinal_in ordinals) (token_value_at m.source) (tree_of m))
+    ∙ (sym (occurrences-mapped (ordinal_in ordinals) (ordinal_in ordinals) (token_value_at m.source) (tree_of m))
     ∙ (sym (ap occurrences agree)
     ∙ (module_alike y (spelling_at w) (token_text_at m.source) (token_value_at m.source) (tree_of m) (all_sought m.source sought y ids reported_so)
     ∙ forgotten (naming_for_lookup_of y) (named_tree_of m))))
 
 -- Each entry of the list is the binding of the name in that place.
-pub sees_entry : (m : Tree Name module_text) (y : Name) (k : ℕ) → option_and_then (λ o. o) (slice_get (resolve_name_at_occurrences m y) k) ≡ resolve_at_occurrence m k y
+pub sees_entry : (m : Tree Name module_text) (y : Name) (k : ℕ) → option_and_then (λ o. o) (slice_get (resolve_name_at_occurrences m y) k) ≡ resolve_name_at_occurrence m k y
 sees_entry m y k =
     let ls = occurrences (relabel_module (naming_for_lookup_of y) (label_from_ordinal (naming_for_lookup_of y)) m) in
     ap (option_and_then (λ o. o)) (slice_get-map label_ordinal ls k) ∙ back (slice_get ls k)

@@ -2,7 +2,6 @@
 -- exactly if they were before. A body declares nothing.
 use Rattle.std.proofs.Common.{◌≡◌, ℕ, zero, suc, Bool, true, false, not, ◌&&◌, ◌||◌, List, [], ◌∷◌, ◌++◌, length, refl, sym, ap, ◌∙◌}
 use Rattle.std.specs.List.{list_any}
-use Rattle.ob0_scan.specs.declared.fault.Fault.{Fault}
 use Rattle.ob0_scan.specs.declared.tokens.CommonPrefixAndSuffix.{CommonPrefixAndSuffix}
 use Rattle.ob0_scan.specs.TextWithTokens.{TextWithTokens}
 use Rattle.ob0_tree.specs.ParsedModule.{IsParsed, ParsedModule, named_tree_of, tree_of}
@@ -15,6 +14,7 @@ use Rattle.ob0_scope_table.specs.BodyReplaced.{IsBodyReplaced, PathToBody, block
 use Rattle.ob0_scope_table.specs.DuplicatesAndEndNames.{declaration_faults}
 use Rattle.ob0_scope_table.specs.OneBody.{IsBodyChange, is_outside_range}
 use Rattle.ob0_scope_table.specs.Resolution.{is_duplicate_or_end_name}
+use Rattle.ob0_scope_table.specs.declared.faults.FaultAtTokens.{FaultAtTokens}
 use Rattle.ob0_scope_table.proofs.BodyOutside.{module_outside}
 use Rattle.ob0_scope_table.proofs.BodyReplaced.{names_outside, text_by_word, value_by_word, without_mapped}
 use Rattle.ob0_scope_table.proofs.MappedAlike.{mapped_alike}
@@ -71,7 +71,7 @@ still_once_written old m low high parsed change =
 
 -- ---- the reported faults
 
-nothing_left : (fs : List Fault) → list_any is_duplicate_or_end_name fs ≡ false → list_any (λ f. not (is_duplicate_or_end_name f)) fs ≡ false → fs ≡ []
+nothing_left : (fs : List FaultAtTokens) → list_any is_duplicate_or_end_name fs ≡ false → list_any (λ f. not (is_duplicate_or_end_name f)) fs ≡ false → fs ≡ []
 nothing_left [] e h = refl
 nothing_left (f ∷ fs) e h = absurd (one (is_duplicate_or_end_name f) e h)
   where
@@ -81,5 +81,5 @@ nothing_left (f ∷ fs) e h = absurd (one (is_duplicate_or_end_name f) e h)
 
 -- A module has no fault of declarations if `known` has none. The list has one exactly if the module
 -- does.
-pub nothing_twice : (m : ParsedModule) (known : List Fault) → list_any is_duplicate_or_end_name known ≡ not (has_consistent_names (named_tree_of m)) → list_any is_duplicate_or_end_name known ≡ false → declaration_faults m ≡ []
+pub nothing_twice : (m : ParsedModule) (known : List FaultAtTokens) → list_any is_duplicate_or_end_name known ≡ not (has_consistent_names (named_tree_of m)) → list_any is_duplicate_or_end_name known ≡ false → declaration_faults m ≡ []
 nothing_twice m known e h = nothing_left (declaration_faults m) (twice_where m ∙ (sym e ∙ h)) (twice_alone m)

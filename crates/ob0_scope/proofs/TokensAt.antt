@@ -1,36 +1,15 @@
 -- Proves that binary search finds the first identifier at a place: it is the first token that
 -- doesn't end before the place, or the next one.
-use Rattle.std.proofs.Common.{◌≡◌, ℕ, zero, suc, ◌+◌, ◌<◌, ◌≤◌, Bool, true, false, cond, List, [], ◌∷◌, ◌++◌, length, get_or, Some, None, refl, ap, ◌∙◌, sym, subst, arith, add-zero}
+use Rattle.std.proofs.Common.{◌≡◌, ℕ, zero, suc, ◌+◌, ◌<◌, ◌≤◌, Bool, true, false, cond, List, [], ◌∷◌, length, get_or, Some, None, refl, ap, ◌∙◌, sym, arith, add-zero}
 use Rattle.std.specs.Prelude.{nat_le, nat_lt}
 use Rattle.std.specs.List.{position_from}
 use Rattle.std.specs.List.Sorted.{IsNonDecreasingBy, IsPartitionPoint}
 use Rattle.std.proofs.lemmas.Bool.{and_parts, leb-true, ltb-false, ltb-true}
-use Rattle.ob0_scan.specs.Lexed.{Lexeme}
-use Rattle.ob0_scan.specs.TextWithTokens.{IsScan, TextWithTokens, span_from, tokens_of_lexeme, tokens_from}
-use Rattle.ob0_scan.specs.declared.lexeme.LexemeKind.{LexemeKind}
-use Rattle.ob0_scan.specs.declared.lexeme.LexemeKind.TheVariants as lexeme
 use Rattle.ob0_scan.specs.declared.lexeme.Token.{Token}
-use Rattle.ob0_scan.proofs.AtLexemes.{Full, full}
-use Rattle.ob0_scope_table.specs.Spans.{is_on_span}
-use Rattle.ob0_scope.specs.Listing.{TokensAreDisjoint, is_identifier, is_identifier_at_offset}
+use Rattle.ob0_scope_table.specs.Spans.{TokensAreDisjoint, is_in_span_or_at_end}
+use Rattle.ob0_scope.specs.Listing.{is_identifier, is_identifier_at_offset}
 
 -- ---- the tokens of a text
-
-apart_lower : (less from : ℕ) (ts : List Token) → less ≤ from → TokensAreDisjoint from ts → TokensAreDisjoint less ts
-apart_lower less from [] low h = tt
-apart_lower less from (t ∷ ts) low h = (omega (arith, low, h.0), h.1)
-
-apart_one : (k : LexemeKind) (from len : ℕ) (ts : List Token) → 0 < len → TokensAreDisjoint (from + len) ts → TokensAreDisjoint from (tokens_of_lexeme k (span_from from len) ++ ts)
-apart_one lexeme.Space from len ts some h = apart_lower from (from + len) ts (omega arith) h
-apart_one lexeme.Comment from len ts some h = apart_lower from (from + len) ts (omega arith) h
-apart_one (lexeme.Token k) from len ts some h = (omega arith, (omega (arith, some), h))
-
-apart_from : (from : ℕ) (ls : List Lexeme) → Full ls → TokensAreDisjoint from (tokens_from from ls)
-apart_from from [] h = tt
-apart_from from (l ∷ ls) h = apart_one l.kind from (length l.text) (tokens_from (from + length l.text) ls) h.0 (apart_from (from + length l.text) ls h.1)
-
-pub scan_apart : (s : TextWithTokens) → IsScan s → TokensAreDisjoint 0 s.tokens
-scan_apart s scan = subst (TokensAreDisjoint 0) (sym scan.tokens) (apart_from 0 scan.lexemes (full scan.lexemes [] scan.lexed.each))
 
 beyond : (from : ℕ) (ts : List Token) (j : ℕ) (d : Token) → TokensAreDisjoint from ts → j < length ts → from ≤ (get_or ts j d).span.end
 beyond from [] j d h less = absurd (omega (arith, less))
@@ -57,7 +36,7 @@ module _ (offset : ℕ) where
 
   bounds : (t : Token) → on t ≡ true → (t.span.start ≤ offset) × (offset ≤ t.span.end)
   bounds t h =
-      let inside = and_parts (nat_le t.span.start offset) (nat_le offset t.span.end) (and_parts (is_identifier t.kind) (is_on_span offset t.span) h).1 in
+      let inside = and_parts (nat_le t.span.start offset) (nat_le offset t.span.end) (and_parts (is_identifier t.kind) (is_in_span_or_at_end offset t.span) h).1 in
       (leb-true t.span.start offset inside.0, leb-true offset t.span.end inside.1)
 
   off : (t : Token) → ((t.span.start ≤ offset) × (offset ≤ t.span.end) → ⊥) → on t ≡ false

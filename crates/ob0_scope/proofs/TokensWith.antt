@@ -18,10 +18,11 @@ use Rattle.ob0_tree.proofs.Leaves.{leaves_ascend}
 use Rattle.ob0_tree.proofs.MappedIdentifiers.{leaves_mapped}
 use Rattle.ob0_language_names.specs.Names.{naming_by_spelling}
 use Rattle.ob0_language_names.specs.Occurrences.{label_ordinal}
-use Rattle.ob0_scope_table.specs.Resolution.{IsResolution, Resolution, declaring_names, label_at, ordinal_in, declaration_token}
+use Rattle.ob0_scope_table.specs.Resolution.{IsResolution, Resolution, declaring_names, label_from_table, ordinal_in, declaration_token}
 use Rattle.ob0_language_names.specs.Scopes.{label_from_ordinal, same_ordinal}
 use Rattle.ob0_scope.specs.Listing.{first_bound_token, omitted_token, tokens_bound_from, tokens_with_ordinal}
-use Rattle.ob0_scope_numbering.specs.MarkWalk.{initial_walk_state, visit_module}
+use Rattle.ob0_scope_numbering.specs.MarkWalk.{initial_walk_state}
+use Rattle.ob0_scope_numbering.specs.IdentifierWalk.{visit_module}
 use Rattle.ob0_scope_numbering.specs.Marks.{OrdinalMark, with_marks}
 use Rattle.ob0_scope.specs.NamesAtPlaces.{is_declaring, tokens_bound_to}
 use Rattle.ob0_scope_numbering.specs.Written.{original_spellings}
@@ -45,9 +46,9 @@ marks_resolved r is =
     let made = with_marks (replicate (length m.source.tokens) None) marks in
     let are_there = marks_in_table m w (visit_module (tree_of m) (initial_walk_state w)) made is.parsed refl refl in
     let passed = module_passed (ordinal_in made) (label_from_ordinal naming_by_spelling) w (tree_of m) (initial_walk_state w) (at_start w) in
-    let same : mapped_tree (label_at m.source made) (token_value_at m.source) (tree_of m) ≡ mapped_tree (label_at m.source r.ordinals) (token_value_at m.source) (tree_of m) = sym (passed.agree are_there).1 ∙ is.numbering in
-    let read : (ordinals : List (Option ℕ)) → map label_ordinal (identifier_names (mapped_tree (label_at m.source ordinals) (token_value_at m.source) (tree_of m))) ≡ map (ordinal_in ordinals) (identifier_names (tree_of m)) =
-    λ ordinals. ap (map label_ordinal) (leaves_mapped (label_at m.source ordinals) (token_value_at m.source) (tree_of m)) ∙ ordinals_back (λ i. token_text_at m.source i) ordinals (identifier_names (tree_of m)) in
+    let same : mapped_tree (label_from_table m.source made) (token_value_at m.source) (tree_of m) ≡ mapped_tree (label_from_table m.source r.ordinals) (token_value_at m.source) (tree_of m) = sym (passed.agree are_there).1 ∙ is.numbering in
+    let read : (ordinals : List (Option ℕ)) → map label_ordinal (identifier_names (mapped_tree (label_from_table m.source ordinals) (token_value_at m.source) (tree_of m))) ≡ map (ordinal_in ordinals) (identifier_names (tree_of m)) =
+    λ ordinals. ap (map label_ordinal) (leaves_mapped (label_from_table m.source ordinals) (token_value_at m.source) (tree_of m)) ∙ ordinals_back (λ i. token_text_at m.source i) ordinals (identifier_names (tree_of m)) in
     let each : map (ordinal_in made) (identifier_names (tree_of m)) ≡ map (ordinal_in r.ordinals) (identifier_names (tree_of m)) = sym (read made) ∙ (ap (λ t. map label_ordinal (identifier_names t)) same ∙ read r.ordinals) in
     marks_same (ordinal_in made) (ordinal_in r.ordinals) marks (subst (λ ts. map (ordinal_in made) ts ≡ map (ordinal_in r.ordinals) ts) (sym passed.tokens) each) are_there
 

@@ -15,12 +15,12 @@ use Rattle.ob0_scope.specs.declared.body_range.BodyRange.{BodyRange}
 
 -- the token indexes of the identifiers seen so far while a body is walked: the first identifier
 -- (None if there is none yet) and all occurrences of names (identifiers with the role `LookedUp`)
-pub record NamesInBody : Type 0 where
+pub record BodyNamesView : Type 0 where
   pub first : Option ℕ
   pub uses : List ℕ
 
 -- the names of a body in which no identifier has been seen yet
-abbrev pub no_names_seen : NamesInBody
+abbrev pub no_names_seen : BodyNamesView
 no_names_seen = record { first = None; uses = [] }
 
 -- returns `first`, the first identifier seen in a body; if none has been seen (None), returns the identifier `i`
@@ -28,12 +28,12 @@ abbrev pub first_identifier_or : Option ℕ → ℕ → Option ℕ
 first_identifier_or first i = if is_some first then first else Some i
 
 -- adds the token `i` of an occurrence to the names seen in a body
-abbrev pub with_occurrence : ℕ → NamesInBody → NamesInBody
+abbrev pub with_occurrence : ℕ → BodyNamesView → BodyNamesView
 with_occurrence i names = record names { uses = names.uses ++ (i ∷ []) }
 
 -- adds the identifier at token `i` to the names seen in a body; the identifier is an occurrence only if its role is
 -- `LookedUp`
-abbrev pub with_identifier : Role → ℕ → NamesInBody → NamesInBody
+abbrev pub with_identifier : Role → ℕ → BodyNamesView → BodyNamesView
 with_identifier role.LookedUp i names =
     record { first = first_identifier_or names.first i; uses = names.uses ++ (i ∷ []) }
 with_identifier role.Declaring i names = record names { first = first_identifier_or names.first i }

@@ -1,11 +1,11 @@
 -- The identifiers of a module that a table of ordinals binds to a declaration.
 -- Rule: none; used in private contracts of `naming.rt`.
-use Rattle.std.specs.Prelude.{ℕ, ◌+◌, ◌<◌, ◌≤◌, Bool, true, false, not, ◌&&◌, if◌then◌else◌, List, [], ◌∷◌, Option, Some, None, drop}
+use Rattle.std.specs.Prelude.{ℕ, ◌+◌, Bool, true, false, not, ◌&&◌, if◌then◌else◌, List, [], ◌∷◌, Option, Some, None, drop}
 use Rattle.ob0_scan.specs.declared.lexeme.Token.{Token}
 use Rattle.ob0_scan.specs.declared.lexeme.TokenKind.{TokenKind}
 use Rattle.ob0_scan.specs.declared.lexeme.TokenKind.TheVariants as kind
 use Rattle.ob0_language_names.specs.Scopes.{same_ordinal}
-use Rattle.ob0_scope_table.specs.Spans.{is_on_span}
+use Rattle.ob0_scope_table.specs.Spans.{is_in_span_or_at_end}
 
 -- returns whether this is the kind of an identifier
 abbrev pub is_identifier : TokenKind → Bool
@@ -16,14 +16,7 @@ is_identifier (kind.Symbol symbol) = false
 
 -- returns whether a token is an identifier that contains the byte offset `offset` or ends there
 abbrev pub is_identifier_at_offset : ℕ → Token → Bool
-is_identifier_at_offset offset t = is_identifier t.kind && is_on_span offset t.span
-
--- States that each token has at least one byte and begins at or after the end of the token before it. The first token
--- begins at or after the byte offset `from`.
-abbrev pub TokensAreDisjoint : ℕ → List Token → Type 0
-TokensAreDisjoint from [] = Unit {0}
-TokensAreDisjoint from (t ∷ ts) =
-    (from ≤ t.span.start) × ((t.span.start < t.span.end) × TokensAreDisjoint t.span.end ts)
+is_identifier_at_offset offset t = is_identifier t.kind && is_in_span_or_at_end offset t.span
 
 -- Returns the index of each entry of a table that equals the ordinal `d`, except the index `omitted`. Indexes are
 -- counted from `i`, the index of the first entry.

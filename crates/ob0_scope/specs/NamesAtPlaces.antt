@@ -11,7 +11,7 @@ use Rattle.ob0_tree.specs.Tree.{identifiers, mapped_tree}
 use Rattle.ob0_language_names.specs.Names.{Label, Name, declared, same_label}
 use Rattle.ob0_language_names.specs.Occurrences.{label_ordinal}
 use Rattle.ob0_scope_table.specs.Resolution.{span_at}
-use Rattle.ob0_scope_table.specs.Spans.{is_on_span}
+use Rattle.ob0_scope_table.specs.Spans.{is_in_span_or_at_end}
 use Rattle.ob0_language_names.specs.Scopes.{numbered, renamed}
 use Rattle.ob0_scope.specs.declared.naming.BoundName as named
 
@@ -27,7 +27,7 @@ labelled_identifiers m =
 
 -- returns the first identifier that contains a byte offset or ends there; None if there is none
 abbrev pub identifier_at_offset : ParsedModule → ℕ → Option LabelledIdentifier
-identifier_at_offset m offset = find (λ s. is_on_span offset (span_at m.source s.0.1)) (labelled_identifiers m)
+identifier_at_offset m offset = find (λ s. is_in_span_or_at_end offset (span_at m.source s.0.1)) (labelled_identifiers m)
 
 -- returns the token of an identifier and the ordinal of its declaration; None if the identifier is
 -- unbound

@@ -1,20 +1,19 @@
--- The bindings of a text whose tokens have the same kinds as before, and whose identifiers have the
--- same spellings.
+-- The bindings of a text whose tokens have the same kinds as before, and whose identifiers or all
+-- tokens have the same spellings.
 -- Rule: docs/LANGUAGE.md, Scopes 2 to 4.
 use Rattle.std.specs.Prelude.{◌≡◌, []}
-use Rattle.ob0_scan.specs.Reused.{kinds, names_in}
+use Rattle.ob0_scan.specs.Reused.{kinds, spellings_of_identifiers_in, words_of_tokens}
 use Rattle.ob0_scan.specs.TextWithTokens.{TextWithTokens}
 use Rattle.ob0_tree.specs.ParsedModule.{IsParsed, parsed_module}
 use Rattle.ob0_tree.specs.declared.tree.ModuleTree.{ModuleTree}
 use Rattle.ob0_scope_table.specs.Bindings.{resolution_with}
-use Rattle.ob0_scope_table.specs.FaultTokens.{HaveSameKindsAndSpellings, moved_faults}
 use Rattle.ob0_scope_table.specs.Resolution.{IsResolution}
 use Rattle.ob0_scope_table.specs.declared.resolved.Bindings.{Bindings}
 
 -- states that the tokens of two texts have the same kinds, one by one, and their identifiers the same spellings
 pub record HaveSameKindsAndNames (old new : TextWithTokens) : Type 0 where
   pub same_kinds : kinds new.tokens ≡ kinds old.tokens
-  pub same_names : names_in new.text new.tokens ≡ names_in old.text old.tokens
+  pub same_names : spellings_of_identifiers_in new.text new.tokens ≡ spellings_of_identifiers_in old.text old.tokens
 
 -- States that the bindings of a module that has no fault of scopes are also the bindings of the same tree with the
 -- tokens of another text. The tokens of both texts must have the same kinds, and their identifiers the same spellings.
@@ -28,22 +27,13 @@ BindingsDependOnlyOnNames =
     → b.faults.items ≡ []
     → IsResolution (resolution_with (parsed_module new tree) b)
 
--- states that the bindings `c` are the bindings `b` with each fault moved from the text `old` to the same tokens of the
--- text `new`
-pub record AreBindingsWithMovedFaults (old new : TextWithTokens) (b c : Bindings) : Type 0 where
-  pub ordinals : c.ordinals.items ≡ b.ordinals.items
-  pub declaration_tokens : c.declaration_tokens.items ≡ b.declaration_tokens.items
-  pub occurrences : c.occurrences.items ≡ b.occurrences.items
-  pub faults : c.faults.items ≡ moved_faults old new b.faults.items
-
--- States that the bindings of a module are also the bindings of the same tree with the tokens of another text, except
--- that each fault moves to the same token of the other text. The tokens of both texts must have the same spellings. The
--- tree must also be the tree of the other text's module.
-abbrev pub BindingsMoveWithTokens : Type 0
-BindingsMoveWithTokens =
-    (old new : TextWithTokens) (tree : ModuleTree) (b c : Bindings)
-    → HaveSameKindsAndSpellings old new
+-- States that the bindings of a module are also the bindings of the same tree with the tokens of another text. The
+-- tokens of both texts must have the same kinds and spellings. The tree must also be the tree of the other text's
+-- module.
+abbrev pub BindingsDependOnSpellings : Type 0
+BindingsDependOnSpellings =
+    (old new : TextWithTokens) (tree : ModuleTree) (b : Bindings)
+    → words_of_tokens new.text new.tokens ≡ words_of_tokens old.text old.tokens
     → IsParsed (parsed_module new tree)
     → IsResolution (resolution_with (parsed_module old tree) b)
-    → AreBindingsWithMovedFaults old new b c
-    → IsResolution (resolution_with (parsed_module new tree) c)
+    → IsResolution (resolution_with (parsed_module new tree) b)

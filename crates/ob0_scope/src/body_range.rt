@@ -39,9 +39,9 @@ pub(crate) struct BodyNames {
 }
 
 impl Model for BodyNames {
-    ghost use Rattle.ob0_scope.specs.Carried.{NamesInBody};
+    ghost use Rattle.ob0_scope.specs.Carried.{BodyNamesView};
 
-    ghost Value = { NamesInBody };
+    ghost Value = { BodyNamesView };
 
     ghost view = { λ names. record { first = names.first; uses = names.uses.items } };
 }

@@ -45,7 +45,7 @@ pub fn rebind_body(
     } = old;
     let ordinals = renumber_body(alloc, read, ordinals, &declaration_tokens, low)?;
     let mut faults = recheck_declarations(alloc, read, &known)?;
-    report_undeclared(&mut faults, tokens, &ordinals, &occurrences)?;
+    report_undeclared(&mut faults, &ordinals, &occurrences)?;
     Ok(Bindings {
         ordinals,
         declaration_tokens,
@@ -106,7 +106,7 @@ fn rebind_body_range(
     let ordinals = renumber_body(alloc, read, table, &declaration_tokens, range.first)?;
     let occurrences = range.tokens_in_changed_text(alloc, &old.occurrences, own)?;
     let mut faults = recheck_declarations(alloc, read, &old.faults)?;
-    report_undeclared(&mut faults, tokens, &ordinals, &occurrences)?;
+    report_undeclared(&mut faults, &ordinals, &occurrences)?;
     Ok(Bindings {
         ordinals,
         declaration_tokens,

@@ -2,23 +2,23 @@
 //! duplicate if an earlier name in its block has the same spelling. A field is a duplicate if an
 //! earlier field of its record does.
 //!
-//! `FoundFaults` has the faults found so far, and each check appends more faults. If a block or
-//! record has at most 16 names, each name is compared with all names before it. If there are more,
-//! the names are inserted into a set.
+//! `DeclarationFaultCollector` has the faults found so far, and each check appends more faults. If
+//! a block or record has at most 16 names, each name is compared with all names before it. If there
+//! are more, the names are inserted into a set.
 
 ghost use Rattle.std.specs.Prelude.{◌≡◌, ◌++◌, [], IfOk, OnOk, map, not};
 ghost use Rattle.std.specs.List.{list_any};
 ghost use Rattle.ob0_tree.specs.ParsedModule.{named_tree_of};
 ghost use Rattle.ob0_tree.specs.Places.{token_text_at};
-ghost use Rattle.ob0_tree.specs.View.{items_of, names_of, type_of, record_type_of, optional_field_group_of, constants_of, types_of, variables_of, formals_of, procedure_of, block_of};
+ghost use Rattle.ob0_tree.specs.View.{items_of, names_of, type_of, record_type_of, optional_field_group_of, constant_section_of, type_section_of, variable_section_of, formals_of, procedure_of, block_of};
 ghost use Rattle.ob0_language_names.specs.Names.{same_name};
 ghost use Rattle.ob0_language_names.specs.Parts.{names_in_list, constant_names, declared_type_names, variable_names, formal_names, formal_sections, section_constants, section_types, section_variables};
 ghost use Rattle.ob0_language_names.specs.ConsistentNames.{block_names, has_consistent_names, group_field_names, is_among, procedure_names};
 ghost use Rattle.ob0_scope_table.specs.Resolution.{is_duplicate_or_end_name};
-ghost use Rattle.ob0_scope_table.specs.DuplicatesAndEndNames.{duplicate_faults, block_declaration_faults, closing_name_faults, duplicate_fault, duplicate_field_faults, duplicate_field_faults_in_formals, duplicate_field_faults_in_group, procedure_declaration_faults, declaration_faults, duplicate_field_faults_in_types, fault_unless, duplicate_field_faults_in_variables};
+ghost use Rattle.ob0_scope_table.specs.DuplicatesAndEndNames.{duplicate_faults, block_declaration_faults, closing_name_faults, duplicate_field_faults, duplicate_field_faults_in_formals, duplicate_field_faults_in_group, procedure_declaration_faults, declaration_faults, duplicate_field_faults_in_types, fault_unless, duplicate_field_faults_in_variables};
 
-use ob0_scan::{Fault, FaultCode, Tokens};
-use ob0_scope_table::token_span;
+use ob0_scan::{FaultCode, Tokens};
+use ob0_scope_table::{FaultAtTokens, fault_at_token, is_duplicate_or_end_name};
 use ob0_tree::{
     Block, Constant, Module, Names, OptionalFieldGroup, ParameterSection, Procedure, RecordType,
     TypeDeclaration, VariableDeclaration, WrittenType, token_text_at,
@@ -33,16 +33,16 @@ const MAX_NAMES_COMPARED_PAIRWISE: usize = 16;
 
 /// The duplicate declarations, duplicate fields and wrong closing names found so far.
 #[derive(Drop)]
-struct FoundFaults {
+struct DeclarationFaultCollector {
     alloc: Global,
-    faults: Vec<Fault>,
+    faults: Vec<FaultAtTokens>,
 }
 
-impl Model for FoundFaults {
+impl Model for DeclarationFaultCollector {
     ghost use Rattle.std.specs.Prelude.{List};
-    ghost use Rattle.ob0_scan.specs.declared.fault.Fault.{Fault};
+    ghost use Rattle.ob0_scope_table.specs.declared.faults.FaultAtTokens.{FaultAtTokens};
 
-    ghost Value = { List Fault };
+    ghost Value = { List FaultAtTokens };
 
     ghost view = { λ c. c.faults.items };
 }
@@ -51,10 +51,10 @@ impl Model for FoundFaults {
 pub(crate) fn check_declarations<'t>(
     alloc: Global,
     read: &'t Module<'t>,
-) -> Result<Vec<Fault>, AllocError>
+) -> Result<Vec<FaultAtTokens>, AllocError>
     ensures { IfOk result (λ faults. faults.items ≡ declaration_faults read.now) }
 {
-    let mut checks = FoundFaults {
+    let mut checks = DeclarationFaultCollector {
         alloc,
         faults: Vec::new(alloc),
     };
@@ -70,8 +70,8 @@ pub(crate) fn check_declarations<'t>(
 pub(crate) fn recheck_declarations<'t>(
     alloc: Global,
     read: &'t Module<'t>,
-    known: &[Fault],
-) -> Result<Vec<Fault>, AllocError>
+    known: &[FaultAtTokens],
+) -> Result<Vec<FaultAtTokens>, AllocError>
     requires { list_any is_duplicate_or_end_name known.now
         ≡ not (has_consistent_names (named_tree_of read.now)) }
     ensures { IfOk result (λ faults. faults.items ≡ declaration_faults read.now) }
@@ -83,7 +83,7 @@ pub(crate) fn recheck_declarations<'t>(
 }
 
 /// Returns whether one of the faults is a duplicate declaration or field, or a wrong closing name.
-fn has_duplicate_or_end_name(faults: &[Fault]) -> bool
+fn has_duplicate_or_end_name(faults: &[FaultAtTokens]) -> bool
     ensures { result ≡ list_any is_duplicate_or_end_name faults.now }
 {
     for fault in faults {
@@ -94,28 +94,11 @@ fn has_duplicate_or_end_name(faults: &[Fault]) -> bool
     false
 }
 
-/// Returns whether the fault is a duplicate declaration or field, or a wrong closing name.
-fn is_duplicate_or_end_name(fault: &Fault) -> bool
-    ensures { result ≡ is_duplicate_or_end_name fault.now }
-{
-    fault.code == FaultCode::Duplicate || fault.code == FaultCode::EndName
-}
-
 /// Returns whether two identifiers have the same spelling.
 fn have_same_spelling(tokens: &Tokens, a: usize, b: usize) -> bool
     ensures { result ≡ same_name (token_text_at tokens.now a) (token_text_at tokens.now b) }
 {
     token_text_at(tokens, a) == token_text_at(tokens, b)
-}
-
-/// Returns the fault `Duplicate` at a name.
-fn duplicate_fault(tokens: &Tokens, name: usize) -> Fault
-    ensures { result ≡ duplicate_fault tokens.now name }
-{
-    Fault {
-        code: FaultCode::Duplicate,
-        span: token_span(tokens, name),
-    }
 }
 
 /// Returns whether one of the identifiers in `names` has the spelling `text`.
@@ -157,7 +140,7 @@ fn append_constant_names(
     section: &Option<Vec<Constant>>,
 ) -> Result<(), AllocError>
     ensures { OnOk result (out.new.items
-        ≡ out.old.items ++ constant_names (section_constants (constants_of section.now))) }
+        ≡ out.old.items ++ constant_names (section_constants (constant_section_of section.now))) }
 {
     if let Some(constants) = section {
         for c in constants {
@@ -173,7 +156,7 @@ fn append_type_names(
     section: &Option<Vec<TypeDeclaration>>,
 ) -> Result<(), AllocError>
     ensures { OnOk result
-        (out.new.items ≡ out.old.items ++ declared_type_names (section_types (types_of section.now))) }
+        (out.new.items ≡ out.old.items ++ declared_type_names (section_types (type_section_of section.now))) }
 {
     if let Some(types) = section {
         for t in types {
@@ -189,7 +172,7 @@ fn append_variable_names(
     section: &Option<Vec<VariableDeclaration>>,
 ) -> Result<(), AllocError>
     ensures { OnOk result (out.new.items
-        ≡ out.old.items ++ variable_names (section_variables (variables_of section.now))) }
+        ≡ out.old.items ++ variable_names (section_variables (variable_section_of section.now))) }
 {
     if let Some(variables) = section {
         for v in variables {
@@ -238,17 +221,17 @@ pub(crate) fn append_block_names(out: &mut Vec<usize>, b: &Block) -> Result<(), 
     append_procedure_names(out, &b.procedures)
 }
 
-impl FoundFaults {
+impl DeclarationFaultCollector {
     /// Returns the faults found so far.
-    fn into_faults(self) -> Vec<Fault>
+    fn into_faults(self) -> Vec<FaultAtTokens>
         ensures { result.items ≡ self }
     {
-        let FoundFaults { alloc: _, faults } = self;
+        let DeclarationFaultCollector { alloc: _, faults } = self;
         faults
     }
 
     /// Reports the fault `fault` if `holds` is false.
-    fn report_unless(&mut self, holds: bool, fault: Fault) -> Result<(), AllocError>
+    fn report_unless(&mut self, holds: bool, fault: FaultAtTokens) -> Result<(), AllocError>
         ensures { OnOk result (self.new ≡ self.old ++ fault_unless holds fault) }
     {
         if !holds {
@@ -264,18 +247,17 @@ impl FoundFaults {
         name: usize,
         closing: usize,
     ) -> Result<(), AllocError>
-        ensures { OnOk result (self.new ≡ self.old ++ closing_name_faults tokens.now name closing) }
+        ensures { OnOk result (self.new
+            ≡ self.old ++ closing_name_faults (token_text_at tokens.now) name closing) }
     {
-        let fault = Fault {
-            code: FaultCode::EndName,
-            span: token_span(tokens, closing),
-        };
+        let fault = fault_at_token(FaultCode::EndName, closing);
         self.report_unless(have_same_spelling(tokens, name, closing), fault)
     }
 
     /// Reports each name in the list that is spelled like an earlier name.
     fn report_duplicates(&mut self, tokens: &Tokens, names: &[usize]) -> Result<(), AllocError>
-        ensures { OnOk result (self.new ≡ self.old ++ duplicate_faults tokens.now [] names.now) }
+        ensures { OnOk result (self.new
+            ≡ self.old ++ duplicate_faults (token_text_at tokens.now) [] names.now) }
     {
         if names.len() <= MAX_NAMES_COMPARED_PAIRWISE {
             self.report_duplicates_pairwise(tokens, names)
@@ -291,7 +273,8 @@ impl FoundFaults {
         tokens: &Tokens,
         names: &[usize],
     ) -> Result<(), AllocError>
-        ensures { OnOk result (self.new ≡ self.old ++ duplicate_faults tokens.now [] names.now) }
+        ensures { OnOk result (self.new
+            ≡ self.old ++ duplicate_faults (token_text_at tokens.now) [] names.now) }
     {
         for (index, name) in names.iter().enumerate() {
             let is_second = contains_spelling(
@@ -299,7 +282,7 @@ impl FoundFaults {
                 &names[..index],
                 token_text_at(tokens, *name),
             );
-            self.report_unless(!is_second, duplicate_fault(tokens, *name))?;
+            self.report_unless(!is_second, fault_at_token(FaultCode::Duplicate, *name))?;
         }
         Ok(())
     }
@@ -311,12 +294,13 @@ impl FoundFaults {
         tokens: &Tokens,
         names: &[usize],
     ) -> Result<(), AllocError>
-        ensures { OnOk result (self.new ≡ self.old ++ duplicate_faults tokens.now [] names.now) }
+        ensures { OnOk result (self.new
+            ≡ self.old ++ duplicate_faults (token_text_at tokens.now) [] names.now) }
     {
         let mut seen = BTreeSet::new(self.alloc);
         for name in names {
             let added = seen.insert(token_text_at(tokens, *name))?;
-            self.report_unless(added, duplicate_fault(tokens, *name))?;
+            self.report_unless(added, fault_at_token(FaultCode::Duplicate, *name))?;
         }
         Ok(())
     }
@@ -328,7 +312,8 @@ impl FoundFaults {
         tokens: &Tokens,
         t: &WrittenType,
     ) -> Result<(), AllocError>
-        ensures { OnOk result (self.new ≡ self.old ++ duplicate_field_faults tokens.now (type_of t.now)) }
+        ensures { OnOk result (self.new
+            ≡ self.old ++ duplicate_field_faults (token_text_at tokens.now) (type_of t.now)) }
     {
         match t {
             WrittenType::Named(_) => Ok(()),
@@ -345,7 +330,9 @@ impl FoundFaults {
         tokens: &Tokens,
         r: &RecordType,
     ) -> Result<(), AllocError>
-        ensures { OnOk result (self.new ≡ self.old ++ duplicate_field_faults tokens.now (record_type_of r.now)) }
+        ensures { OnOk result (self.new
+            ≡ self.old
+            ++ duplicate_field_faults (token_text_at tokens.now) (record_type_of r.now)) }
     {
         let mut names = Vec::with_capacity(self.alloc, MAX_NAMES_COMPARED_PAIRWISE)?;
         for group in &r.groups {
@@ -365,7 +352,9 @@ impl FoundFaults {
         tokens: &Tokens,
         f: &OptionalFieldGroup,
     ) -> Result<(), AllocError>
-        ensures { OnOk result (self.new ≡ self.old ++ duplicate_field_faults_in_group tokens.now (optional_field_group_of f.now)) }
+        ensures { OnOk result (self.new
+            ≡ self.old
+            ++ duplicate_field_faults_in_group (token_text_at tokens.now) (optional_field_group_of f.now)) }
     {
         match f {
             OptionalFieldGroup::Empty => Ok(()),
@@ -381,8 +370,10 @@ impl FoundFaults {
         tokens: &Tokens,
         section: &Option<Vec<TypeDeclaration>>,
     ) -> Result<(), AllocError>
-        ensures { OnOk result
-            (self.new ≡ self.old ++ duplicate_field_faults_in_types tokens.now (section_types (types_of section.now))) }
+        ensures { OnOk result (self.new
+            ≡ self.old
+            ++ duplicate_field_faults_in_types (token_text_at tokens.now)
+            (section_types (type_section_of section.now))) }
     {
         if let Some(types) = section {
             for t in types {
@@ -400,7 +391,8 @@ impl FoundFaults {
     ) -> Result<(), AllocError>
         ensures { OnOk result (self.new
             ≡ self.old
-            ++ duplicate_field_faults_in_variables tokens.now (section_variables (variables_of section.now))) }
+            ++ duplicate_field_faults_in_variables (token_text_at tokens.now)
+            (section_variables (variable_section_of section.now))) }
     {
         if let Some(variables) = section {
             for v in variables {
@@ -417,7 +409,9 @@ impl FoundFaults {
         formals: &Option<Vec<ParameterSection>>,
     ) -> Result<(), AllocError>
         ensures { OnOk result (self.new
-            ≡ self.old ++ duplicate_field_faults_in_formals tokens.now (formal_sections (formals_of formals.now))) }
+            ≡ self.old
+            ++ duplicate_field_faults_in_formals (token_text_at tokens.now)
+            (formal_sections (formals_of formals.now))) }
     {
         if let Some(sections) = formals {
             for s in sections {
@@ -431,8 +425,9 @@ impl FoundFaults {
     /// types. Then reports all such faults in the procedure's block (`check_block`).
     #[cycle(blocks)]
     fn check_procedure(&mut self, tokens: &Tokens, p: &Procedure) -> Result<(), AllocError>
-        ensures { OnOk result
-            (self.new ≡ self.old ++ procedure_declaration_faults tokens.now (procedure_of p.now)) }
+        ensures { OnOk result (self.new
+            ≡ self.old
+            ++ procedure_declaration_faults (token_text_at tokens.now) (procedure_of p.now)) }
     {
         self.check_closing_name(tokens, p.name, p.closing)?;
         self.report_duplicate_fields_in_formals(tokens, &p.formals)?;
@@ -446,8 +441,9 @@ impl FoundFaults {
     /// of the parameters, which count as declared in the block.
     #[cycle(blocks)]
     fn check_block(&mut self, tokens: &Tokens, own: Vec<usize>, b: &Block) -> Result<(), AllocError>
-        ensures { OnOk result
-            (self.new ≡ self.old ++ block_declaration_faults tokens.now own.items (block_of b.now)) }
+        ensures { OnOk result (self.new
+            ≡ self.old
+            ++ block_declaration_faults (token_text_at tokens.now) own.items (block_of b.now)) }
     {
         let mut names = own;
         append_constant_names(&mut names, &b.constants)?;

@@ -28,9 +28,9 @@ pub fn bindings_of(alloc: Global, module: &Module<'_>) -> Result<Bindings, Alloc
 {
     let tokens = module.tokens();
     let numbering = number_identifiers(alloc, module, Spellings::original_spellings(tokens))?;
-    let (declaration_tokens, occurrences, ordinals) = numbering.into_parts();
+    let (declaration_tokens, occurrences, ordinals) = numbering.into_tokens_and_ordinals();
     let mut faults = check_declarations(alloc, module)?;
-    report_undeclared(&mut faults, tokens, &ordinals, &occurrences)?;
+    report_undeclared(&mut faults, &ordinals, &occurrences)?;
     Ok(Bindings {
         ordinals,
         declaration_tokens,

@@ -10,7 +10,7 @@ ghost use Rattle.std.specs.Prelude.{◌≡◌, ◌↔◌, IfOk, None, not, optio
 ghost use Rattle.std.specs.List.{position_from};
 ghost use Rattle.ob0_tree.specs.ParsedModule.{named_tree_of};
 ghost use Rattle.ob0_tree.specs.View.{block_of, procedure_of};
-ghost use Rattle.ob0_language_names.specs.Occurrences.{IsFreeName, bindings, first_name_conflict, first_difference};
+ghost use Rattle.ob0_language_names.specs.Occurrences.{IsFreeName, bindings, first_name_conflict, first_binding_difference};
 ghost use Rattle.ob0_scope.specs.declared.name_conflicts.FirstConflict.TheVariants.{Occurrence};
 ghost use Rattle.ob0_scope.specs.Renames.{OccursNowhere, have_same_binding, namesake, other_declaration_in_conflict, conflict_of};
 ghost use Rattle.ob0_scope_table.specs.Resolution.{ordinal_in};
@@ -87,7 +87,7 @@ fn first_captured_occurrence(
     new: &str,
 ) -> Result<Option<FirstConflict>, AllocError>
     ensures { IfOk result (λ found. found
-        ≡ option_map Occurrence (first_difference
+        ≡ option_map Occurrence (first_binding_difference
         (bindings (renamed (named_tree_of names.now.module_read) declaration new.now))
         (bindings (named_tree_of names.now.module_read)))) }
 {
@@ -160,7 +160,7 @@ struct NamesakeSearch<'t> {
 impl<'t> Model for NamesakeSearch<'t> {
     ghost use Rattle.ob0_scope.specs.BlockSearches as searching;
 
-    ghost Value = { searching.BlockSearch };
+    ghost Value = { searching.NamesakeSearchView };
 
     ghost view = { λ s. record {
       source = s.tokens.now;

@@ -10,7 +10,8 @@ ghost use Rattle.std.specs.List.{position_from};
 ghost use Rattle.std.specs.List.Sorted.{IsNonDecreasingBy, IsPartitionPoint};
 ghost use Rattle.ob0_scan.specs.declared.lexeme.Token as token;
 ghost use Rattle.ob0_tree.specs.Order.{AreIdentifierTokens, AreAscendingWithin};
-ghost use Rattle.ob0_scope.specs.Listing.{TokensAreDisjoint, first_bound_token, is_identifier, is_identifier_at_offset, omitted_token, tokens_bound_from};
+ghost use Rattle.ob0_scope_table.specs.Spans.{TokensAreDisjoint};
+ghost use Rattle.ob0_scope.specs.Listing.{first_bound_token, is_identifier, is_identifier_at_offset, omitted_token, tokens_bound_from};
 ghost use Rattle.ob0_scope.specs.NamesAtPlaces.{RenamingChangesExactlyTokens, name_at_offset, tokens_bound_to};
 
 use ob0_scan::{Token, TokenKind};

@@ -8,7 +8,7 @@ ghost use Rattle.ob0_language_names.specs.OccurrenceLookup.{resolve_name_at_occu
 ghost use Rattle.ob0_scope_numbering.specs.Marks.{zero_mark_at};
 ghost use Rattle.ob0_scope_numbering.specs.Marks.{with_marks};
 
-use crate::renamed::ordinals_at;
+use crate::renamed::ordinals_at_tokens;
 use ob0_scope_numbering::{Spellings, number_identifiers};
 use ob0_scope_table::{OrdinalEntry, Resolved};
 use std::alloc::{AllocError, Global};
@@ -25,7 +25,7 @@ pub fn resolve_name_at_occurrences(
         (λ found. found.items ≡ resolve_name_at_occurrences (named_tree_of names.now.module_read) name.now) }
 {
     let ordinals = ordinals_with_replacement(alloc, names, name)?;
-    ordinals_at(alloc, &ordinals, names.occurrences())
+    ordinals_at_tokens(alloc, &ordinals, names.occurrences())
 }
 
 /// Returns the table of ordinals of a changed module, in which `name` replaces each occurrence. For
@@ -46,7 +46,7 @@ fn ordinals_with_replacement(
         new: name,
     };
     let numbering = number_identifiers(alloc, names.module(), writing)?;
-    let (_declarations, _occurrences, ordinals) = numbering.into_parts();
+    let (_declarations, _occurrences, ordinals) = numbering.into_tokens_and_ordinals();
     Ok(ordinals)
 }
 

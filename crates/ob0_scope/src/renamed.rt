@@ -26,7 +26,7 @@ pub fn resolve_renamed(
         (bindings (renamed (named_tree_of names.now.module_read) declaration new.now))) }
 {
     let ordinals = ordinals_after_rename(alloc, names, declaration, new)?;
-    ordinals_at(alloc, &ordinals, names.occurrences())
+    ordinals_at_tokens(alloc, &ordinals, names.occurrences())
 }
 
 /// Returns the table of ordinals of the module in which the declaration with the ordinal
@@ -49,13 +49,13 @@ pub(crate) fn ordinals_after_rename(
         new,
     };
     let numbering = number_identifiers(alloc, names.module(), writing)?;
-    let (_declarations, _occurrences, ordinals) = numbering.into_parts();
+    let (_declarations, _occurrences, ordinals) = numbering.into_tokens_and_ordinals();
     Ok(ordinals)
 }
 
 /// Returns, for each token in the list `tokens`, the ordinal that the table `ordinals` has for it.
 /// The entry is None if the table has no ordinal at the token.
-pub(crate) fn ordinals_at(
+pub(crate) fn ordinals_at_tokens(
     alloc: Global,
     ordinals: &[OrdinalEntry],
     tokens: &[usize],

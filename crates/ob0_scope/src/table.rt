@@ -3,27 +3,23 @@
 ghost use Rattle.std.specs.Prelude.{◌≡◌, ◌++◌, OnOk};
 ghost use Rattle.ob0_scope_table.specs.Resolution.{undeclared_faults_by_table};
 
-use ob0_scan::{Fault, FaultCode, Tokens};
-use ob0_scope_table::{OrdinalEntry, ordinal_at, token_span};
+use ob0_scan::FaultCode;
+use ob0_scope_table::{FaultAtTokens, OrdinalEntry, fault_at_token, ordinal_at};
 use std::alloc::AllocError;
 
 /// Appends a fault `Undeclared` for each token in `occurrences` that has no ordinal in the table
 /// `ordinals`.
 pub(crate) fn report_undeclared(
-    faults: &mut Vec<Fault>,
-    tokens: &Tokens,
+    faults: &mut Vec<FaultAtTokens>,
     ordinals: &[OrdinalEntry],
     occurrences: &[usize],
 ) -> Result<(), AllocError>
     ensures { OnOk result (faults.new.items
-        ≡ faults.old.items ++ undeclared_faults_by_table tokens.now ordinals.now occurrences.now) }
+        ≡ faults.old.items ++ undeclared_faults_by_table ordinals.now occurrences.now) }
 {
     for token in occurrences {
         if ordinal_at(ordinals, *token).is_none() {
-            faults.push(Fault {
-                code: FaultCode::Undeclared,
-                span: token_span(tokens, *token),
-            })?;
+            faults.push(fault_at_token(FaultCode::Undeclared, *token))?;
         }
     }
     Ok(())

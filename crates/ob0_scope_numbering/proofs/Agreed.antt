@@ -6,12 +6,12 @@ use Rattle.ob0_tree.specs.declared.tree.Role.TheVariants as role
 use Rattle.ob0_tree.specs.Tree.{Sort, Tree, identifiers, mapped_tree, adds, array_type, assigns, begins, branches, calls, compares, declares, declares_constant, declares_constants, declares_procedure, declares_type, declares_types, declares_variable, declares_variables, designator, else_branch, elsif_branch, empty, end, field, forms_block, index, integer, is_module, listed, more, multiplies, named_type, negation, no_arguments, no_fields, no_formals, none, one, parenthesised, product, record_type, relates, repeat_loop, runs, some_arguments, some_fields, some_formals, sum, then_argument, then_fields, then_name, then_section, then_statement, value_section, variable_section, while_loop}
 use Rattle.ob0_scope_numbering.specs.Written.{Spellings, spelling_at}
 use Rattle.ob0_language_names.specs.Names.{Name, naming_by_spelling}
-use Rattle.ob0_language_names.specs.Scopes.{Labelling, Scope, ordinal_of, relabel_uses}
+use Rattle.ob0_language_names.specs.Scopes.{Labelling, Scope, ordinal_in_scope, relabel_uses}
 use Rattle.ob0_language_names.proofs.Peeling.{Two}
 
 -- holds if the table's entry for an identifier is right, in a part that declares nothing
 abbrev pub Fits : (ℕ → Option ℕ) → Spellings → Scope Name → Role → ℕ → Type 0
-Fits table src scope role.LookedUp i = table i ≡ ordinal_of naming_by_spelling scope (spelling_at src i)
+Fits table src scope role.LookedUp i = table i ≡ ordinal_in_scope naming_by_spelling scope (spelling_at src i)
 Fits table src scope role.Declaring i = table i ≡ None
 Fits table src scope role.ClosingName i = table i ≡ None
 Fits table src scope role.FieldName i = table i ≡ None

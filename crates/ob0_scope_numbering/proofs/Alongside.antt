@@ -8,8 +8,9 @@ use Rattle.ob0_tree.specs.Order.{identifier_names, names_without_roles}
 use Rattle.ob0_tree.specs.Tree.{Sort, Tree, block, constant, constants, declares, declares_constant, declares_constants, declares_procedure, declares_type, declares_types, declares_variable, declares_variables, end, formals, further_name, further_section, forms_block, identifiers, item, items, listed, maybe, more, names, no_formals, none, one, procedure, section, some_formals, then_name, then_section, type_definition, type_definitions, value_section, variable, variable_section, variables}
 use Rattle.ob0_language_names.specs.Names.{naming_by_spelling}
 use Rattle.ob0_language_names.specs.Parts.{further_names, names_in_list}
-use Rattle.ob0_language_names.specs.Scopes.{declare_names, ordinal_of}
-use Rattle.ob0_scope_numbering.specs.MarkWalk.{WalkState, state_after_heading, visit_identifier, visit_identifiers, state_after_procedure_block, with_oldest_bindings, with_mark, number_declarations, number_declaration, visit_nondeclaring_tree, with_visible_names_from, visit_block, visit_constant, visit_constant_section, visit_constants, visit_formals, visit_procedure, visit_procedures, visit_parameter_section, visit_parameter_sections, visit_type, visit_type_section, visit_types, visit_variable, visit_variable_section, visit_variables}
+use Rattle.ob0_language_names.specs.Scopes.{declare_names, ordinal_in_scope}
+use Rattle.ob0_scope_numbering.specs.MarkWalk.{WalkState}
+use Rattle.ob0_scope_numbering.specs.IdentifierWalk.{state_after_heading, visit_identifier, visit_identifiers, state_after_procedure_block, with_oldest_bindings, with_mark, number_declarations, number_declaration, visit_nondeclaring_tree, with_visible_names_from, visit_block, visit_constant, visit_constant_section, visit_constants, visit_formals, visit_procedure, visit_procedures, visit_parameter_section, visit_parameter_sections, visit_type, visit_type_section, visit_types, visit_variable, visit_variable_section, visit_variables}
 use Rattle.ob0_scope_numbering.specs.Marks.{OrdinalMark}
 use Rattle.ob0_scope_numbering.specs.Written.{Spellings, spelling_at}
 
@@ -113,8 +114,8 @@ module _ (out : ℕ → Bool) (a b : Spellings) (same_name : (i : ℕ) → out i
 
   found_adds : (r : Role) (i : ℕ) (x y : WalkState) → Sees x y → Adds x y (visit_identifier r i x) (visit_identifier r i y)
   found_adds role.LookedUp i x y at =
-      adds_one x y (visit_identifier role.LookedUp i x) (visit_identifier role.LookedUp i y) i (ordinal_of naming_by_spelling x.scope (spelling_at x.writing i)) (ordinal_of naming_by_spelling y.scope (spelling_at y.writing i)) refl refl
-      (λ e. (λ j. ordinal_of naming_by_spelling (at.scope j) (spelling_at (at.first j) i)) ∙ (ap (ordinal_of naming_by_spelling y.scope) (same_name i e) ∙ ap (λ w. ordinal_of naming_by_spelling y.scope (spelling_at w i)) (sym at.second)))
+      adds_one x y (visit_identifier role.LookedUp i x) (visit_identifier role.LookedUp i y) i (ordinal_in_scope naming_by_spelling x.scope (spelling_at x.writing i)) (ordinal_in_scope naming_by_spelling y.scope (spelling_at y.writing i)) refl refl
+      (λ e. (λ j. ordinal_in_scope naming_by_spelling (at.scope j) (spelling_at (at.first j) i)) ∙ (ap (ordinal_in_scope naming_by_spelling y.scope) (same_name i e) ∙ ap (λ w. ordinal_in_scope naming_by_spelling y.scope (spelling_at w i)) (sym at.second)))
   found_adds role.Declaring i x y at = adds_one x y (visit_identifier role.Declaring i x) (visit_identifier role.Declaring i y) i None None refl refl (λ e. refl)
   found_adds role.ClosingName i x y at = adds_one x y (visit_identifier role.ClosingName i x) (visit_identifier role.ClosingName i y) i None None refl refl (λ e. refl)
   found_adds role.FieldName i x y at = adds_one x y (visit_identifier role.FieldName i x) (visit_identifier role.FieldName i y) i None None refl refl (λ e. refl)

@@ -15,9 +15,10 @@ use Rattle.ob0_language_names.specs.Parts.{procedure_name}
 use Rattle.ob0_scope_table.specs.OneBody.{closing_name, is_range_in_body_of_block, is_range_in_one_body, is_range_in_body_of_procedure, is_range_in_body_of_procedures, is_outside_range}
 use Rattle.ob0_scope_table.specs.Resolution.{declaring_names}
 use Rattle.ob0_scope_table.proofs.Plain.{declares_nothing, declaring_names-append}
-use Rattle.ob0_scope_numbering.specs.MarkWalk.{WalkState, state_after_heading, with_mark, number_declaration, put_ordinal, initial_walk_state, visit_nondeclaring_tree, visit_block, visit_constant_section, visit_formals, visit_module, visit_procedure, visit_procedures, visit_type_section, visit_variable_section}
+use Rattle.ob0_scope_numbering.specs.MarkWalk.{WalkState, initial_walk_state}
+use Rattle.ob0_scope_numbering.specs.IdentifierWalk.{state_after_heading, with_mark, number_declaration, visit_nondeclaring_tree, visit_block, visit_constant_section, visit_formals, visit_module, visit_procedure, visit_procedures, visit_type_section, visit_variable_section}
 use Rattle.ob0_scope_numbering.specs.Marks.{OrdinalMark}
-use Rattle.ob0_scope_numbering.specs.BodyWalk.{with_declarations_before, prefix_before, with_procedure_skipped, renumber_block, renumber_procedure, renumber_procedures}
+use Rattle.ob0_scope_numbering.specs.BodyWalk.{with_declarations_before, prefix_before_token, with_procedure_skipped, renumber_block, renumber_procedure, renumber_procedures}
 use Rattle.ob0_scope_numbering.specs.Written.{Spellings, spelling_at}
 use Rattle.ob0_scope_numbering.proofs.Alongside.{Adds, Alike, AllOut, Beside, Goes, adds_then, declared_goes, ending_goes, goes_then, heading_goes, marked_goes, out_parts, out_split, procedure_goes, procedures_go, used_adds, used_goes}
 use Rattle.ob0_scope_numbering.proofs.Covered.{Covers, above_out, below_block, below_out, below_procedures, covers_all, covers_both, covers_more, covers_none, covers_same, is_above_out}
@@ -51,10 +52,10 @@ not_itself x = one (nat_lt x x) refl
     one true e = absurd (grind (arith, nat_tests))
 
 -- The tokens listed before x are the tokens before x, if all of them are below x.
-stops_at : (x : ℕ) (xs extra : List ℕ) → AllBelow x xs → prefix_before x (xs ++ (x ∷ extra)) ≡ xs
-stops_at x [] extra h = ap (λ b. if b then x ∷ prefix_before x extra else []) (not_itself x)
+stops_at : (x : ℕ) (xs extra : List ℕ) → AllBelow x xs → prefix_before_token x (xs ++ (x ∷ extra)) ≡ xs
+stops_at x [] extra h = ap (λ b. if b then x ∷ prefix_before_token x extra else []) (not_itself x)
 stops_at x (y ∷ ys) extra h =
-    ap (λ b. if b then y ∷ prefix_before x (ys ++ (x ∷ extra)) else []) (lt-ltb y x h.0) ∙ ap (λ l. y ∷ l) (stops_at x ys extra h.1)
+    ap (λ b. if b then y ∷ prefix_before_token x (ys ++ (x ∷ extra)) else []) (lt-ltb y x h.0) ∙ ap (λ l. y ∷ l) (stops_at x ys extra h.1)
 
 -- ---- a procedure's tokens end with its closing name
 
@@ -132,8 +133,8 @@ module _ (old new : Spellings) (all : List ℕ) (bound low high : ℕ) (same : (
         first = at.first;
         second = at.second;
         scope = at.scope;
-        declaration_tokens = ap (λ l. v.declaration_tokens ++ prefix_before x l) rest ∙ (ap (λ l. v.declaration_tokens ++ l) (stops_at x at.behind extra below) ∙ sym at.is);
-        outside = all_in (v.declaration_tokens ++ prefix_before x (drop (length v.declaration_tokens) all));
+        declaration_tokens = ap (λ l. v.declaration_tokens ++ prefix_before_token x l) rest ∙ (ap (λ l. v.declaration_tokens ++ l) (stops_at x at.behind extra below) ∙ sym at.is);
+        outside = all_in (v.declaration_tokens ++ prefix_before_token x (drop (length v.declaration_tokens) all));
       }
 
   -- Two walks through the same part from the same place make the same marks.
@@ -179,13 +180,13 @@ module _ (old new : Spellings) (all : List ℕ) (bound low high : ℕ) (same : (
   Rest ps statements =
       (o w v : WalkState) (from to : ℕ) (extra : List ℕ) → is_range_in_body_of_procedures low high ps statements ≡ true → AreAscendingWithin from (identifier_names ps ++ identifier_names statements) to
       → all ≡ w.declaration_tokens ++ (declaring_names (identifiers role.Declaring ps) ++ extra) → Itself w → Near o w → Behind v w
-      → Reaches o w v (visit_nondeclaring_tree statements (visit_procedures ps o)) (visit_nondeclaring_tree statements (visit_procedures ps w)) (renumber_procedures put_ordinal all low ps statements v)
+      → Reaches o w v (visit_nondeclaring_tree statements (visit_procedures ps o)) (visit_nondeclaring_tree statements (visit_procedures ps w)) (renumber_procedures all low ps statements v)
 
   abbrev Here : Tree ℕ (item procedure) → Type 0
   Here q =
       (o w v : WalkState) (from to : ℕ) (extra : List ℕ) → is_range_in_body_of_procedure low high q ≡ true → high ≤ closing_name q → AreAscendingWithin from (identifier_names q) to
       → all ≡ w.declaration_tokens ++ (declaring_names (identifiers role.Declaring q) ++ extra) → Itself w → Near o w → On v w
-      → Reaches o w v (visit_procedure q o) (visit_procedure q w) (renumber_procedure put_ordinal all low q v)
+      → Reaches o w v (visit_procedure q o) (visit_procedure q w) (renumber_procedure all low q v)
 
   -- One more procedure is either skipped, or has the body in it.
   one_procedure : (q : Tree ℕ (item procedure)) (ps : Tree ℕ (items procedure)) (statements : Tree ℕ (maybe body)) (o w v : WalkState) (from to : ℕ) (rest : List ℕ) → Rest ps statements → Here q
@@ -193,7 +194,7 @@ module _ (old new : Spellings) (all : List ℕ) (bound low high : ℕ) (same : (
       → AreAscendingWithin from (identifier_names q ++ (identifier_names ps ++ identifier_names statements)) to → (b : Bool) → nat_lt (closing_name q) low ≡ b
       → (if b then is_range_in_body_of_procedures low high ps statements else nat_le high (closing_name q) && is_range_in_body_of_procedure low high q) ≡ true
       → Reaches o w v (visit_nondeclaring_tree statements (visit_procedures ps (visit_procedure q o))) (visit_nondeclaring_tree statements (visit_procedures ps (visit_procedure q w)))
-      (if b then renumber_procedures put_ordinal all low ps statements (with_procedure_skipped (procedure_name q) (with_declarations_before all (procedure_name q) v)) else renumber_procedure put_ordinal all low q (with_declarations_before all (procedure_name q) v))
+      (if b then renumber_procedures all low ps statements (with_procedure_skipped (procedure_name q) (with_declarations_before all (procedure_name q) v)) else renumber_procedure all low q (with_declarations_before all (procedure_name q) v))
   one_procedure q ps statements o w v from to rest later here first at near on parts true e inside_them =
       let x = procedure_name q in
       let v₁ = with_declarations_before all x v in
@@ -245,7 +246,7 @@ module _ (old new : Spellings) (all : List ℕ) (bound low high : ℕ) (same : (
 
   mutual
     pub block_reached : (b : Tree ℕ block) (o w v : WalkState) (from to : ℕ) (extra : List ℕ) → is_range_in_body_of_block low high b ≡ true → AreAscendingWithin from (identifier_names b) to
-        → all ≡ w.declaration_tokens ++ (declaring_names (identifiers role.Declaring b) ++ extra) → Itself w → Near o w → On v w → Reaches o w v (visit_block b o) (visit_block b w) (renumber_block put_ordinal all low b v)
+        → all ≡ w.declaration_tokens ++ (declaring_names (identifiers role.Declaring b) ++ extra) → Itself w → Near o w → On v w → Reaches o w v (visit_block b o) (visit_block b w) (renumber_block all low b v)
     block_reached (forms_block (declares cs ts vs ps) statements) o w v from to extra inside_it rising declared at near on =
         let c = identifiers role.Declaring cs in
         let t = identifiers role.Declaring ts in
@@ -282,7 +283,7 @@ module _ (old new : Spellings) (all : List ℕ) (bound low high : ℕ) (same : (
 
     pub procedures_reached : (ps : Tree ℕ (items procedure)) (statements : Tree ℕ (maybe body)) (o w v : WalkState) (from to : ℕ) (extra : List ℕ) → is_range_in_body_of_procedures low high ps statements ≡ true → AreAscendingWithin from (identifier_names ps ++ identifier_names statements) to
         → all ≡ w.declaration_tokens ++ (declaring_names (identifiers role.Declaring ps) ++ extra) → Itself w → Near o w → Behind v w
-        → Reaches o w v (visit_nondeclaring_tree statements (visit_procedures ps o)) (visit_nondeclaring_tree statements (visit_procedures ps w)) (renumber_procedures put_ordinal all low ps statements v)
+        → Reaches o w v (visit_nondeclaring_tree statements (visit_procedures ps o)) (visit_nondeclaring_tree statements (visit_procedures ps w)) (renumber_procedures all low ps statements v)
     procedures_reached end statements o w v from to extra inside_it rising declared at near behind =
         let n = used_goes out old new same statements o w near in
         let m = used_adds (λ i. true) new new nothing_new statements v w (record { first = behind.first; second = behind.second; scope = behind.scope }) in
@@ -299,7 +300,7 @@ module _ (old new : Spellings) (all : List ℕ) (bound low high : ℕ) (same : (
 
     pub procedure_reached : (q : Tree ℕ (item procedure)) (o w v : WalkState) (from to : ℕ) (extra : List ℕ) → is_range_in_body_of_procedure low high q ≡ true → high ≤ closing_name q → AreAscendingWithin from (identifier_names q) to
         → all ≡ w.declaration_tokens ++ (declaring_names (identifiers role.Declaring q) ++ extra) → Itself w → Near o w → On v w
-        → Reaches o w v (visit_procedure q o) (visit_procedure q w) (renumber_procedure put_ordinal all low q v)
+        → Reaches o w v (visit_procedure q o) (visit_procedure q w) (renumber_procedure all low q v)
     procedure_reached (declares_procedure x fs b closing) o w v from to extra inside_it le rising declared at near on =
         let f = identifiers role.Declaring fs in
         let i = identifiers role.Declaring b in
@@ -327,7 +328,7 @@ module _ (old new : Spellings) (all : List ℕ) (bound low high : ℕ) (same : (
         let mark : OrdinalMark = record { token = closing; ordinal = Some (7 + length w.declaration_tokens) } in
         let ends : e.adds.seconds ≡ mark ∷ [] = same_added (visit_block b w₁).marks ((visit_block b w₁).marks ++ (mark ∷ [])) e.adds.seconds (mark ∷ []) e.adds.second_is refl in
         let closed = subst (λ ms. Covers out ms []) (sym ends) (covers_more mark (is_above_out low high closing le) covers_none) in
-        let reached = joined_reach o w v o₁ w₁ v₁ (visit_block b o₁) (visit_block b w₁) (renumber_block put_ordinal all low b v₁) n m.adds r in
+        let reached = joined_reach o w v o₁ w₁ v₁ (visit_block b o₁) (visit_block b w₁) (renumber_block all low b v₁) n m.adds r in
         record {
           near = goes_then out old new same reached.near e;
           added = reached.added;
@@ -373,5 +374,5 @@ module _ (old new : Spellings) (all : List ℕ) (bound low high : ℕ) (same : (
       let covered : Covers out whole.seconds (r.added ++ []) = covers_both out opened (covers_both out r.covers closed) in
       record {
         alike = subst (λ ms. Alike out ms (visit_module (is_module x b closing) w).marks) (sym whole.first_is) (subst (λ ms. Alike out whole.firsts ms) (sym whole.second_is) whole.alike);
-        covers = subst (λ ms. Covers out ms (renumber_block put_ordinal all low b w).marks) (sym whole.second_is) (subst (Covers out whole.seconds) (append-nil r.added ∙ sym r.is) covered);
+        covers = subst (λ ms. Covers out ms (renumber_block all low b w).marks) (sym whole.second_is) (subst (Covers out whole.seconds) (append-nil r.added ∙ sym r.is) covered);
       }

@@ -14,7 +14,8 @@ use Rattle.ob0_language_names.specs.Scopes.{label_from_ordinal}
 use Rattle.ob0_scope_table.specs.OneBody.{IsBodyChange, is_range_in_one_body, is_outside_range}
 use Rattle.ob0_scope_table.specs.Resolution.{declaring_names, ordinal_in}
 use Rattle.ob0_scope_table.proofs.OneBody.{text_out}
-use Rattle.ob0_scope_numbering.specs.MarkWalk.{initial_walk_state, visit_module}
+use Rattle.ob0_scope_numbering.specs.MarkWalk.{initial_walk_state}
+use Rattle.ob0_scope_numbering.specs.IdentifierWalk.{visit_module}
 use Rattle.ob0_scope_numbering.specs.Marks.{OrdinalMark, with_marks}
 use Rattle.ob0_scope_numbering.specs.BodyWalk.{renumber_module, initial_walk_state_with_table}
 use Rattle.ob0_scope_numbering.specs.Written.{original_spellings}

@@ -5,7 +5,8 @@ use Rattle.ob0_tree.specs.Tree.{one, then_name}
 use Rattle.ob0_tree.specs.declared.tree.ParameterSection.{ParameterSection}
 use Rattle.ob0_tree.specs.View.{items_of, formals_of_list, further_parameter_section_of}
 use Rattle.ob0_language_names.specs.Parts.{further_names}
-use Rattle.ob0_scope_numbering.specs.TableWalk.{WalkState, with_visible_names_from, visit_formals, visit_parameter_sections}
+use Rattle.ob0_scope_numbering.specs.TableWalk.{WalkState}
+use Rattle.ob0_scope_numbering.specs.IdentifierWalk.{with_visible_names_from, visit_formals, visit_parameter_sections}
 
 pub names_further : (xs : List ℕ) → further_names (items_of then_name xs) ≡ xs
 names_further [] = refl

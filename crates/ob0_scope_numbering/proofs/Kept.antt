@@ -9,12 +9,13 @@ use Rattle.ob0_tree.specs.Order.{AreAscendingWithin, names_without_roles}
 use Rattle.ob0_tree.specs.ParsedModule.{IsParsed, ParsedModule, tree_of}
 use Rattle.ob0_tree.specs.Tree.{identifiers}
 use Rattle.ob0_tree.proofs.Leaves.{leaves_ascend}
-use Rattle.ob0_scope_table.specs.Entries.{greatest_ordinal, stored_ordinal}
+use Rattle.ob0_scope_table.specs.Entries.{max_entry_ordinal, stored_ordinal}
 use Rattle.ob0_language_names.specs.Names.{naming_by_spelling}
 use Rattle.ob0_scope_table.specs.Resolution.{ordinal_in}
 use Rattle.ob0_scope_table.proofs.FewTokens.{few_tokens}
 use Rattle.ob0_language_names.specs.Scopes.{label_from_ordinal}
-use Rattle.ob0_scope_numbering.specs.MarkWalk.{initial_walk_state, visit_module}
+use Rattle.ob0_scope_numbering.specs.MarkWalk.{initial_walk_state}
+use Rattle.ob0_scope_numbering.specs.IdentifierWalk.{visit_module}
 use Rattle.ob0_scope_numbering.specs.Marks.{OrdinalMark, with_marks}
 use Rattle.ob0_scope_numbering.specs.Written.{Spellings}
 use Rattle.ob0_scope_numbering.proofs.Passing.{AreInOrder, HasMarks, IsBefore, at_start, module_passed, tokens_of}
@@ -63,11 +64,11 @@ abbrev pub with_entries : List (Option ℕ) → List OrdinalMark → List (Optio
 with_entries table [] = table
 with_entries table (m ∷ ms) = with_entries (set table m.token (stored_ordinal m.ordinal)) ms
 
-kept_before : (n : ℕ) (o : Option ℕ) → n ≤ greatest_ordinal → IsBefore n o → stored_ordinal o ≡ o
+kept_before : (n : ℕ) (o : Option ℕ) → n ≤ max_entry_ordinal → IsBefore n o → stored_ordinal o ≡ o
 kept_before n None le h = refl
-kept_before n (Some j) le h = ap Some (min-eq_left (let below : j ≤ greatest_ordinal = omega (arith, le, h) in below))
+kept_before n (Some j) le h = ap Some (min-eq_left (let below : j ≤ max_entry_ordinal = omega (arith, le, h) in below))
 
-pub entries_kept : (read : ℕ → Option ℕ) (n : ℕ) (ms : List OrdinalMark) (table : List (Option ℕ)) → n ≤ greatest_ordinal → AreMarksBefore read n ms → with_entries table ms ≡ with_marks table ms
+pub entries_kept : (read : ℕ → Option ℕ) (n : ℕ) (ms : List OrdinalMark) (table : List (Option ℕ)) → n ≤ max_entry_ordinal → AreMarksBefore read n ms → with_entries table ms ≡ with_marks table ms
 entries_kept read n [] table le h = refl
 entries_kept read n (m ∷ ms) table le h =
     ap (λ o. with_entries (set table m.token o) ms) (kept_before n m.ordinal le h.0) ∙ entries_kept read n ms (set table m.token m.ordinal) le h.1
@@ -76,7 +77,7 @@ entries_kept read n (m ∷ ms) table le h =
 pub record MarksFew (m : ParsedModule) (w : Spellings) : Type 0 where
   pub read : ℕ → Option ℕ
   pub bound : ℕ
-  pub small : bound ≤ greatest_ordinal
+  pub small : bound ≤ max_entry_ordinal
   pub before : AreMarksBefore read bound (visit_module (tree_of m) (initial_walk_state w)).marks
 
 pub marks_few : (m : ParsedModule) (w : Spellings) → IsParsed m → IsScan m.source → MarksFew m w

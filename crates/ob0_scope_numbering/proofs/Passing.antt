@@ -14,8 +14,9 @@ use Rattle.ob0_scope_numbering.specs.Marks.{OrdinalMark}
 use Rattle.ob0_language_names.specs.Names.{Name, naming_by_spelling, same_name}
 use Rattle.ob0_language_names.specs.Parts.{constant_names, formal_names, formal_sections, further_names, module_block, declared_type_names, names_in_list, procedure_name, section_constants, parameter_section_names, section_types, section_variables, variable_names}
 use Rattle.ob0_scope_table.specs.Resolution.{declaring_names}
-use Rattle.ob0_language_names.specs.Scopes.{Labelling, Scope, ordinal_after_block, ordinal_after_names, ordinal_after_procedure, ordinal_after_procedures, body_scope, declare_names, declare_procedure_names, ordinal_of, predeclared_scope, relabel_block, relabel_constant_section, relabel_constants, relabel_formals, relabel_further_names, relabel_names, relabel_procedure, relabel_procedures, relabel_section, relabel_sections, relabel_type_section, relabel_types, relabel_uses, relabel_variable_section, relabel_variables, relabel_module}
-use Rattle.ob0_scope_numbering.specs.MarkWalk.{WalkState, initial_walk_state, state_after_procedure_block, state_after_heading, visit_identifier, visit_identifiers, with_oldest_bindings, with_mark, number_declarations, number_declaration, with_visible_names_from, visit_nondeclaring_tree, visit_block, visit_constant, visit_constant_section, visit_constants, visit_formals, visit_module, visit_procedure, visit_procedures, visit_parameter_section, visit_parameter_sections, visit_type, visit_type_section, visit_types, visit_variable, visit_variable_section, visit_variables}
+use Rattle.ob0_language_names.specs.Scopes.{Labelling, Scope, ordinal_after_block, ordinal_after_names, ordinal_after_procedure, ordinal_after_procedures, body_scope, declare_names, declare_procedure_names, ordinal_in_scope, predeclared_scope, relabel_block, relabel_constant_section, relabel_constants, relabel_formals, relabel_further_names, relabel_names, relabel_procedure, relabel_procedures, relabel_parameter_section, relabel_parameter_sections, relabel_type_section, relabel_types, relabel_uses, relabel_variable_section, relabel_variables, relabel_module}
+use Rattle.ob0_scope_numbering.specs.MarkWalk.{WalkState, initial_walk_state}
+use Rattle.ob0_scope_numbering.specs.IdentifierWalk.{state_after_procedure_block, state_after_heading, visit_identifier, visit_identifiers, with_oldest_bindings, with_mark, number_declarations, number_declaration, with_visible_names_from, visit_nondeclaring_tree, visit_block, visit_constant, visit_constant_section, visit_constants, visit_formals, visit_module, visit_procedure, visit_procedures, visit_parameter_section, visit_parameter_sections, visit_type, visit_type_section, visit_types, visit_variable, visit_variable_section, visit_variables}
 use Rattle.ob0_scope_numbering.proofs.Agreed.{AllFit, agreed}
 use Rattle.ob0_language_names.proofs.Ordinals.{ordinal_after_names-append, declare_names-append, le-ordinal_after_block, le-ordinal_after_names}
 use Rattle.ob0_language_names.proofs.OccurrenceNames.{length-map}
@@ -56,9 +57,9 @@ older_before : (k : ℕ) (newer s : Scope Name) → AreBefore k (newer ++ s) →
 older_before k [] s h = h
 older_before k (b ∷ newer) s h = older_before k newer s h.1
 
-looked_up_before : (k : ℕ) (s : Scope Name) (x : Name) → AreBefore k s → IsBefore k (ordinal_of naming_by_spelling s x)
+looked_up_before : (k : ℕ) (s : Scope Name) (x : Name) → AreBefore k s → IsBefore k (ordinal_in_scope naming_by_spelling s x)
 looked_up_before k [] x h = tt
-looked_up_before k (b ∷ s) x h = elim (same_name x b.0) as (λ v. IsBefore k (elim v [ true ↦ Some b.1 | false ↦ ordinal_of naming_by_spelling s x ])) [ true ↦ h.0 | false ↦ looked_up_before k s x h.1 ]
+looked_up_before k (b ∷ s) x h = elim (same_name x b.0) as (λ v. IsBefore k (elim v [ true ↦ Some b.1 | false ↦ ordinal_in_scope naming_by_spelling s x ])) [ true ↦ h.0 | false ↦ looked_up_before k s x h.1 ]
 
 -- holds if each declaring identifier has the next ordinal, and each other one has the ordinal of an
 -- earlier declaration or none
@@ -159,7 +160,7 @@ found_none table src i v h = let m = marks_split table v.marks (record { token =
 
 found_one : (table : ℕ → Option ℕ) (src : Spellings) (r : Role) (i : ℕ) (v : WalkState) → FoundAll table src v (visit_identifier r i v) ((r, i) ∷ [])
 found_one table src role.LookedUp i v =
-    let m : OrdinalMark = record { token = i; ordinal = ordinal_of naming_by_spelling v.scope (spelling_at v.writing i) } in
+    let m : OrdinalMark = record { token = i; ordinal = ordinal_in_scope naming_by_spelling v.scope (spelling_at v.writing i) } in
     record {
       writing = refl;
       scope = refl;
@@ -168,7 +169,7 @@ found_one table src role.LookedUp i v =
       tokens = mark_added v.marks m;
       agree = λ e h.
           let parts = marks_split table v.marks (m ∷ []) h in
-          (parts.0, (parts.1.0 ∙ ap (λ z. ordinal_of naming_by_spelling v.scope (spelling_at z i)) e, tt));
+          (parts.0, (parts.1.0 ∙ ap (λ z. ordinal_in_scope naming_by_spelling v.scope (spelling_at z i)) e, tt));
     }
 found_one table src role.Declaring i v = record { writing = refl; scope = refl; kept = refl; used = sym (append-nil v.uses); tokens = mark_added v.marks (record { token = i; ordinal = None }); agree = λ e h. let f = found_none table src i v h in (f.0, (f.1, tt)) }
 found_one table src role.ClosingName i v = record { writing = refl; scope = refl; kept = refl; used = sym (append-nil v.uses); tokens = mark_added v.marks (record { token = i; ordinal = None }); agree = λ e h. let f = found_none table src i v h in (f.0, (f.1, tt)) }
@@ -405,13 +406,13 @@ module _ {M : Type 0} (table : ℕ → Option ℕ) (label : Labelling Name M) (s
 
   section_passed : (f : Tree ℕ section) (v : WalkState) (s : Scope Name) (k : ℕ) → At v src s k
       → Passes v (visit_parameter_section f v) (identifiers role.Declaring f) (declare_names k (parameter_section_names (spelled f)) s) (ordinal_after_names k (parameter_section_names (spelled f)))
-      (relabel_section naming_by_spelling label s k (spelled f) ≡ by_table f)
+      (relabel_parameter_section naming_by_spelling label s k (spelled f) ≡ by_table f)
   section_passed (value_section ns t) v s k at = pass_to (group_passed ns t v s k at) (λ p i. value_section (p.first i) (p.second i))
   section_passed (variable_section ns t) v s k at = pass_to (group_passed ns t v s k at) (λ p i. variable_section (p.first i) (p.second i))
 
   sections_passed : (fs : Tree ℕ (items further_section)) (v : WalkState) (s : Scope Name) (k : ℕ) → At v src s k
       → Passes v (visit_parameter_sections fs v) (identifiers role.Declaring fs) (declare_names k (formal_names (spelled fs)) s) (ordinal_after_names k (formal_names (spelled fs)))
-      (relabel_sections naming_by_spelling label s k (spelled fs) ≡ by_table fs)
+      (relabel_parameter_sections naming_by_spelling label s k (spelled fs) ≡ by_table fs)
   sections_passed end v s k at = pass_to (pass_nothing v s k at) (λ h. refl)
   sections_passed (more (then_section f) fs) v s k at =
       let xs = parameter_section_names (spelled f) in

@@ -8,7 +8,7 @@ use Rattle.ob0_scope_numbering.specs.declared.newest.NameEntry.{NameEntry}
 use Rattle.ob0_scope_numbering.specs.declared.visible.Binding.{Binding}
 use Rattle.ob0_language_names.specs.Names.{Name, naming_by_spelling, same_name}
 use Rattle.ob0_scope_numbering.specs.NewestNames.{SetsNewestBinding, KeepsNewestBindings, KeepsNamePositions, newest_binding_in, position_of_name}
-use Rattle.ob0_language_names.specs.Scopes.{ordinal_of}
+use Rattle.ob0_language_names.specs.Scopes.{ordinal_in_scope}
 use Rattle.ob0_scope_numbering.specs.StoredScopes.{HaveHiddenBindingIndexes, HaveNamePositions, HasNewestBindings, newest_binding_index, scope_of}
 use Rattle.ob0_language_names.proofs.NameEquality.{same_name-comm}
 
@@ -39,25 +39,25 @@ none_step false n rest e = (refl, e)
 flipped : (b : Binding) (bs : List Binding) → reverse (b ∷ bs) ≡ reverse bs ++ (b ∷ [])
 flipped b bs = reverse-append (b ∷ []) bs
 
-pub latest_ordinal : (x : Name) (bs : List Binding) (i : ℕ) (d : Binding) → newest_binding_index x bs ≡ Some i → ordinal_of naming_by_spelling (map shown bs) x ≡ Some ((get_or (reverse bs) i d).ordinal)
+pub latest_ordinal : (x : Name) (bs : List Binding) (i : ℕ) (d : Binding) → newest_binding_index x bs ≡ Some i → ordinal_in_scope naming_by_spelling (map shown bs) x ≡ Some ((get_or (reverse bs) i d).ordinal)
 latest_ordinal x [] i d e = absurd (cc)
 latest_ordinal x (b ∷ bs) i d e =
     elim (latest_step (same_name x b.name.now) (length bs) i (newest_binding_index x bs) e) [
       | inl h ↦
           let here : get_or (reverse (b ∷ bs)) i d ≡ b =
           ap (λ l. get_or l i d) (flipped b bs) ∙ (ap (λ n. get_or (reverse bs ++ (b ∷ [])) n d) (sym (length-reverse bs ∙ h.1)) ∙ get_or-append_seam (reverse bs) b [] d) in
-          ordinal_here (same_name x b.name.now) b.ordinal (ordinal_of naming_by_spelling (map shown bs) x) h.0 ∙ ap (λ (z : Binding). Some z.ordinal) (sym here)
+          ordinal_here (same_name x b.name.now) b.ordinal (ordinal_in_scope naming_by_spelling (map shown bs) x) h.0 ∙ ap (λ (z : Binding). Some z.ordinal) (sym here)
       | inr h ↦
           let below : i < length (reverse bs) = subst (λ n. i < n) (sym (length-reverse bs)) (latest_below x bs i h.1) in
           let there : get_or (reverse (b ∷ bs)) i d ≡ get_or (reverse bs) i d = ap (λ l. get_or l i d) (flipped b bs) ∙ get_or-append (reverse bs) (b ∷ []) d i below in
-          ordinal_there (same_name x b.name.now) b.ordinal (ordinal_of naming_by_spelling (map shown bs) x) h.0 ∙ (latest_ordinal x bs i d h.1 ∙ ap (λ (z : Binding). Some z.ordinal) (sym there))
+          ordinal_there (same_name x b.name.now) b.ordinal (ordinal_in_scope naming_by_spelling (map shown bs) x) h.0 ∙ (latest_ordinal x bs i d h.1 ∙ ap (λ (z : Binding). Some z.ordinal) (sym there))
     ]
 
-pub latest_none : (x : Name) (bs : List Binding) → newest_binding_index x bs ≡ None → ordinal_of naming_by_spelling (map shown bs) x ≡ None
+pub latest_none : (x : Name) (bs : List Binding) → newest_binding_index x bs ≡ None → ordinal_in_scope naming_by_spelling (map shown bs) x ≡ None
 latest_none x [] e = refl
 latest_none x (b ∷ bs) e =
     let h = none_step (same_name x b.name.now) (length bs) (newest_binding_index x bs) e in
-    ordinal_there (same_name x b.name.now) b.ordinal (ordinal_of naming_by_spelling (map shown bs) x) h.0 ∙ latest_none x bs h.1
+    ordinal_there (same_name x b.name.now) b.ordinal (ordinal_in_scope naming_by_spelling (map shown bs) x) h.0 ∙ latest_none x bs h.1
 
 chosen : (p q : Bool) (a b c d : Option ℕ) → p ≡ q → a ≡ c → b ≡ d → (if p then a else b) ≡ (if q then c else d)
 chosen true true a b c d e f g = f
@@ -114,9 +114,9 @@ pub looked_up_below : (newest : List NameEntry) (items : List Binding) (x : Name
 looked_up_below newest items x i w e = subst (λ n. i < n) (length-reverse items) (latest_below x (reverse items) i (sym (w.found x) ∙ sym e))
 
 pub looked_up_some : (newest : List NameEntry) (items : List Binding) (x : Name) (i : ℕ) (b : Binding) → HasNewestBindings newest items → Some i ≡ newest_binding_in newest x
-    → b ≡ get_or items i b → Some b.ordinal ≡ ordinal_of naming_by_spelling (scope_of items) x
+    → b ≡ get_or items i b → Some b.ordinal ≡ ordinal_in_scope naming_by_spelling (scope_of items) x
 looked_up_some newest items x i b w e here =
     ap (λ (z : Binding). Some z.ordinal) (here ∙ ap (λ l. get_or l i b) (sym (reverse-reverse items))) ∙ sym (latest_ordinal x (reverse items) i b (sym (w.found x) ∙ sym e))
 
-pub looked_up_none : (newest : List NameEntry) (items : List Binding) (x : Name) → HasNewestBindings newest items → None ≡ newest_binding_in newest x → None ≡ ordinal_of naming_by_spelling (scope_of items) x
+pub looked_up_none : (newest : List NameEntry) (items : List Binding) (x : Name) → HasNewestBindings newest items → None ≡ newest_binding_in newest x → None ≡ ordinal_in_scope naming_by_spelling (scope_of items) x
 looked_up_none newest items x w e = sym (latest_none x (reverse items) (sym (w.found x) ∙ sym e))

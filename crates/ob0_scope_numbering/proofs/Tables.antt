@@ -9,7 +9,8 @@ use Rattle.std.proofs.Math.ListN.{length-set}
 use Rattle.ob0_tree.specs.Order.{AreAscendingWithin}
 use Rattle.ob0_tree.specs.ParsedModule.{IsParsed, ParsedModule, tree_of}
 use Rattle.ob0_tree.proofs.Leaves.{ascending_bounds, leaves_ascend}
-use Rattle.ob0_scope_numbering.specs.MarkWalk.{WalkState, initial_walk_state, visit_module}
+use Rattle.ob0_scope_numbering.specs.MarkWalk.{WalkState, initial_walk_state}
+use Rattle.ob0_scope_numbering.specs.IdentifierWalk.{visit_module}
 use Rattle.ob0_scope_numbering.specs.Marks.{OrdinalMark, with_marks}
 use Rattle.ob0_scope_numbering.specs.Written.{Spellings}
 use Rattle.ob0_language_names.specs.Names.{naming_by_spelling}

@@ -4,54 +4,53 @@
 -- Rule: none; used in contracts of the walk over identifiers.
 use Rattle.std.specs.Prelude.{ℕ, ◌+◌, nat_lt, List, [], ◌∷◌, ◌++◌, Option, length, drop, if◌then◌else◌}
 use Rattle.ob0_tree.specs.Tree.{Tree, block, body, declares, declares_procedure, end, forms_block, is_module, item, items, maybe, module_text, more, procedure}
-use Rattle.ob0_language_names.specs.Names.{naming_by_spelling}
 use Rattle.ob0_language_names.specs.Parts.{procedure_name}
-use Rattle.ob0_language_names.specs.Scopes.{predeclared_count, predeclared_scope}
+use Rattle.ob0_language_names.specs.Scopes.{predeclared_count}
 use Rattle.ob0_scope_numbering.specs.TableWalk as tabling
-use Rattle.ob0_scope_numbering.specs.IdentifierWalk.{WalkState, state_after_heading, number_declaration, visit_nondeclaring_tree, with_visible_name, visit_constant_section, visit_formals, visit_type_section, visit_variable_section}
+use Rattle.ob0_scope_numbering.specs.IdentifierWalk.{WalkState, state_after_heading, state_before_module, number_declaration, visit_nondeclaring_tree, with_visible_name, visit_constant_section, visit_formals, visit_type_section, visit_variable_section}
 use Rattle.ob0_scope_numbering.specs.Written.{Spellings}
 use Rattle.ob0_scope_table.specs.OneBody.{closing_name}
 
 -- returns the longest prefix of a list of tokens in which all tokens are before `token`
-abbrev pub prefix_before : ℕ → List ℕ → List ℕ
-prefix_before token [] = []
-prefix_before token (x ∷ xs) = if nat_lt x token then x ∷ prefix_before token xs else []
+abbrev pub prefix_before_token : ℕ → List ℕ → List ℕ
+prefix_before_token token [] = []
+prefix_before_token token (x ∷ xs) = if nat_lt x token then x ∷ prefix_before_token token xs else []
 
--- Appends the declarations before a token that aren't in the list of declarations yet, without
--- visiting them. `all` has the declaring tokens of the whole module, in text order.
-abbrev pub with_declarations_before : {M : Type 0} → List ℕ → ℕ → WalkState M → WalkState M
-with_declarations_before all token v =
-    record v {
-      declaration_tokens = v.declaration_tokens ++ prefix_before token (drop (length v.declaration_tokens) all);
-    }
+module _ {M : Type 0} {put_ordinal : ℕ → Option ℕ → M → M} where
+  -- Appends the declarations before a token that aren't in the list of declarations yet, without
+  -- visiting them. `all` has the declaring tokens of the whole module, in text order.
+  abbrev pub with_declarations_before : List ℕ → ℕ → WalkState put_ordinal → WalkState put_ordinal
+  with_declarations_before all token v =
+      record v {
+        declaration_tokens = v.declaration_tokens ++ prefix_before_token token (drop (length v.declaration_tokens) all);
+      }
 
--- appends this declaring token to the list of declarations, without visiting the declaration
-abbrev pub with_declaration : {M : Type 0} → ℕ → WalkState M → WalkState M
-with_declaration token v = record v { declaration_tokens = v.declaration_tokens ++ (token ∷ []) }
+  -- appends this declaring token to the list of declarations, without visiting the declaration
+  abbrev pub with_declaration : ℕ → WalkState put_ordinal → WalkState put_ordinal
+  with_declaration token v = record v { declaration_tokens = v.declaration_tokens ++ (token ∷ []) }
 
--- makes a procedure's name visible with the next ordinal, without visiting the procedure; the name
--- is declared at the token `x`
-abbrev pub with_procedure_skipped : {M : Type 0} → ℕ → WalkState M → WalkState M
-with_procedure_skipped x v = with_visible_name x (predeclared_count + length v.declaration_tokens) v
+  -- makes the name of the procedure that is declared at the token `x` visible with the next ordinal,
+  -- without visiting the procedure
+  abbrev pub with_procedure_skipped : ℕ → WalkState put_ordinal → WalkState put_ordinal
+  with_procedure_skipped x v = with_visible_name x (predeclared_count + length v.declaration_tokens) v
 
--- In the following definitions, `put_ordinal` adds the ordinal of the identifier at a token to the
--- ordinals so far. `all` has the declaring tokens of the whole module. The walk goes to the body
--- that contains the token `low`.
-module _ {M : Type 0} (put_ordinal : ℕ → Option ℕ → M → M) (all : List ℕ) (low : ℕ) where
+-- In the following definitions, `all` has the declaring tokens of the whole module. The walk goes to
+-- the body that contains the token `low`.
+module _ {M : Type 0} {put_ordinal : ℕ → Option ℕ → M → M} (all : List ℕ) (low : ℕ) where
   abbrev mutual
     -- Visits a block: its constants, types and variables, and then only the first procedure whose
     -- closing name is at or after the token `low`. If there is no such procedure, visits the block's
     -- own statements.
-    pub renumber_block : Tree ℕ block → WalkState M → WalkState M
+    pub renumber_block : Tree ℕ block → WalkState put_ordinal → WalkState put_ordinal
     renumber_block (forms_block (declares cs ts vs ps) statements) v =
         renumber_procedures ps statements
-        (visit_variable_section put_ordinal vs (visit_type_section put_ordinal ts (visit_constant_section put_ordinal cs v)))
+        (visit_variable_section vs (visit_type_section ts (visit_constant_section cs v)))
 
     -- Visits the first of these procedures whose closing name is at or after the token `low`. The
     -- names of the earlier procedures only become visible. If there is no such procedure, visits the
     -- statements of the procedures' block.
-    pub renumber_procedures : Tree ℕ (items procedure) → Tree ℕ (maybe body) → WalkState M → WalkState M
-    renumber_procedures end statements v = visit_nondeclaring_tree put_ordinal statements v
+    pub renumber_procedures : Tree ℕ (items procedure) → Tree ℕ (maybe body) → WalkState put_ordinal → WalkState put_ordinal
+    renumber_procedures end statements v = visit_nondeclaring_tree statements v
     renumber_procedures (more p ps) statements v =
         if nat_lt (closing_name p) low
         then renumber_procedures ps statements
@@ -59,23 +58,16 @@ module _ {M : Type 0} (put_ordinal : ℕ → Option ℕ → M → M) (all : List
         else renumber_procedure p (with_declarations_before all (procedure_name p) v)
 
     -- visits a procedure's name, its parameters and its block, but not its closing name
-    pub renumber_procedure : Tree ℕ (item procedure) → WalkState M → WalkState M
+    pub renumber_procedure : Tree ℕ (item procedure) → WalkState put_ordinal → WalkState put_ordinal
     renumber_procedure (declares_procedure x fs b closing) v =
         renumber_block b (state_after_heading (length v.declaration_tokens) (length v.scope)
-        (visit_formals put_ordinal fs (number_declaration put_ordinal x v)))
+        (visit_formals fs (number_declaration x v)))
 
 -- returns the state before the first identifier of a module, with this table of ordinals
 abbrev pub initial_walk_state_with_table : Spellings → List (Option ℕ) → tabling.WalkState
-initial_walk_state_with_table writing table =
-    record {
-      writing = writing;
-      scope = predeclared_scope naming_by_spelling;
-      declaration_tokens = [];
-      uses = [];
-      marks = table;
-    }
+initial_walk_state_with_table writing table = state_before_module writing table
 
 -- Returns the state after the walk to the body that contains the token `low`, in which the ordinals
 -- are entered into a table. `all` has the declaring tokens of the whole module, in text order.
 abbrev pub renumber_module : List ℕ → ℕ → Tree ℕ module_text → tabling.WalkState → tabling.WalkState
-renumber_module all low (is_module x b closing) v = renumber_block tabling.put_ordinal all low b v
+renumber_module all low (is_module x b closing) v = renumber_block all low b v

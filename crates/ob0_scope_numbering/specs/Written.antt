@@ -20,15 +20,15 @@ pub record Spellings : Type 0 where
 
 -- Returns whether an identifier's ordinal (the second argument) is the ordinal of the renamed
 -- declaration (the first argument). Returns false if no declaration is renamed (None).
-abbrev pub is_bound_to_renamed : Option ℕ → Option ℕ → Bool
-is_bound_to_renamed None ordinal = false
-is_bound_to_renamed (Some d) ordinal = same_ordinal ordinal d
+abbrev pub is_bound_to_renamed_declaration : Option ℕ → Option ℕ → Bool
+is_bound_to_renamed_declaration None ordinal = false
+is_bound_to_renamed_declaration (Some d) ordinal = same_ordinal ordinal d
 
 -- returns the spelling of the identifier at a token: `w.new` if the identifier is bound to the
 -- renamed declaration, otherwise its spelling in the text
 abbrev pub spelling_at : Spellings → ℕ → Name
 spelling_at w i =
-    if is_bound_to_renamed w.declaration (ordinal_in w.ordinals i) then w.new else token_text_at w.source i
+    if is_bound_to_renamed_declaration w.declaration (ordinal_in w.ordinals i) then w.new else token_text_at w.source i
 
 -- returns the spellings of the identifiers as in the text, without a renaming
 abbrev pub original_spellings : TextWithTokens → Spellings

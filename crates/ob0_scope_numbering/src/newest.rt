@@ -106,7 +106,8 @@ pub(crate) struct NameEntry<'t> {
 /// A list of names with their newest bindings, each name once (`entries`). The name that a renaming
 /// introduces is first. The other names follow in the order in which they were first bound. The map
 /// `name_positions` gives a name's position in `entries` in logarithmic time, whatever the names
-/// are. The table `recent_positions` usually gives the position of a recently found name at once.
+/// are. For a recently found name, the table `recent_positions` usually gives the position without
+/// a search of the map.
 #[derive(Drop)]
 pub(crate) struct NewestBindings<'t> {
     entries: Vec<NameEntry<'t>>,

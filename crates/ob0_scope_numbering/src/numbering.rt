@@ -27,18 +27,19 @@
 ghost use Rattle.std.specs.Prelude.{◌≡◌, ◌+◌, ◌<◌, ◌^◌, [], OnOk, IfOk, length, Some, None};
 ghost use Rattle.ob0_tree.specs.declared.tree.Role.TheVariants as roles;
 ghost use Rattle.ob0_tree.specs.ParsedModule.{tree_of};
-ghost use Rattle.ob0_tree.specs.View.{names_of, constant_of, constants_of, type_declaration_of, types_of, variable_of, variables_of, parameter_section_of, formals_of, procedure_of, block_of};
+ghost use Rattle.ob0_tree.specs.View.{names_of, constant_of, constant_section_of, type_declaration_of, type_section_of, variable_of, variable_section_of, parameter_section_of, formals_of, procedure_of, block_of};
 ghost use Rattle.ob0_language_names.specs.Names.{naming_by_spelling};
 ghost use Rattle.ob0_language_names.specs.Parts.{names_in_list};
 ghost use Rattle.ob0_scope_table.specs.Resolution.{ordinal_in};
-ghost use Rattle.ob0_language_names.specs.Scopes.{ordinal_of, predeclared_count, predeclared_scope};
+ghost use Rattle.ob0_language_names.specs.Scopes.{ordinal_in_scope, predeclared_count, predeclared_scope};
 ghost use Rattle.ob0_scope_numbering.specs.StoredScopes.{with_scope};
-ghost use Rattle.ob0_scope_numbering.specs.Written.{original_spellings, is_bound_to_renamed, spelling_at};
-ghost use Rattle.ob0_scope_numbering.specs.TableWalk.{with_mark, number_declaration, number_declarations, with_visible_name, with_visible_names_from, with_oldest_bindings, visit_identifier, visit_constant, visit_constant_section, visit_type, visit_type_section, visit_variable, visit_variable_section, visit_parameter_section, visit_formals, visit_procedure, visit_block, visit_module, initial_walk_state, number_module, put_ordinal};
+ghost use Rattle.ob0_scope_numbering.specs.Written.{original_spellings, is_bound_to_renamed_declaration, spelling_at};
+ghost use Rattle.ob0_scope_numbering.specs.TableWalk.{initial_walk_state, number_module};
+ghost use Rattle.ob0_scope_numbering.specs.IdentifierWalk.{with_mark, number_declaration, number_declarations, with_visible_name, with_visible_names_from, with_oldest_bindings, visit_identifier, visit_constant, visit_constant_section, visit_type, visit_type_section, visit_variable, visit_variable_section, visit_parameter_section, visit_formals, visit_procedure, visit_block, visit_module};
 ghost use Rattle.ob0_scope_numbering.specs.BodyWalk.{with_declarations_before, with_declaration, renumber_module, with_procedure_skipped, renumber_block, renumber_procedure, initial_walk_state_with_table};
 
 use crate::visible::ScopeBindings;
-use crate::writing::{Spellings, is_bound_to_renamed};
+use crate::writing::{Spellings, is_bound_to_renamed_declaration};
 use ob0_scan::Tokens;
 use ob0_scope_table::{OrdinalEntry, PREDECLARED_COUNT, ordinal_at};
 use ob0_tree::walk::{Visitor, walk_body, walk_expression, walk_type};
@@ -88,7 +89,7 @@ impl<'t> Model for NumberingWalk<'t> {
 
 /// Visits the identifiers in expressions, types and statements, which declare nothing.
 impl<'t> Visitor for NumberingWalk<'t> {
-    ghost use Rattle.ob0_scope_numbering.specs.TableWalk.{visit_identifier};
+    ghost use Rattle.ob0_scope_numbering.specs.IdentifierWalk.{visit_identifier};
 
     ghost seen = { visit_identifier };
 
@@ -192,7 +193,7 @@ pub fn renumber_body(
         table,
     };
     numbering.revisit_block(read.block(), all, low)?;
-    let (_declarations, _occurrences, ordinals) = numbering.into_parts();
+    let (_declarations, _occurrences, ordinals) = numbering.into_tokens_and_ordinals();
     Ok(ordinals)
 }
 
@@ -214,7 +215,7 @@ pub fn number_identifiers<'t>(
 impl<'t> NumberingWalk<'t> {
     /// Returns the tokens of the declaring names, the tokens of the looked-up names, and the table
     /// of ordinals.
-    pub fn into_parts(self) -> (Vec<usize>, Vec<usize>, Vec<OrdinalEntry>)
+    pub fn into_tokens_and_ordinals(self) -> (Vec<usize>, Vec<usize>, Vec<OrdinalEntry>)
         ensures declaration_tokens { result.0.items ≡ self.entry.declaration_tokens }
         ensures uses { result.1.items ≡ self.entry.uses }
         ensures table { result.2.items ≡ self.entry.marks }
@@ -270,7 +271,7 @@ impl<'t> NumberingWalk<'t> {
     fn make_name_visible(&mut self, token: usize, ordinal: usize) -> Result<(), AllocError>
         ensures { OnOk result (self.new ≡ with_visible_name token ordinal self.old) }
     {
-        if self.is_bound_to_renamed(token) {
+        if self.is_bound_to_renamed_declaration(token) {
             self.visible.declare_new_name(ordinal)
         } else {
             self.visible
@@ -299,21 +300,21 @@ impl<'t> NumberingWalk<'t> {
 
     /// Returns whether the identifier at a token is bound to the renamed declaration, so that it
     /// has the new name instead of its spelling in the text.
-    fn is_bound_to_renamed(&self, token: usize) -> bool
+    fn is_bound_to_renamed_declaration(&self, token: usize) -> bool
         ensures { result
-            ≡ is_bound_to_renamed self.now.writing.declaration (ordinal_in self.now.writing.ordinals token) }
+            ≡ is_bound_to_renamed_declaration self.now.writing.declaration (ordinal_in self.now.writing.ordinals token) }
     {
-        is_bound_to_renamed(self.declaration, ordinal_at(self.ordinals, token))
+        is_bound_to_renamed_declaration(self.declaration, ordinal_at(self.ordinals, token))
     }
 
     /// Returns the ordinal of the declaration to which the name at a token is bound. Returns None
     /// if the name is unbound.
     fn bound_ordinal(&mut self, token: usize) -> Option<usize>
         ensures bound { result
-            ≡ ordinal_of naming_by_spelling self.old.scope (spelling_at self.old.writing token) }
+            ≡ ordinal_in_scope naming_by_spelling self.old.scope (spelling_at self.old.writing token) }
         ensures same { self.new ≡ self.old }
     {
-        if self.is_bound_to_renamed(token) {
+        if self.is_bound_to_renamed_declaration(token) {
             self.visible.look_up_new_name()
         } else {
             self.visible.look_up(token_text_at(self.tokens, token))
@@ -329,8 +330,8 @@ impl<'t> NumberingWalk<'t> {
         Ok(())
     }
 
-    /// Looks up the name at a token. Writes the ordinal of its declaration into the table, or None
-    /// if the name is unbound.
+    /// Looks up the name at a token, and records the token as an occurrence. Writes the ordinal of
+    /// the name's declaration into the table, or None if the name is unbound.
     #[inline(always)]
     fn mark_looked_up_name(&mut self, token: usize) -> Result<(), AllocError>
         ensures { OnOk result (self.new ≡ visit_identifier roles.LookedUp token self.old) }
@@ -371,7 +372,7 @@ impl<'t> NumberingWalk<'t> {
         self.make_names_visible_from(first)
     }
 
-    fn walk_variables(&mut self, v: &VariableDeclaration) -> Result<(), AllocError>
+    fn walk_variable_declaration(&mut self, v: &VariableDeclaration) -> Result<(), AllocError>
         ensures { OnOk result (self.new ≡ visit_variable (variable_of v.now) self.old) }
     {
         let first = self.declaration_count();
@@ -391,7 +392,7 @@ impl<'t> NumberingWalk<'t> {
 
     fn walk_constant_section(&mut self, section: &Option<Vec<Constant>>) -> Result<(), AllocError>
         ensures { OnOk result
-            (self.new ≡ visit_constant_section (constants_of section.now) self.old) }
+            (self.new ≡ visit_constant_section (constant_section_of section.now) self.old) }
     {
         if let Some(constants) = section {
             for c in constants {
@@ -405,7 +406,7 @@ impl<'t> NumberingWalk<'t> {
         &mut self,
         section: &Option<Vec<TypeDeclaration>>,
     ) -> Result<(), AllocError>
-        ensures { OnOk result (self.new ≡ visit_type_section (types_of section.now) self.old) }
+        ensures { OnOk result (self.new ≡ visit_type_section (type_section_of section.now) self.old) }
     {
         if let Some(types) = section {
             for t in types {
@@ -420,11 +421,11 @@ impl<'t> NumberingWalk<'t> {
         section: &Option<Vec<VariableDeclaration>>,
     ) -> Result<(), AllocError>
         ensures { OnOk result
-            (self.new ≡ visit_variable_section (variables_of section.now) self.old) }
+            (self.new ≡ visit_variable_section (variable_section_of section.now) self.old) }
     {
         if let Some(variables) = section {
             for v in variables {
-                self.walk_variables(v)?;
+                self.walk_variable_declaration(v)?;
             }
         }
         Ok(())
@@ -432,7 +433,7 @@ impl<'t> NumberingWalk<'t> {
 
     /// Visits the parameters of a heading. The parameters of each section are visible in the later
     /// sections.
-    fn walk_heading(&mut self, formals: &Option<Vec<ParameterSection>>) -> Result<(), AllocError>
+    fn walk_parameters(&mut self, formals: &Option<Vec<ParameterSection>>) -> Result<(), AllocError>
         ensures { OnOk result (self.new ≡ visit_formals (formals_of formals.now) self.old) }
     {
         if let Some(sections) = formals {
@@ -453,7 +454,7 @@ impl<'t> NumberingWalk<'t> {
         // visible. In the block it is visible, so for the block the name is bound before the
         // parameters.
         let ordinal = self.number_name(p.name)?;
-        self.walk_heading(&p.formals)?;
+        self.walk_parameters(&p.formals)?;
         self.truncate_bindings(outside);
         self.make_names_visible_from(own)?;
         self.walk_block(&p.block)?;
@@ -521,12 +522,12 @@ impl<'t> NumberingWalk<'t> {
         low: usize,
     ) -> Result<(), AllocError>
         ensures { OnOk result (self.new
-            ≡ renumber_procedure put_ordinal all.now low (procedure_of p.now) self.old) }
+            ≡ renumber_procedure all.now low (procedure_of p.now) self.old) }
     {
         let first = self.declaration_count();
         let outside = self.binding_count();
         self.number_name(p.name)?;
-        self.walk_heading(&p.formals)?;
+        self.walk_parameters(&p.formals)?;
         self.truncate_bindings(outside);
         self.make_names_visible_from(first)?;
         self.revisit_block(&p.block, all, low)
@@ -540,7 +541,7 @@ impl<'t> NumberingWalk<'t> {
     #[cycle(blocks_again)]
     fn revisit_block(&mut self, inner: &Block, all: &[usize], low: usize) -> Result<(), AllocError>
         ensures { OnOk result
-            (self.new ≡ renumber_block put_ordinal all.now low (block_of inner.now) self.old) }
+            (self.new ≡ renumber_block all.now low (block_of inner.now) self.old) }
     {
         self.walk_constant_section(&inner.constants)?;
         self.walk_type_section(&inner.types)?;

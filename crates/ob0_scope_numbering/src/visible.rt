@@ -4,7 +4,7 @@
 ghost use Rattle.std.specs.Prelude.{◌≡◌, [], ◌∷◌, OnErr, OnOk, IfOk, length, drop, ◌-◌};
 ghost use Rattle.ob0_scope_numbering.specs.StoredScopes.{with_scope};
 ghost use Rattle.ob0_language_names.specs.Names.{naming_by_spelling};
-ghost use Rattle.ob0_language_names.specs.Scopes.{ordinal_of};
+ghost use Rattle.ob0_language_names.specs.Scopes.{ordinal_in_scope};
 
 use crate::newest::NewestBindings;
 use std::alloc::{AllocError, Global};
@@ -64,7 +64,7 @@ impl<'t> ScopeBindings<'t> {
     /// Returns the ordinal of the declaration to which a name is bound, or None if the name is
     /// unbound.
     pub(crate) fn look_up(&mut self, name: &'t str) -> Option<usize>
-        ensures found { result ≡ ordinal_of naming_by_spelling self.old.scope name.now }
+        ensures found { result ≡ ordinal_in_scope naming_by_spelling self.old.scope name.now }
         ensures same { self.new ≡ self.old }
     {
         let index = match self.newest.newest_binding_of(name) {
@@ -77,7 +77,7 @@ impl<'t> ScopeBindings<'t> {
     /// Returns the ordinal of the declaration to which `new_name`, the name that the renaming
     /// introduces, is bound. Returns None if `new_name` is unbound.
     pub(crate) fn look_up_new_name(&self) -> Option<usize>
-        ensures { result ≡ ordinal_of naming_by_spelling self.now.scope self.now.new_name }
+        ensures { result ≡ ordinal_in_scope naming_by_spelling self.now.scope self.now.new_name }
     {
         let index = match self.newest.newest_binding_of_first_name() {
             None => return None,

@@ -5,7 +5,7 @@
 //! a module as it is, and also as it is after a renaming.
 
 ghost use Rattle.std.specs.Prelude.{◌≡◌};
-ghost use Rattle.ob0_scope_numbering.specs.Written.{original_spellings, is_bound_to_renamed};
+ghost use Rattle.ob0_scope_numbering.specs.Written.{original_spellings, is_bound_to_renamed_declaration};
 
 use ob0_scan::Tokens;
 use ob0_scope_table::OrdinalEntry;
@@ -38,8 +38,11 @@ impl<'t> Model for Spellings<'t> {
 
 /// Returns whether an identifier's ordinal (`ordinal`) is the ordinal of the renamed declaration
 /// (`declaration`). Returns false if no declaration is renamed or the identifier has no ordinal.
-pub(crate) fn is_bound_to_renamed(declaration: Option<usize>, ordinal: Option<usize>) -> bool
-    ensures { result ≡ is_bound_to_renamed declaration ordinal }
+pub(crate) fn is_bound_to_renamed_declaration(
+    declaration: Option<usize>,
+    ordinal: Option<usize>,
+) -> bool
+    ensures { result ≡ is_bound_to_renamed_declaration declaration ordinal }
 {
     match declaration {
         Some(renamed) => match ordinal {

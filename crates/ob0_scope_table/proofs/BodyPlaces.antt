@@ -7,7 +7,7 @@ use Rattle.std.proofs.lemmas.Bool.{lt-leb, le-leb, le-ltb, lt-ltb}
 use Rattle.ob0_tree.specs.declared.tree.Role.{Role}
 use Rattle.ob0_tree.specs.declared.tree.Role.TheVariants as role
 use Rattle.ob0_tree.specs.Tree.{Tree, block, body, constants, declares, declares_procedure, end, forms_block, identifiers, is_module, item, items, maybe, module_text, more, procedure, type_definitions, variables}
-use Rattle.ob0_tree.specs.View.{block_of, body_of, constants_of, items_of, procedure_of, types_of, variables_of}
+use Rattle.ob0_tree.specs.View.{block_of, body_of, constant_section_of, items_of, procedure_of, type_section_of, variable_section_of}
 use Rattle.ob0_tree.specs.declared.tree.Block.{Block, out-Block}
 use Rattle.ob0_tree.specs.declared.tree.Procedure.{Procedure, out-Procedure}
 use Rattle.ob0_tree.proofs.Viewed.{block_parts, procedure_parts}
@@ -122,7 +122,7 @@ module _ (low high own : ℕ) where
   pub block_place : (b : Block) → body_bounds_in_block low high own (block_of b) ≡ place_among (items_of procedure_of (out-Block b).procedures.items) (body_of (out-Block b).body)
   block_place b =
       ap (body_bounds_in_block low high own) (block_parts b)
-      ∙ among_block (constants_of (out-Block b).constants) (types_of (out-Block b).types) (variables_of (out-Block b).variables) (items_of procedure_of (out-Block b).procedures.items) (body_of (out-Block b).body)
+      ∙ among_block (constant_section_of (out-Block b).constants) (type_section_of (out-Block b).types) (variable_section_of (out-Block b).variables) (items_of procedure_of (out-Block b).procedures.items) (body_of (out-Block b).body)
 
   module _ (statements : Tree ℕ (maybe body)) where
     -- returns the place in the procedures from the k-th onwards, or else in the statements

@@ -9,10 +9,11 @@ use Rattle.ob0_tree.specs.ParsedModule.{ParsedModule, tree_of}
 use Rattle.ob0_tree.specs.Places.{tree_with_names, token_text_at, token_value_at}
 use Rattle.ob0_tree.specs.Tree.{Tree, block, declares, declares_procedure, end, forms_block, is_module, item, items, mapped_tree, module_text, more, procedure}
 use Rattle.ob0_scope_table.specs.TokenProperty.{EachTokenHas}
-use Rattle.ob0_scope_table.specs.BodyReplaced.{IsBodyReplaced, PathToBody, block_without_body, moved_token_index, procedure_without_body, procedures_without_body, module_without_body}
+use Rattle.ob0_scope_table.specs.BodyReplaced.{IsBodyReplaced, PathToBody, block_without_body, shifted_token_index, procedure_without_body, procedures_without_body, module_without_body}
 use Rattle.ob0_scope_table.specs.OneBody.{is_outside_range}
 use Rattle.ob0_scope_table.proofs.BodyOutside.{module_outside}
-use Rattle.ob0_scope_table.proofs.MappedAlike.{mapped_alike, mapped_mapped}
+use Rattle.ob0_scope_table.proofs.MappedAlike.{mapped_alike}
+use Rattle.ob0_tree.proofs.Mapped.{mapped_twice}
 use Rattle.ob0_scope_table.proofs.OneBody.{text_in_word, value_in_word, word_text, word_value}
 use Rattle.ob0_scope_table.proofs.Placed.{places_ascend}
 
@@ -61,16 +62,16 @@ module _ (old new : TextWithTokens) (k j : ℕ) (same : slice_get (words_of_toke
   value_by_word = value_in_word new.text new.tokens j ∙ (ap word_value same ∙ sym (value_in_word old.text old.tokens k))
 
 -- A token outside the range has the same spelling at its new index.
-pub text_moved : (old new : ParsedModule) (path : PathToBody) (s : CommonPrefixAndSuffix) → IsBodyReplaced old new path s → (k : ℕ) → is_outside_range s.prefix s.old_suffix k ≡ true → token_text_at new.source (moved_token_index s k) ≡ token_text_at old.source k
-text_moved old new path s r k e = text_by_word old.source new.source k (moved_token_index s k) (r.words k e)
+pub text_moved : (old new : ParsedModule) (path : PathToBody) (s : CommonPrefixAndSuffix) → IsBodyReplaced old new path s → (k : ℕ) → is_outside_range s.prefix s.old_suffix k ≡ true → token_text_at new.source (shifted_token_index s k) ≡ token_text_at old.source k
+text_moved old new path s r k e = text_by_word old.source new.source k (shifted_token_index s k) (r.words k e)
 
-pub value_moved : (old new : ParsedModule) (path : PathToBody) (s : CommonPrefixAndSuffix) → IsBodyReplaced old new path s → (k : ℕ) → is_outside_range s.prefix s.old_suffix k ≡ true → token_value_at new.source (moved_token_index s k) ≡ token_value_at old.source k
-value_moved old new path s r k e = value_by_word old.source new.source k (moved_token_index s k) (r.words k e)
+pub value_moved : (old new : ParsedModule) (path : PathToBody) (s : CommonPrefixAndSuffix) → IsBodyReplaced old new path s → (k : ℕ) → is_outside_range s.prefix s.old_suffix k ≡ true → token_value_at new.source (shifted_token_index s k) ≡ token_value_at old.source k
+value_moved old new path s r k e = value_by_word old.source new.source k (shifted_token_index s k) (r.words k e)
 
 -- Both modules without the body have the same names and numbers.
 pub names_outside : (old new : ParsedModule) (path : PathToBody) (s : CommonPrefixAndSuffix) → IsBodyReplaced old new path s → tree_with_names new.source (module_without_body path (tree_of new)) ≡ tree_with_names old.source (module_without_body path (tree_of old))
 names_outside old new path s r =
     ap (tree_with_names new.source) r.outside
-    ∙ (mapped_mapped (token_text_at new.source) (token_value_at new.source) (moved_token_index s) (moved_token_index s) (module_without_body path (tree_of old))
-    ∙ mapped_alike (λ k. is_outside_range s.prefix s.old_suffix k ≡ true) (λ k. token_text_at new.source (moved_token_index s k)) (token_text_at old.source) (λ k. token_value_at new.source (moved_token_index s k)) (token_value_at old.source)
+    ∙ (mapped_twice (token_text_at new.source) (token_text_at new.source) (token_value_at new.source) (shifted_token_index s) (shifted_token_index s) (shifted_token_index s) (module_without_body path (tree_of old))
+    ∙ mapped_alike (λ k. is_outside_range s.prefix s.old_suffix k ≡ true) (λ k. token_text_at new.source (shifted_token_index s k)) (token_text_at old.source) (λ k. token_value_at new.source (shifted_token_index s k)) (token_value_at old.source)
     (text_moved old new path s r) (value_moved old new path s r) (module_without_body path (tree_of old)) (outside_out old new path s r))

@@ -3,7 +3,7 @@ pub mod Plain
 pub mod Declared
 pub mod Counted
 pub mod TokenOrder
-pub mod FaultTokens
+pub mod SameWords
 pub mod Placed
 pub mod OneBody
 pub mod MappedAlike

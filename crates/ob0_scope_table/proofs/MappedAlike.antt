@@ -1,64 +1,7 @@
--- Proves that a tree's names may be replaced in two steps or in one. Two replacements that agree on
--- its tokens give the same tree.
+-- Proves that two replacements of a tree's names that agree on its tokens give the same tree.
 use Rattle.std.proofs.Common.{◌≡◌, ℕ, refl}
 use Rattle.ob0_tree.specs.Tree.{Sort, Tree, adds, array_type, assigns, begins, branches, calls, compares, declares, declares_constant, declares_constants, declares_procedure, declares_type, declares_types, declares_variable, declares_variables, designator, else_branch, elsif_branch, empty, end, field, forms_block, index, integer, is_module, listed, mapped_tree, more, multiplies, named_type, negation, no_arguments, no_fields, no_formals, none, one, parenthesised, product, record_type, relates, repeat_loop, runs, some_arguments, some_fields, some_formals, sum, then_argument, then_fields, then_name, then_section, then_statement, value_section, variable_section, while_loop}
 use Rattle.ob0_scope_table.specs.TokenProperty.{EachTokenHas}
-
--- Replacing names twice is replacing them by the composition.
-pub mapped_mapped : {N M K : Type 0} {s : Sort} (f : M → K) (g : ℕ → ℕ) (u : N → M) (v : ℕ → ℕ) (t : Tree N s) → mapped_tree f g (mapped_tree u v t) ≡ mapped_tree (λ x. f (u x)) (λ n. g (v n)) t
-mapped_mapped f g u v none = refl
-mapped_mapped f g u v (one t) = λ i. one (mapped_mapped f g u v t i)
-mapped_mapped f g u v end = refl
-mapped_mapped f g u v (more t ts) = λ i. more (mapped_mapped f g u v t i) (mapped_mapped f g u v ts i)
-mapped_mapped f g u v (compares left compared) = λ i. compares (mapped_mapped f g u v left i) (mapped_mapped f g u v compared i)
-mapped_mapped f g u v (relates relation right) = λ i. relates relation (mapped_mapped f g u v right i)
-mapped_mapped f g u v (sum sign first terms) = λ i. sum sign (mapped_mapped f g u v first i) (mapped_mapped f g u v terms i)
-mapped_mapped f g u v (adds operator t) = λ i. adds operator (mapped_mapped f g u v t i)
-mapped_mapped f g u v (product first factors) = λ i. product (mapped_mapped f g u v first i) (mapped_mapped f g u v factors i)
-mapped_mapped f g u v (multiplies operator t) = λ i. multiplies operator (mapped_mapped f g u v t i)
-mapped_mapped f g u v (designator name selectors) = λ i. designator (f (u name)) (mapped_mapped f g u v selectors i)
-mapped_mapped f g u v (integer n) = refl
-mapped_mapped f g u v (parenthesised e) = λ i. parenthesised (mapped_mapped f g u v e i)
-mapped_mapped f g u v (negation t) = λ i. negation (mapped_mapped f g u v t i)
-mapped_mapped f g u v (field name) = refl
-mapped_mapped f g u v (index e) = λ i. index (mapped_mapped f g u v e i)
-mapped_mapped f g u v empty = refl
-mapped_mapped f g u v (assigns name selectors e) = λ i. assigns (f (u name)) (mapped_mapped f g u v selectors i) (mapped_mapped f g u v e i)
-mapped_mapped f g u v (calls name args) = λ i. calls (f (u name)) (mapped_mapped f g u v args i)
-mapped_mapped f g u v (branches condition s elsifs rest) = λ i. branches (mapped_mapped f g u v condition i) (mapped_mapped f g u v s i) (mapped_mapped f g u v elsifs i) (mapped_mapped f g u v rest i)
-mapped_mapped f g u v (while_loop condition s) = λ i. while_loop (mapped_mapped f g u v condition i) (mapped_mapped f g u v s i)
-mapped_mapped f g u v (repeat_loop s condition) = λ i. repeat_loop (mapped_mapped f g u v s i) (mapped_mapped f g u v condition i)
-mapped_mapped f g u v no_arguments = refl
-mapped_mapped f g u v (some_arguments e es) = λ i. some_arguments (mapped_mapped f g u v e i) (mapped_mapped f g u v es i)
-mapped_mapped f g u v (then_argument e) = λ i. then_argument (mapped_mapped f g u v e i)
-mapped_mapped f g u v (runs first statements) = λ i. runs (mapped_mapped f g u v first i) (mapped_mapped f g u v statements i)
-mapped_mapped f g u v (then_statement s) = λ i. then_statement (mapped_mapped f g u v s i)
-mapped_mapped f g u v (elsif_branch condition s) = λ i. elsif_branch (mapped_mapped f g u v condition i) (mapped_mapped f g u v s i)
-mapped_mapped f g u v (else_branch s) = λ i. else_branch (mapped_mapped f g u v s i)
-mapped_mapped f g u v (listed name others) = λ i. listed (f (u name)) (mapped_mapped f g u v others i)
-mapped_mapped f g u v (then_name name) = refl
-mapped_mapped f g u v (named_type name) = refl
-mapped_mapped f g u v (array_type size t) = λ i. array_type (mapped_mapped f g u v size i) (mapped_mapped f g u v t i)
-mapped_mapped f g u v (record_type first others) = λ i. record_type (mapped_mapped f g u v first i) (mapped_mapped f g u v others i)
-mapped_mapped f g u v no_fields = refl
-mapped_mapped f g u v (some_fields ns t) = λ i. some_fields (mapped_mapped f g u v ns i) (mapped_mapped f g u v t i)
-mapped_mapped f g u v (then_fields fs) = λ i. then_fields (mapped_mapped f g u v fs i)
-mapped_mapped f g u v no_formals = refl
-mapped_mapped f g u v (some_formals first others) = λ i. some_formals (mapped_mapped f g u v first i) (mapped_mapped f g u v others i)
-mapped_mapped f g u v (value_section ns t) = λ i. value_section (mapped_mapped f g u v ns i) (mapped_mapped f g u v t i)
-mapped_mapped f g u v (variable_section ns t) = λ i. variable_section (mapped_mapped f g u v ns i) (mapped_mapped f g u v t i)
-mapped_mapped f g u v (then_section s) = λ i. then_section (mapped_mapped f g u v s i)
-mapped_mapped f g u v (declares_constant name e) = λ i. declares_constant (f (u name)) (mapped_mapped f g u v e i)
-mapped_mapped f g u v (declares_constants cs) = λ i. declares_constants (mapped_mapped f g u v cs i)
-mapped_mapped f g u v (declares_type name t) = λ i. declares_type (f (u name)) (mapped_mapped f g u v t i)
-mapped_mapped f g u v (declares_types ts) = λ i. declares_types (mapped_mapped f g u v ts i)
-mapped_mapped f g u v (declares_variable ns t) = λ i. declares_variable (mapped_mapped f g u v ns i) (mapped_mapped f g u v t i)
-mapped_mapped f g u v (declares_variables vs) = λ i. declares_variables (mapped_mapped f g u v vs i)
-mapped_mapped f g u v (declares_procedure name fs b closing) = λ i. declares_procedure (f (u name)) (mapped_mapped f g u v fs i) (mapped_mapped f g u v b i) (f (u closing))
-mapped_mapped f g u v (declares cs ts vs ps) = λ i. declares (mapped_mapped f g u v cs i) (mapped_mapped f g u v ts i) (mapped_mapped f g u v vs i) (mapped_mapped f g u v ps i)
-mapped_mapped f g u v (begins s) = λ i. begins (mapped_mapped f g u v s i)
-mapped_mapped f g u v (forms_block ds b) = λ i. forms_block (mapped_mapped f g u v ds i) (mapped_mapped f g u v b i)
-mapped_mapped f g u v (is_module name b closing) = λ i. is_module (f (u name)) (mapped_mapped f g u v b i) (f (u closing))
 
 -- Two replacements that agree on each token give the same tree.
 module _ {M : Type 0} (P : ℕ → Type 0) (f u : ℕ → M) (g v : ℕ → ℕ) (names : (k : ℕ) → P k → f k ≡ u k) (numbers : (k : ℕ) → P k → g k ≡ v k) where

@@ -2,7 +2,7 @@
 use Rattle.std.proofs.Common.{◌≡◌, ◌<◌, ◌≤◌, ◌+◌, ◌-◌, ◌||◌, ◌⊎◌, ℕ, Bool, true, false, nat_le, nat_lt, if◌then◌else◌, refl, sym, ap, ◌∙◌, arith, inl, inr, leb-true, ltb-true}
 use Rattle.std.proofs.lemmas.Bool.{le-leb, le-ltb, lt-ltb}
 use Rattle.ob0_scan.specs.declared.tokens.CommonPrefixAndSuffix.{CommonPrefixAndSuffix}
-use Rattle.ob0_scope_table.specs.BodyReplaced.{moved_token_index}
+use Rattle.ob0_scope_table.specs.BodyReplaced.{shifted_token_index}
 use Rattle.ob0_scope_table.specs.OneBody.{is_outside_range}
 
 -- A token outside a range is before it or after it.
@@ -24,8 +24,8 @@ above_out low high k le = one (nat_lt k low)
     one false = le-leb high k le
 
 module _ (s : CommonPrefixAndSuffix) where
-  pub moved_below : (k : ℕ) → k < s.prefix → moved_token_index s k ≡ k
+  pub moved_below : (k : ℕ) → k < s.prefix → shifted_token_index s k ≡ k
   moved_below k less = ap (λ b. if b then k else s.new_suffix + (k - s.old_suffix)) (lt-ltb k s.prefix less)
 
-  pub moved_above : (k : ℕ) → s.prefix ≤ s.old_suffix → s.old_suffix ≤ k → moved_token_index s k ≡ s.new_suffix + (k - s.old_suffix)
+  pub moved_above : (k : ℕ) → s.prefix ≤ s.old_suffix → s.old_suffix ≤ k → shifted_token_index s k ≡ s.new_suffix + (k - s.old_suffix)
   moved_above k range le = ap (λ b. if b then k else s.new_suffix + (k - s.old_suffix)) (le-ltb k s.prefix (omega (arith, range, le)))

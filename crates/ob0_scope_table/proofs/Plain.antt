@@ -2,7 +2,7 @@
 use Rattle.std.proofs.Common.{◌≡◌, ℕ, List, [], ◌∷◌, ◌++◌, refl, ◌∙◌}
 use Rattle.ob0_tree.specs.declared.tree.Role.{Role}
 use Rattle.ob0_tree.specs.declared.tree.Role.TheVariants as role
-use Rattle.ob0_tree.specs.Tree.{Item, Sort, Tree, identifiers, item, items, maybe, adds, array_type, assigns, begins, branches, calls, compares, declares, declares_constant, declares_constants, declares_procedure, declares_type, declares_types, declares_variable, declares_variables, designator, else_branch, elsif_branch, empty, end, field, forms_block, index, integer, is_module, listed, more, multiplies, named_type, negation, no_arguments, no_fields, no_formals, none, one, parenthesised, product, record_type, relates, repeat_loop, runs, some_arguments, some_fields, some_formals, sum, then_argument, then_fields, then_name, then_section, then_statement, value_section, variable_section, while_loop, selector, multiplier, addend, comparison, arguments, further_argument, further_statement, elsif_part, else_part, further_fields, body, further_name, formals, further_section, constant, constants, type_definition, type_definitions, variable, variables, procedure, expression, simple, term, factor, statement, sequence, written_type, fields, names, section, declarations, block, module_text}
+use Rattle.ob0_tree.specs.Tree.{GrammarItem, Sort, Tree, identifiers, item, items, maybe, adds, array_type, assigns, begins, branches, calls, compares, declares, declares_constant, declares_constants, declares_procedure, declares_type, declares_types, declares_variable, declares_variables, designator, else_branch, elsif_branch, empty, end, field, forms_block, index, integer, is_module, listed, more, multiplies, named_type, negation, no_arguments, no_fields, no_formals, none, one, parenthesised, product, record_type, relates, repeat_loop, runs, some_arguments, some_fields, some_formals, sum, then_argument, then_fields, then_name, then_section, then_statement, value_section, variable_section, while_loop, selector, multiplier, addend, comparison, arguments, further_argument, further_statement, elsif_part, else_part, further_fields, body, further_name, formals, further_section, constant, constants, type_definition, type_definitions, variable, variables, procedure, expression, simple, term, factor, statement, sequence, written_type, fields, names, section, declarations, block, module_text}
 use Rattle.ob0_scope_table.specs.Resolution.{declaring_names}
 
 pub declaring_names-append : {N : Type 0} (xs ys : List (Role × N)) → declaring_names (xs ++ ys) ≡ declaring_names xs ++ declaring_names ys
@@ -37,7 +37,7 @@ fields_plain : (ns : Tree ℕ names) → Plain (identifiers role.FieldName ns)
 fields_plain (listed x rest) = field_first (further_fields_plain rest)
 
 -- holds for the sorts of items that declare nothing
-abbrev pub IsPlainItem : Item → Type 0
+abbrev pub IsPlainItem : GrammarItem → Type 0
 IsPlainItem selector = Unit {0}
 IsPlainItem multiplier = Unit {0}
 IsPlainItem addend = Unit {0}

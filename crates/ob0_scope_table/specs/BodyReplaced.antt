@@ -123,8 +123,8 @@ closing_name_at_path path (is_module x b closing) = closing_name_at_path_in_bloc
 
 -- Returns the index in the new text of the token that has the index `i` in the old text. The token
 -- must be outside the replaced tokens, which are `s.prefix..s.old_suffix` in the old text.
-abbrev pub moved_token_index : CommonPrefixAndSuffix → ℕ → ℕ
-moved_token_index s i = if nat_lt i s.prefix then i else s.new_suffix + (i - s.old_suffix)
+abbrev pub shifted_token_index : CommonPrefixAndSuffix → ℕ → ℕ
+shifted_token_index s i = if nat_lt i s.prefix then i else s.new_suffix + (i - s.old_suffix)
 
 -- States that two modules are the same except for the statements of one body, to which `path` leads.
 -- In these statements, the tokens `s.prefix..s.new_suffix` of the module `new` replace the tokens
@@ -138,9 +138,9 @@ pub record IsBodyReplaced (old new : ParsedModule) (path : PathToBody) (s : Comm
   pub new_scan : IsScan new.source
   pub old_parsed : IsParsed old
   pub new_parsed : IsParsed new
-  pub outside : module_without_body path (tree_of new) ≡ mapped_tree (moved_token_index s) (moved_token_index s) (module_without_body path (tree_of old))
+  pub outside : module_without_body path (tree_of new) ≡ mapped_tree (shifted_token_index s) (shifted_token_index s) (module_without_body path (tree_of old))
   pub words : (i : ℕ) → is_outside_range s.prefix s.old_suffix i ≡ true
-      → slice_get (words_of_tokens new.source.text new.source.tokens) (moved_token_index s i)
+      → slice_get (words_of_tokens new.source.text new.source.tokens) (shifted_token_index s i)
       ≡ slice_get (words_of_tokens old.source.text old.source.tokens) i
   pub old_path : path_to_body_in_module s.prefix (tree_of old) ≡ path
   pub new_path : path_to_body_in_module s.prefix (tree_of new) ≡ path
@@ -151,4 +151,4 @@ pub record IsBodyReplaced (old new : ParsedModule) (path : PathToBody) (s : Comm
   pub first_identifier_of_new_body : first_identifier (body_at_path path (tree_of new)) ≡ Some first
   pub front : first < s.prefix
   pub back : s.old_suffix < closing_name_at_path path (tree_of old)
-  pub closing : closing_name_at_path path (tree_of new) ≡ moved_token_index s (closing_name_at_path path (tree_of old))
+  pub closing : closing_name_at_path path (tree_of new) ≡ shifted_token_index s (closing_name_at_path path (tree_of old))

@@ -4,13 +4,13 @@
 use Rattle.std.specs.Prelude.{ℕ, zero, suc, min, Option, Some, None, option_map}
 
 -- the greatest ordinal that an entry can have
-abbrev pub greatest_ordinal : ℕ
-greatest_ordinal = 4294967294
+abbrev pub max_entry_ordinal : ℕ
+max_entry_ordinal = 4294967294
 
 -- Returns an optional ordinal as an entry stores it. An ordinal above the greatest one that an entry can
--- have (`greatest_ordinal`) is stored as the greatest one.
+-- have (`max_entry_ordinal`) is stored as the greatest one.
 abbrev pub stored_ordinal : Option ℕ → Option ℕ
-stored_ordinal ordinal = option_map (λ n. min n greatest_ordinal) ordinal
+stored_ordinal ordinal = option_map (λ n. min n max_entry_ordinal) ordinal
 
 -- returns the ordinal that an entry with this number has: the number minus 1, or None for 0
 abbrev pub ordinal_from_entry_number : ℕ → Option ℕ

@@ -5,12 +5,12 @@ use Rattle.std.specs.Prelude.{ℕ}
 use Rattle.ob0_tree.specs.Tree.{Sort, Tree, mapped_tree}
 use Rattle.ob0_tree.specs.Places.{token_value_at}
 use Rattle.ob0_language_names.specs.Names.{Label}
-use Rattle.ob0_scope_table.specs.Resolution.{Resolution, label_at}
+use Rattle.ob0_scope_table.specs.Resolution.{Resolution, label_from_table}
 
 -- returns the label of the identifier at a token: the ordinal of its declaration, or its spelling
 -- if it has no ordinal
 abbrev pub label_at_token : Resolution → ℕ → Label
-label_at_token r token = label_at r.module_read.source r.ordinals token
+label_at_token r token = label_from_table r.module_read.source r.ordinals token
 
 -- returns a tree with the label of each identifier in place of its token
 abbrev pub tree_with_labels : {s : Sort} → Resolution → Tree ℕ s → Tree Label s

@@ -4,7 +4,7 @@ pub mod Resolution
 pub mod Spans
 pub mod DuplicatesAndEndNames
 pub mod LabelledTrees
-pub mod FaultTokens
+pub mod FaultsAtTokens
 pub mod TokenProperty
 pub mod OneBody
 pub mod BodyReplaced

@@ -5,7 +5,6 @@
 use Rattle.std.specs.Prelude.{◌≡◌, ℕ, ◌-◌, nat_lt, Bool, true, false, not, ◌==◌, List, [], ◌∷◌, ◌++◌, Option, None, slice_get, slice_index_or, if◌then◌else◌, is_some}
 use Rattle.std.specs.List.{filter, list_any}
 use Rattle.ob0_scan.specs.declared.fault.FaultCode.TheVariants as code
-use Rattle.ob0_scan.specs.declared.fault.Fault.{Fault}
 use Rattle.ob0_scan.specs.declared.lexeme.Span.{Span}
 use Rattle.ob0_scan.specs.TextWithTokens.{TextWithTokens}
 use Rattle.ob0_tree.specs.declared.tree.Role.{Role}
@@ -19,7 +18,9 @@ use Rattle.ob0_language_names.specs.Scopes.{Labelling, label_from_ordinal, numbe
 use Rattle.ob0_language_names.specs.Occurrences.{bindings}
 use Rattle.ob0_language_names.specs.ConsistentNames.{has_consistent_names}
 use Rattle.ob0_scope_table.specs.DuplicatesAndEndNames.{declaration_faults}
+use Rattle.ob0_scope_table.specs.FaultsAtTokens.{fault_at_token}
 use Rattle.ob0_scope_table.specs.Spans as spans
+use Rattle.ob0_scope_table.specs.declared.faults.FaultAtTokens.{FaultAtTokens}
 
 -- Returns the ordinal that the table `ordinals` has for the token with the index `token`. Returns
 -- None if the token has no ordinal, or if the index is outside the table.
@@ -28,8 +29,8 @@ ordinal_in ordinals token = slice_index_or ordinals token None
 
 -- returns the label of the identifier at a token: its ordinal in the table, or its spelling if it
 -- has no ordinal
-abbrev pub label_at : TextWithTokens → List (Option ℕ) → ℕ → Label
-label_at source ordinals token =
+abbrev pub label_from_table : TextWithTokens → List (Option ℕ) → ℕ → Label
+label_from_table source ordinals token =
     label_from_ordinal naming_by_spelling (ordinal_in ordinals token) (token_text_at source token)
 
 -- returns the declaring names among these identifiers, in the same order
@@ -56,12 +57,12 @@ is_unbound (declared k) = false
 is_unbound (as_written x) = true
 
 -- returns whether this is the fault of a duplicate declaration or of a wrong closing name
-abbrev pub is_duplicate_or_end_name : Fault → Bool
+abbrev pub is_duplicate_or_end_name : FaultAtTokens → Bool
 is_duplicate_or_end_name fault =
     elim (fault.code) [ code.Duplicate ↦ true | code.EndName ↦ true | _ ↦ false ]
 
 -- returns whether this is the fault of an undeclared name
-abbrev pub is_undeclared_fault : Fault → Bool
+abbrev pub is_undeclared_fault : FaultAtTokens → Bool
 is_undeclared_fault fault = elim (fault.code) [ code.Undeclared ↦ true | _ ↦ false ]
 
 -- returns the span of a token, in bytes, or an empty span at the text's start if there is no such
@@ -71,12 +72,11 @@ span_at source token = spans.span_at source token
 
 -- Returns a fault `Undeclared` for each looked-up name that has no ordinal in the table `ordinals`. The
 -- looked-up names are given by their tokens.
-abbrev pub undeclared_faults_by_table : TextWithTokens → List (Option ℕ) → List ℕ → List Fault
-undeclared_faults_by_table source ordinals [] = []
-undeclared_faults_by_table source ordinals (token ∷ tokens) =
-    if is_some (ordinal_in ordinals token) then undeclared_faults_by_table source ordinals tokens
-    else record { code = code.Undeclared; span = span_at source token }
-    ∷ undeclared_faults_by_table source ordinals tokens
+abbrev pub undeclared_faults_by_table : List (Option ℕ) → List ℕ → List FaultAtTokens
+undeclared_faults_by_table ordinals [] = []
+undeclared_faults_by_table ordinals (token ∷ tokens) =
+    if is_some (ordinal_in ordinals token) then undeclared_faults_by_table ordinals tokens
+    else fault_at_token code.Undeclared token ∷ undeclared_faults_by_table ordinals tokens
 
 -- A module with its resolved names. `ordinals` has an entry for each token: the ordinal (the number)
 -- of the identifier's declaration, or None. `declaration_tokens` has the tokens of the declaring names in
@@ -87,15 +87,15 @@ pub record Resolution : Type 0 where
   pub ordinals : List (Option ℕ)
   pub declaration_tokens : List ℕ
   pub uses : List ℕ
-  pub faults : List Fault
+  pub faults : List FaultAtTokens
 
 -- States that the table of ordinals gives each identifier the label that the scope rules give it. A
 -- label is the ordinal of a name's declaration, or an identifier's spelling. The tree with the labels
--- according to the table (`label_at`) must equal the tree with the labels according to the scope rules
+-- according to the table (`label_from_table`) must equal the tree with the labels according to the scope rules
 -- (`numbered`).
 abbrev pub IsNumberingTable : ParsedModule → List (Option ℕ) → Type 0
 IsNumberingTable m ordinals =
-    numbered (named_tree_of m) ≡ mapped_tree (label_at m.source ordinals) (token_value_at m.source) (tree_of m)
+    numbered (named_tree_of m) ≡ mapped_tree (label_from_table m.source ordinals) (token_value_at m.source) (tree_of m)
 
 -- returns a pair: the ordinal of a name's declaration, or None for an unbound name, and the name's
 -- spelling
@@ -117,24 +117,23 @@ IsBindingTable m ordinals =
 -- Returns a fault `Undeclared` for each looked-up name whose label says that it is unbound
 -- (`is_unbound`). The first list has the tokens of the looked-up names, and the second list has the
 -- names' labels in the same order.
-abbrev pub undeclared_faults_by_labels : TextWithTokens → List ℕ → List Label → List Fault
-undeclared_faults_by_labels source [] labels = []
-undeclared_faults_by_labels source (token ∷ tokens) [] = []
-undeclared_faults_by_labels source (token ∷ tokens) (label ∷ labels) =
+abbrev pub undeclared_faults_by_labels : List ℕ → List Label → List FaultAtTokens
+undeclared_faults_by_labels [] labels = []
+undeclared_faults_by_labels (token ∷ tokens) [] = []
+undeclared_faults_by_labels (token ∷ tokens) (label ∷ labels) =
     if is_unbound label
-    then record { code = code.Undeclared; span = span_at source token }
-    ∷ undeclared_faults_by_labels source tokens labels
-    else undeclared_faults_by_labels source tokens labels
+    then fault_at_token code.Undeclared token ∷ undeclared_faults_by_labels tokens labels
+    else undeclared_faults_by_labels tokens labels
 
 -- returns a fault for each undeclared name of a module, in text order
-abbrev pub undeclared_faults : ParsedModule → List Fault
-undeclared_faults m = undeclared_faults_by_labels m.source (occurrences (tree_of m)) (bindings (named_tree_of m))
+abbrev pub undeclared_faults : ParsedModule → List FaultAtTokens
+undeclared_faults m = undeclared_faults_by_labels (occurrences (tree_of m)) (bindings (named_tree_of m))
 
 -- States that these are the faults of a module's names. Duplicate declarations and wrong closing
 -- names come first (`declaration_faults`). A fault for each undeclared name follows, in text order.
 -- The list has no fault `Duplicate` or `EndName` exactly if no name is declared twice in a block or
 -- record, and all closing names are right.
-pub record AreNameFaultsOf (m : ParsedModule) (faults : List Fault) : Type 0 where
+pub record AreNameFaultsOf (m : ParsedModule) (faults : List FaultAtTokens) : Type 0 where
   pub by_kind : faults ≡ declaration_faults m ++ undeclared_faults m
   pub declared_twice : list_any is_duplicate_or_end_name faults ≡ not (has_consistent_names (named_tree_of m))
   pub undeclared : filter is_undeclared_fault faults ≡ undeclared_faults m

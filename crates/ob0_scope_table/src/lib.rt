@@ -3,14 +3,14 @@
 //! to 6 for the predeclared names, then 7 upwards for the text's declarations in text order.
 #![tactic(auto)]
 
-mod fault_tokens;
+mod faults;
 mod one_body;
 mod ordinal_entry;
 mod predeclared_names;
 mod resolved;
 mod table;
 
-pub use fault_tokens::{FaultWithTokenIndexes, faults_with_spans, faults_with_token_indexes};
+pub use faults::{FaultAtTokens, fault_at_token, faults_with_spans, is_duplicate_or_end_name};
 pub use one_body::{BodyBounds, body_bounds_in_module, body_bounds_in_tree, is_range_in_one_body};
 pub use ordinal_entry::OrdinalEntry;
 pub use predeclared_names::{

@@ -6,7 +6,7 @@ ghost use Rattle.ob0_scope_table.specs.Entries.{stored_ordinal};
 use std::marker::Model;
 
 /// The greatest ordinal that an entry can have: 2^32 - 2.
-const GREATEST_ORDINAL: usize = 4294967294;
+const MAX_ENTRY_ORDINAL: usize = 4294967294;
 
 /// An optional ordinal (a declaration's number) in 32 bits: the ordinal plus 1, or 0 for None. A
 /// text has far fewer declarations than an entry has values, so entries can hold all ordinals.
@@ -34,7 +34,7 @@ impl OrdinalEntry {
     {
         match ordinal {
             Some(ordinal) => OrdinalEntry {
-                number: ordinal.min(GREATEST_ORDINAL) as u32 + 1,
+                number: ordinal.min(MAX_ENTRY_ORDINAL) as u32 + 1,
             },
             None => OrdinalEntry { number: 0 },
         }

@@ -5,10 +5,11 @@ ghost use Rattle.ob0_tree.specs.ParsedModule.{named_tree_of};
 ghost use Rattle.ob0_language_names.specs.Occurrences.{ordinal_bound_at};
 ghost use Rattle.ob0_scope_table.specs.Resolution.{IsResolution, ordinal_in, declaration_token};
 
+use crate::faults::FaultAtTokens;
 use crate::ordinal_entry::OrdinalEntry;
 use crate::predeclared_names::PREDECLARED_COUNT;
 use crate::table::ordinal_at;
-use ob0_scan::{Fault, Tokens};
+use ob0_scan::Tokens;
 use ob0_tree::Module;
 use std::borrow::Cow;
 use std::marker::Model;
@@ -17,13 +18,14 @@ use std::marker::Model;
 /// `ordinals` has an entry for each token: the ordinal of the identifier's declaration, or None.
 /// `declaration_tokens` has the tokens of the declaring names, and `occurrences` the tokens of the
 /// looked-up names, both in text order. `faults` has the faults of names: duplicate declarations,
-/// wrong closing names and undeclared names. Bindings borrow nothing.
+/// wrong closing names and undeclared names. All places are token indexes, so a change of only
+/// white space or comments changes nothing here. Bindings borrow nothing.
 #[derive(Drop)]
 pub struct Bindings {
     pub ordinals: Vec<OrdinalEntry>,
     pub declaration_tokens: Vec<usize>,
     pub occurrences: Vec<usize>,
-    pub faults: Vec<Fault>,
+    pub faults: Vec<FaultAtTokens>,
 }
 
 /// A module in which each name is bound to its declaration. Declarations are identified by
@@ -176,7 +178,7 @@ impl<'t> Resolved<'t> {
 
     /// Returns the faults of names. Duplicate declarations in a block or record and wrong closing
     /// names come first. The undeclared names follow, in text order.
-    pub fn faults(&self) -> &[Fault]
+    pub fn faults(&self) -> &[FaultAtTokens]
         ensures { result.now ≡ self.now.faults }
     {
         self.bindings().faults.as_slice()

@@ -7,7 +7,7 @@ use Rattle.std.specs.Str.{bytes_eq}
 use Rattle.std.specs.declared.alloc.Global.{Global}
 use Rattle.serde_json.specs.Data.{Data, array, no_items}
 use Rattle.serde_json.specs.View.{items_of}
-use Rattle.ob0_rpc.specs.MessageViews.{id_data, kinds_view}
+use Rattle.ob0_rpc.specs.MessageViews.{json_of_id, action_kinds_view}
 use Rattle.ob0_rpc.specs.Shapes.{result_message}
 use Rattle.ob0_rpc.specs.Writing.{Writes}
 use Rattle.ob0_rpc.specs.declared.clients.ClientFeatures.{ClientFeatures}
@@ -41,12 +41,12 @@ pub record VersionedActionsRequest : Type 0 where
 abbrev pub actions_request_view : ActionsRequest → ℤ → VersionedActionsRequest
 actions_request_view r version =
     record {
-      id = id_data r.id.now;
+      id = json_of_id r.id.now;
       client = r.client;
       uri = r.uri.now;
       version = version;
       range = r.range;
-      only = kinds_view r.only.now;
+      only = action_kinds_view r.only.now;
     }
 
 -- Returns whether this kind of actions includes inlining. `refactor.inline`, `refactor` and the

@@ -6,7 +6,7 @@ use Rattle.ob0_rpc.specs.Writing.{Writes}
 use Rattle.ob0_text.specs.Texts.{position_of}
 use Rattle.ob0_text.specs.Units.{width_of}
 use Rattle.ob0_text.specs.declared.position_types.Unit.{Unit}
-use Rattle.ob0_analysis.specs.Diagnosed.{ReportedDiagnosis, Reports}
+use Rattle.ob0_analysis.specs.Diagnosed.{ReportedDiagnosis, ReportsErrorsOf}
 use Rattle.ob0_analysis.specs.Texts.{utf8}
 use Rattle.ob0_session_json.specs.Shapes.{Diagnostic, publication}
 
@@ -25,7 +25,7 @@ diagnostic_of unit text c = record {
 abbrev pub AreDiagnosticsOf : Unit → List ℕ → List Diagnostic → Type 0
 AreDiagnosticsOf unit text ds =
     (reported : List ReportedDiagnosis)
-    × Reports (utf8 text) reported
+    × ReportsErrorsOf (utf8 text) reported
     × (ds ≡ map (diagnostic_of unit text) reported)
 
 -- States that `content` is the text, as bytes, of the message that publishes the diagnostics of a

@@ -3,7 +3,7 @@
 use Rattle.std.specs.Prelude.{◌≡◌, ◌⊎◌, ℕ, ℤ, List, codes}
 use Rattle.serde_json.specs.Data.{Data}
 use Rattle.ob0_rpc.specs.Requesting.{DocumentPlace}
-use Rattle.ob0_rpc.specs.MessageViews.{document_place_view, id_data}
+use Rattle.ob0_rpc.specs.MessageViews.{document_place_view, json_of_id}
 use Rattle.ob0_rpc.specs.Shapes.{result_message}
 use Rattle.ob0_rpc.specs.Writing.{Writes}
 use Rattle.ob0_rpc.specs.declared.clients.ClientFeatures.{ClientFeatures}
@@ -31,7 +31,7 @@ pub record VersionedRenameRequest : Type 0 where
 abbrev pub rename_request_view : RenameRequest → ℤ → VersionedRenameRequest
 rename_request_view r version =
     record {
-      id = id_data r.id.now;
+      id = json_of_id r.id.now;
       client = r.client;
       at = document_place_view r.place.now;
       version = version;

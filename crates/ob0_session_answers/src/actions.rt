@@ -9,7 +9,7 @@
 ghost use Rattle.std.specs.Prelude.{◌≡◌, IfOk, map, string_bytes};
 ghost use Rattle.std.specs.List.{list_any};
 ghost use Rattle.serde_json.specs.Data.{array, item, no_items};
-ghost use Rattle.ob0_rpc.specs.MessageViews.{id_data, kinds_view};
+ghost use Rattle.ob0_rpc.specs.MessageViews.{json_of_id, action_kinds_view};
 ghost use Rattle.ob0_rpc.specs.Shapes.{result_message};
 ghost use Rattle.ob0_rpc.specs.Writing.{Writes};
 ghost use Rattle.ob0_text.specs.Texts.{offset_of};
@@ -19,7 +19,7 @@ ghost use Rattle.ob0_session_json.specs.JsonViews.{code_action_view};
 
 use ob0_analysis::Analysis;
 use ob0_edits::{Inlining, Inlinings, inline_edits};
-use ob0_rpc::{ClientFeatures, Id, answer_text};
+use ob0_rpc::{ClientFeatures, Id, success_response_text};
 use ob0_session_documents::DocumentRequest;
 use ob0_session_json::edits::{CodeAction, WorkspaceEdit};
 use ob0_text::{Edit, Position, Range, TextStore};
@@ -75,7 +75,7 @@ impl<'a> ActionsRequest<'a> {
     /// Returns whether the client accepts literal code actions, which aren't commands, and the
     /// requested kinds include inlining. If `only` is None, all kinds are requested.
     fn wants_inlining(&self) -> bool
-        ensures { result ≡ wants self.now.client (kinds_view self.now.only.now) }
+        ensures { result ≡ wants self.now.client (action_kinds_view self.now.only.now) }
     {
         self.client.accepts_literal_actions && kinds_include_inlining(self.only)
     }
@@ -89,7 +89,7 @@ impl<'a> ActionsRequest<'a> {
         version: i64,
         found: &Inlinings,
     ) -> Result<Vec<u8>, AllocError>
-        ensures { IfOk result (λ bytes. Writes (result_message (id_data self.now.id.now)
+        ensures { IfOk result (λ bytes. Writes (result_message (json_of_id self.now.id.now)
             (actions_array (actions_request_view self.now version)
             found.now.here found.now.everywhere)) bytes.items) }
     {
@@ -99,7 +99,7 @@ impl<'a> ActionsRequest<'a> {
                     self.action(version, Inlining::OneUse, here.as_slice()),
                     self.action(version, Inlining::Everywhere, everywhere.as_slice()),
                 ];
-                answer_text(alloc, self.id, &actions.as_slice())
+                success_response_text(alloc, self.id, &actions.as_slice())
             }
             (Some(here), None) => self.answer_with_one_action(
                 alloc,
@@ -125,12 +125,12 @@ impl<'a> ActionsRequest<'a> {
         how: Inlining,
         edits: &[Edit],
     ) -> Result<Vec<u8>, AllocError>
-        ensures { IfOk result (λ bytes. Writes (result_message (id_data self.now.id.now)
+        ensures { IfOk result (λ bytes. Writes (result_message (json_of_id self.now.id.now)
             (array (item (code_action_of (actions_request_view self.now version) how edits.now) no_items)))
             bytes.items) }
     {
         let actions = [self.action(version, how, edits)];
-        answer_text(alloc, self.id, &actions.as_slice())
+        success_response_text(alloc, self.id, &actions.as_slice())
     }
 
     /// Returns the code action that applies these edits to this version of the document. The
@@ -152,16 +152,16 @@ impl<'a> ActionsRequest<'a> {
 /// Returns the answer with an empty list of actions.
 fn answer_without_actions(alloc: Global, id: &Id) -> Result<Vec<u8>, AllocError>
     ensures { IfOk result
-        (λ bytes. Writes (result_message (id_data id.now) (array no_items)) bytes.items) }
+        (λ bytes. Writes (result_message (json_of_id id.now) (array no_items)) bytes.items) }
 {
     let none: [CodeAction<'_>; 0] = [];
-    answer_text(alloc, id, &none.as_slice())
+    success_response_text(alloc, id, &none.as_slice())
 }
 
 /// Returns whether the requested kinds of actions include inlining. If `only` is None, all kinds
 /// are requested.
 fn kinds_include_inlining(only: &Option<Vec<String>>) -> bool
-    ensures { result ≡ allows (kinds_view only.now) }
+    ensures { result ≡ allows (action_kinds_view only.now) }
 {
     match only {
         Some(kinds) => any_kind_includes_inlining(kinds.as_slice()),

@@ -1,10 +1,10 @@
 //! Answers requests for formatting.
-ghost use Rattle.ob0_rpc.specs.MessageViews.{id_data};
+ghost use Rattle.ob0_rpc.specs.MessageViews.{json_of_id};
 ghost use Rattle.ob0_session_answers.specs.Formatted.{RepliesToFormatting};
 
 use ob0_analysis::Analysis;
 use ob0_edits::format_edits;
-use ob0_rpc::{Id, answer_text};
+use ob0_rpc::{Id, success_response_text};
 use ob0_session_documents::DocumentRequest;
 use ob0_session_json::refusals::{ill_typed_refusal, refusal_with_reason};
 use ob0_text::{Indent, TextStore};
@@ -19,7 +19,7 @@ pub struct FormattingRequest<'a> {
 
 impl<'a, T: TextStore> DocumentRequest<T> for FormattingRequest<'a> {
     ghost answers = { λ r _ unit text content.
-        RepliesToFormatting unit (id_data r.id.now) r.indent text content };
+        RepliesToFormatting unit (json_of_id r.id.now) r.indent text content };
 
     fn answer(
         &self,
@@ -30,7 +30,7 @@ impl<'a, T: TextStore> DocumentRequest<T> for FormattingRequest<'a> {
     ) -> Result<Vec<u8>, AllocError> {
         match format_edits(alloc, text, analysis, self.indent)? {
             Some(outcome) => match outcome {
-                Ok(edits) => answer_text(alloc, self.id, &edits.as_slice()),
+                Ok(edits) => success_response_text(alloc, self.id, &edits.as_slice()),
                 Err(refusal) => refusal_with_reason(alloc, self.id, refusal),
             },
             None => ill_typed_refusal(alloc, self.id),

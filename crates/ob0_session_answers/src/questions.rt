@@ -7,7 +7,7 @@
 ghost use Rattle.std.specs.Prelude.{◌≡◌, IfOk, option_map, map};
 ghost use Rattle.serde_json.specs.Data.{array};
 ghost use Rattle.serde_json.specs.View.{items_of};
-ghost use Rattle.ob0_rpc.specs.MessageViews.{document_place_view, id_data};
+ghost use Rattle.ob0_rpc.specs.MessageViews.{document_place_view, json_of_id};
 ghost use Rattle.ob0_rpc.specs.Shapes.{result_message};
 ghost use Rattle.ob0_rpc.specs.Writing.{Writes};
 ghost use Rattle.ob0_refs.specs.Parts.{hover_view};
@@ -17,7 +17,7 @@ ghost use Rattle.ob0_session_answers.specs.Questions.{RepliesToQuestion, definit
 use ob0_analysis::{Analysis, Question, WellTyped, ask};
 use ob0_edits_tokens::{range_of, ranges};
 use ob0_refs::{definition, hover, references, renamable_span};
-use ob0_rpc::{DocumentPosition, Id, answer_text};
+use ob0_rpc::{DocumentPosition, Id, success_response_text};
 use ob0_scan::Span;
 use ob0_session_documents::DocumentRequest;
 use ob0_session_json::places::{HoverResult, Location, Locations, MarkupContent};
@@ -107,7 +107,7 @@ pub struct HoverRequest<'a> {
 
 impl<'a, T: TextStore> DocumentRequest<T> for HoverRequest<'a> {
     ghost answers = { λ r _ unit text content.
-        RepliesToQuestion unit (id_data r.id.now) (document_place_view r.place.now) hover_question text content };
+        RepliesToQuestion unit (json_of_id r.id.now) (document_place_view r.place.now) hover_question text content };
 
     fn answer(
         &self,
@@ -119,7 +119,7 @@ impl<'a, T: TextStore> DocumentRequest<T> for HoverRequest<'a> {
         let offset = text.offset(self.place.position);
         match ask(alloc, analysis, &HoverQuestion { offset })? {
             Some(found) => hover_answer(alloc, self.id, text, found),
-            None => answer_text(alloc, self.id, &()),
+            None => success_response_text(alloc, self.id, &()),
         }
     }
 }
@@ -133,7 +133,7 @@ pub struct DefinitionRequest<'a> {
 
 impl<'a, T: TextStore> DocumentRequest<T> for DefinitionRequest<'a> {
     ghost answers = { λ r _ unit text content.
-        RepliesToQuestion unit (id_data r.id.now) (document_place_view r.place.now)
+        RepliesToQuestion unit (json_of_id r.id.now) (document_place_view r.place.now)
         definition_question text content };
 
     fn answer(
@@ -146,7 +146,7 @@ impl<'a, T: TextStore> DocumentRequest<T> for DefinitionRequest<'a> {
         let offset = text.offset(self.place.position);
         match ask(alloc, analysis, &DefinitionQuestion { offset })? {
             Some(found) => location_answer(alloc, self.id, text, self.place.uri.as_str(), found),
-            None => answer_text(alloc, self.id, &()),
+            None => success_response_text(alloc, self.id, &()),
         }
     }
 }
@@ -161,7 +161,7 @@ pub struct ReferencesRequest<'a> {
 
 impl<'a, T: TextStore> DocumentRequest<T> for ReferencesRequest<'a> {
     ghost answers = { λ r _ unit text content.
-        RepliesToQuestion unit (id_data r.id.now) (document_place_view r.place.now)
+        RepliesToQuestion unit (json_of_id r.id.now) (document_place_view r.place.now)
         (references_question r.include_declaration) text content };
 
     fn answer(
@@ -194,7 +194,7 @@ pub struct PrepareRenameRequest<'a> {
 
 impl<'a, T: TextStore> DocumentRequest<T> for PrepareRenameRequest<'a> {
     ghost answers = { λ r _ unit text content.
-        RepliesToQuestion unit (id_data r.id.now) (document_place_view r.place.now)
+        RepliesToQuestion unit (json_of_id r.id.now) (document_place_view r.place.now)
         prepare_rename_question text content };
 
     fn answer(
@@ -207,7 +207,7 @@ impl<'a, T: TextStore> DocumentRequest<T> for PrepareRenameRequest<'a> {
         let offset = text.offset(self.place.position);
         match ask(alloc, analysis, &RenamableSpanQuestion { offset })? {
             Some(found) => range_answer(alloc, self.id, text, found),
-            None => answer_text(alloc, self.id, &()),
+            None => success_response_text(alloc, self.id, &()),
         }
     }
 }
@@ -220,7 +220,7 @@ fn hover_answer<T: TextStore>(
     store: &T,
     found: Option<ob0_refs::Hover>,
 ) -> Result<Vec<u8>, AllocError>
-    ensures { IfOk result (λ bytes. Writes (result_message (id_data id.now)
+    ensures { IfOk result (λ bytes. Writes (result_message (json_of_id id.now)
         (value_or_null (option_map (hover_value_with_range (T.unit_of store.now) (T.content store.now))
         (option_map hover_view found)))) bytes.items) }
 {
@@ -230,9 +230,9 @@ fn hover_answer<T: TextStore>(
                 value: shown.text.as_str(),
             };
             let range = range_of(store, shown.span);
-            answer_text(alloc, id, &HoverResult { contents, range })
+            success_response_text(alloc, id, &HoverResult { contents, range })
         }
-        None => answer_text(alloc, id, &()),
+        None => success_response_text(alloc, id, &()),
     }
 }
 
@@ -245,7 +245,7 @@ fn location_answer<T: TextStore>(
     uri: &str,
     found: Option<Span>,
 ) -> Result<Vec<u8>, AllocError>
-    ensures { IfOk result (λ bytes. Writes (result_message (id_data id.now)
+    ensures { IfOk result (λ bytes. Writes (result_message (json_of_id id.now)
         (value_or_null
         (option_map (span_location_value (T.unit_of store.now) uri.now (T.content store.now)) found)))
         bytes.items) }
@@ -253,9 +253,9 @@ fn location_answer<T: TextStore>(
     match found {
         Some(span) => {
             let range = range_of(store, span);
-            answer_text(alloc, id, &Location { range, uri })
+            success_response_text(alloc, id, &Location { range, uri })
         }
-        None => answer_text(alloc, id, &()),
+        None => success_response_text(alloc, id, &()),
     }
 }
 
@@ -267,13 +267,13 @@ fn range_answer<T: TextStore>(
     store: &T,
     found: Option<Span>,
 ) -> Result<Vec<u8>, AllocError>
-    ensures { IfOk result (λ bytes. Writes (result_message (id_data id.now)
+    ensures { IfOk result (λ bytes. Writes (result_message (json_of_id id.now)
         (value_or_null (option_map (span_range_value (T.unit_of store.now) (T.content store.now)) found)))
         bytes.items) }
 {
     match found {
-        Some(span) => answer_text(alloc, id, &range_of(store, span)),
-        None => answer_text(alloc, id, &()),
+        Some(span) => success_response_text(alloc, id, &range_of(store, span)),
+        None => success_response_text(alloc, id, &()),
     }
 }
 
@@ -286,12 +286,12 @@ fn locations_answer<T: TextStore>(
     uri: &str,
     spans: &[Span],
 ) -> Result<Vec<u8>, AllocError>
-    ensures { IfOk result (λ bytes. Writes (result_message (id_data id.now)
+    ensures { IfOk result (λ bytes. Writes (result_message (json_of_id id.now)
         (array (items_of
         (map (span_location_value (T.unit_of store.now) uri.now (T.content store.now)) spans.now))))
         bytes.items) }
 {
     let ranges = ranges(alloc, store, spans)?;
     let ranges = ranges.as_slice();
-    answer_text(alloc, id, &Locations { ranges, uri })
+    success_response_text(alloc, id, &Locations { ranges, uri })
 }

@@ -1,14 +1,14 @@
 //! Answers requests for renaming.
 
 ghost use Rattle.std.specs.Prelude.{IfOk};
-ghost use Rattle.ob0_rpc.specs.MessageViews.{id_data};
+ghost use Rattle.ob0_rpc.specs.MessageViews.{json_of_id};
 ghost use Rattle.ob0_rpc.specs.Shapes.{result_message};
 ghost use Rattle.ob0_rpc.specs.Writing.{Writes};
 ghost use Rattle.ob0_session_answers.specs.Renamed.{RepliesToRename, rename_request_view, edits_for_client};
 
 use ob0_analysis::Analysis;
 use ob0_edits::rename_edits;
-use ob0_rpc::{ClientFeatures, DocumentPosition, Id, answer_text};
+use ob0_rpc::{ClientFeatures, DocumentPosition, Id, success_response_text};
 use ob0_session_documents::DocumentRequest;
 use ob0_session_json::edits::WorkspaceEdit;
 use ob0_session_json::refusals::{ill_typed_refusal, refusal_with_reason};
@@ -53,7 +53,7 @@ impl<'a> RenameRequest<'a> {
         version: i64,
         edits: &[Edit],
     ) -> Result<Vec<u8>, AllocError>
-        ensures { IfOk result (λ bytes. Writes (result_message (id_data self.now.id.now)
+        ensures { IfOk result (λ bytes. Writes (result_message (json_of_id self.now.id.now)
             (edits_for_client (rename_request_view self.now version) edits.now)) bytes.items) }
     {
         let edits = WorkspaceEdit {
@@ -62,6 +62,6 @@ impl<'a> RenameRequest<'a> {
             version,
             edits,
         };
-        answer_text(alloc, self.id, &edits)
+        success_response_text(alloc, self.id, &edits)
     }
 }

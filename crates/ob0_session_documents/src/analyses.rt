@@ -82,8 +82,8 @@ impl Analyses {
     }
 
     /// Keeps the analysis of a document. If the total size is too large, the least recently used
-    /// analyses are dropped. If `analysis` by itself is larger than [`MAX_TOTAL_ANALYSIS_BYTES`], it
-    /// is kept, and all others are dropped.
+    /// analyses are dropped. If `analysis` by itself is larger than [`MAX_TOTAL_ANALYSIS_BYTES`],
+    /// it is kept, and all others are dropped.
     pub fn put(&mut self, uri: &str, analysis: Analysis) -> Result<(), AllocError>
         ensures { AddsOnlyAnalysis self.old uri.now analysis self.new }
     {

@@ -4,7 +4,7 @@ use Rattle.std.proofs.lemmas.List.{drop-drop, drop_at, length-drop}
 use Rattle.serde_json.specs.Data.{string}
 use Rattle.serde_json.specs.Written.{comma_if, compact_text}
 use Rattle.ob0_text.specs.declared.position_types.Range.{Range}
-use Rattle.ob0_rpc.specs.Appending.{AppendsItem, ReadsBack}
+use Rattle.ob0_rpc.specs.Appending.{AppendsListItem, ReadsBack}
 use Rattle.ob0_rpc.specs.Shapes.{range_value}
 use Rattle.ob0_rpc.proofs.Appending.{name, object_text_of_two, read_two}
 use Rattle.ob0_session_json.specs.Places.{EndsWithUriMember}
@@ -29,7 +29,7 @@ module _ (uri : List ℕ) (range : Range) (at : ℕ) (before buffer : List ℕ) 
 
   -- Appending a location's text from such a buffer, with or without its comma, appends that
   -- location as an item of a list.
-  pub location_put : (needs_comma : Bool) (old new : List ℕ) → ReadsBack (range_value range.start range.end) → new ≡ old ++ drop (if needs_comma then at else at + 1) buffer → AppendsItem needs_comma (range_location_value uri range) old new
+  pub location_put : (needs_comma : Bool) (old new : List ℕ) → ReadsBack (range_value range.start range.end) → new ≡ old ++ drop (if needs_comma then at else at + 1) buffer → AppendsListItem needs_comma (range_location_value uri range) old new
   location_put needs_comma old new reads is = record {
     text = text_put needs_comma old new is;
     reads = read_two (codes "range") (codes "uri") (range_value range.start range.end) (string uri) (name (codes "range") refl refl) (name (codes "uri") refl refl) refl reads ends.reads;

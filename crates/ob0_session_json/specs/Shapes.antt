@@ -7,7 +7,7 @@ use Rattle.serde_json.specs.View.{items_of}
 use Rattle.ob0_text.specs.declared.position_types.Position.{Position}
 use Rattle.ob0_text.specs.declared.position_types.Range.{Range}
 use Rattle.ob0_text.specs.declared.edits.Edit.{Edit}
-use Rattle.ob0_rpc.specs.Faults.{minus}
+use Rattle.ob0_rpc.specs.Faults.{negative_of}
 pub use Rattle.ob0_rpc.specs.Shapes.{edit_value}
 use Rattle.ob0_rpc.specs.Shapes.{text, whole_number_value, range_value, error_response_message, notification_message}
 use Rattle.ob0_rpc.specs.declared.clients.ClientFeatures.{ClientFeatures}
@@ -135,7 +135,7 @@ action_value edit title =
 
 -- Returns the message that refuses a request for edits. `said` is the error text in that message.
 abbrev pub edit_refusal : Data → List ℕ → Data
-edit_refusal id said = error_response_message id (minus 32803) said
+edit_refusal id said = error_response_message id (negative_of 32803) said
 
 -- Returns the JSON value of a diagnostic, {"code":name,"message":m,"range":R,"severity":1}.
 abbrev pub diagnostic_value : Diagnostic → Data

@@ -1,13 +1,14 @@
 //! Writes the server's capabilities into the answer to `initialize`.
 ghost use Rattle.std.specs.Prelude.{IfOk, OnOk};
 ghost use Rattle.ob0_rpc.specs.Appending.{AppendsMembers};
-ghost use Rattle.ob0_rpc.specs.MessageViews.{id_data};
+ghost use Rattle.ob0_rpc.specs.MessageViews.{json_of_id};
 ghost use Rattle.ob0_rpc.specs.Shapes.{result_message};
 ghost use Rattle.ob0_rpc.specs.Writing.{Writes};
 ghost use Rattle.ob0_session_json.specs.Shapes.{code_action_options, capabilities, members_after_definition_provider, members_from_references_provider, rename_provider, server_capabilities, document_sync_options};
 
 use ob0_rpc::{
-    ClientFeatures, Id, WriteJson, answer_text, end_object, write_first_member, write_next_member,
+    ClientFeatures, Id, WriteJson, end_object, success_response_text, write_first_member,
+    write_next_member,
 };
 use std::alloc::{AllocError, Global};
 
@@ -19,10 +20,10 @@ pub fn initialize_answer(
     client: ClientFeatures,
 ) -> Result<Vec<u8>, AllocError>
     ensures { IfOk result
-        (λ bytes. Writes (result_message (id_data id.now) (capabilities client)) bytes.items) }
+        (λ bytes. Writes (result_message (json_of_id id.now) (capabilities client)) bytes.items) }
 {
     let capabilities = ServerCapabilities { client };
-    answer_text(alloc, id, &InitializeResult { capabilities })
+    success_response_text(alloc, id, &InitializeResult { capabilities })
 }
 
 /// The result of `initialize`: an object with the server's capabilities.

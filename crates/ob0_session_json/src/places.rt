@@ -3,14 +3,14 @@ ghost use Rattle.std.specs.Prelude.{◌≡◌, ◌++◌, ◌<◌, ◌≤◌, fal
 ghost use Rattle.serde_json.specs.Data.{array};
 ghost use Rattle.serde_json.specs.View.{items_of};
 ghost use Rattle.serde_json.specs.Written.{compact_text};
-ghost use Rattle.ob0_rpc.specs.Appending.{AppendsEach, ReadsBack};
+ghost use Rattle.ob0_rpc.specs.Appending.{AppendsEachValue, ReadsBack};
 ghost use Rattle.ob0_rpc.specs.Shapes.{range_value};
 ghost use Rattle.ob0_session_json.specs.Places.{EndsWithUriMember};
 ghost use Rattle.ob0_session_json.specs.Shapes.{hover_value, range_location_value, plain_text_value};
 
 use ob0_rpc::{
     WriteJson, begin_list, end_list, end_object, write_first_member, write_next_member,
-    write_piece_ending_at, write_range_ending_at,
+    write_range_ending_at, write_verbatim_ending_at,
 };
 use ob0_text::Range;
 use std::alloc::{AllocError, Global};
@@ -62,7 +62,7 @@ impl<'a> WriteJson for Locations<'a> {
 /// list.
 fn write_locations(out: &mut Vec<u8>, uri: &str, ranges: &[Range]) -> Result<(), AllocError>
     ensures { OnOk result
-        (AppendsEach false (map (range_location_value uri.now) ranges.now) out.old.items out.new.items) }
+        (AppendsEachValue false (map (range_location_value uri.now) ranges.now) out.old.items out.new.items) }
 {
     let alloc = *out.allocator();
     let mut text = location_buffer(alloc, uri)?;
@@ -92,8 +92,8 @@ fn location_buffer(alloc: Global, uri: &str) -> Result<Vec<u8>, AllocError>
 }
 
 /// Writes a comma and the start of a location's text, up to and including the member `range`, into
-/// the free space of the buffer. These bytes end right before the index 192, at which the end of the
-/// location's text already begins. Returns the index of the comma.
+/// the free space of the buffer. These bytes end right before the index 192, at which the end of
+/// the location's text already begins. Returns the index of the comma.
 fn write_location_start(buffer: &mut [u8], range: Range) -> usize
     requires { 192 ≤ length buffer.old }
     ensures within { result < 192 }
@@ -103,7 +103,7 @@ fn write_location_start(buffer: &mut [u8], range: Range) -> usize
     ensures reads { ReadsBack (range_value range.start range.end) }
 {
     let at = write_range_ending_at(buffer, PREFIX_CAPACITY, range.start, range.end);
-    write_piece_ending_at(buffer, at, b",{\"range\":")
+    write_verbatim_ending_at(buffer, at, b",{\"range\":")
 }
 
 /// The result of a hover request: plain text, and the range of the name or field that the text

@@ -1,6 +1,6 @@
 //! Writes the messages that refuse requests for edits.
 ghost use Rattle.std.specs.Prelude.{IfOk, codes};
-ghost use Rattle.ob0_rpc.specs.MessageViews.{id_data};
+ghost use Rattle.ob0_rpc.specs.MessageViews.{json_of_id};
 ghost use Rattle.ob0_rpc.specs.Writing.{Writes};
 ghost use Rattle.ob0_session_json.specs.Shapes.{edit_refusal};
 ghost use Rattle.ob0_text.specs.RefusalTexts.{refusal_text};
@@ -11,7 +11,7 @@ use std::alloc::{AllocError, Global};
 
 /// Returns the message that refuses a request for edits. `said` is the error text in that message.
 pub fn refusal_message(alloc: Global, id: &Id, said: &str) -> Result<Vec<u8>, AllocError>
-    ensures { IfOk result (λ bytes. Writes (edit_refusal (id_data id.now) said.now) bytes.items) }
+    ensures { IfOk result (λ bytes. Writes (edit_refusal (json_of_id id.now) said.now) bytes.items) }
 {
     error(alloc, Some(id), -32803, said)
 }
@@ -24,7 +24,7 @@ pub fn refusal_with_reason(
     refusal: EditRefusal,
 ) -> Result<Vec<u8>, AllocError>
     ensures { IfOk result
-        (λ bytes. Writes (edit_refusal (id_data id.now) (refusal_text refusal)) bytes.items) }
+        (λ bytes. Writes (edit_refusal (json_of_id id.now) (refusal_text refusal)) bytes.items) }
 {
     let text = refusal.text(alloc)?;
     refusal_message(alloc, id, text.as_str())
@@ -33,7 +33,7 @@ pub fn refusal_with_reason(
 /// Returns the message that refuses a request for edits in a text that isn't a well-typed module.
 pub fn ill_typed_refusal(alloc: Global, id: &Id) -> Result<Vec<u8>, AllocError>
     ensures { IfOk result
-        (λ bytes. Writes (edit_refusal (id_data id.now) (codes "ill-typed")) bytes.items) }
+        (λ bytes. Writes (edit_refusal (json_of_id id.now) (codes "ill-typed")) bytes.items) }
 {
     refusal_message(alloc, id, "ill-typed")
 }

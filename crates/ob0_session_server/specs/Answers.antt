@@ -9,9 +9,9 @@ use Rattle.ob0_text.specs.declared.position_types.Unit.TheVariants.{Utf16}
 use Rattle.ob0_text.specs.declared.edits.Indent.{Indent}
 use Rattle.ob0_text.specs.declared.position_types.Range.{Range}
 use Rattle.ob0_rpc.specs.Requesting.{DocumentPlace, ClientRequest, initialize, shutdown, hover, definition, references, prepare_rename, rename, code_action, formatting, request_by_method}
-use Rattle.ob0_rpc.specs.Faults.{minus, error_code, error_text}
+use Rattle.ob0_rpc.specs.Faults.{negative_of, error_code, error_text}
 use Rattle.ob0_rpc.specs.Messages.{ReadsContent, MessageMeaning, not_json, not_a_message, response, request, notice, meaning_of_content}
-use Rattle.ob0_rpc.specs.Notifications.{Notification, exits, opens, changes, closes, unreadable, other, notification_by_method}
+use Rattle.ob0_rpc.specs.Notifications.{NotificationMeaning, exits, opens, changes, closes, unreadable, other, notification_by_method}
 use Rattle.ob0_rpc.specs.Shapes.{result_message, error_response_message}
 use Rattle.ob0_rpc.specs.Writing.{Writes}
 use Rattle.ob0_rpc.specs.declared.clients.ClientFeatures.{ClientFeatures}
@@ -194,12 +194,12 @@ react_to_method s id method params = react_to_known_request s id (request_by_met
 abbrev pub react_to_request : Phase → ServerState → Data → List ℕ → Data → Reaction
 react_to_request Starting s id method params =
     if bytes_eq method (codes "initialize") then react_to_method s id method params
-    else react_with_error s id (minus 32002) (codes "not initialized")
+    else react_with_error s id (negative_of 32002) (codes "not initialized")
 react_to_request Running s id method params =
     if bytes_eq method (codes "initialize")
-    then react_with_error s id (minus 32600) (codes "already initialized")
+    then react_with_error s id (negative_of 32600) (codes "already initialized")
     else react_to_method s id method params
-react_to_request ShutDown s id method params = react_with_error s id (minus 32600) (codes "shut down")
+react_to_request ShutDown s id method params = react_with_error s id (negative_of 32600) (codes "shut down")
 react_to_request phase s id method params = reaction_without_change s nothing
 
 -- ---- the reactions to notifications
@@ -228,7 +228,7 @@ react_with_publication uri held s =
     reaction_with_documents held s (publication_reply held.unit uri (document_at held uri))
 
 -- Returns the reaction to a notification that is received while the session runs.
-abbrev pub apply_notification : ServerState → Notification → Reaction
+abbrev pub apply_notification : ServerState → NotificationMeaning → Reaction
 apply_notification s exits = react_to_exit s
 apply_notification s (opens uri version text) =
     react_with_publication uri (documents_after_open s.held uri version text) s

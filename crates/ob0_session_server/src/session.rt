@@ -1,14 +1,14 @@
 //! Keeps the state of a session, and answers each message according to the session's phase
 //! (docs/PROTOCOL.md, Lifecycle).
 ghost use Rattle.std.specs.Prelude.{◌≡◌, ◌≢◌, Ok, IfOk, IfErr, map, option_map, string_bytes};
-ghost use Rattle.ob0_rpc.specs.MessageViews.{id_data};
+ghost use Rattle.ob0_rpc.specs.MessageViews.{json_of_id};
 ghost use Rattle.ob0_text.specs.OpenDocuments.{no_open_documents};
 ghost use Rattle.ob0_session_server.specs.ReplyViews.{RepliesForOutcome, message_of_outcome as spec_message_of};
 ghost use Rattle.ob0_session_server.specs.Units.{unit_for};
 
 use ob0_rpc::{
     ClientFeatures, ClientNotification, ClientRequest, DocumentPosition, Id, Incoming, RpcFault,
-    answer_text, error, notice, read, request,
+    error, notice, read, request, success_response_text,
 };
 use ob0_session_answers::{
     ActionsRequest, DefinitionRequest, FormattingRequest, HoverRequest, PrepareRenameRequest,
@@ -88,7 +88,7 @@ impl<T: TextStore> Session<T> {
     ghost use Rattle.std.specs.Option.{option_to_list};
     ghost use Rattle.ob0_session_server.specs.Answers.{start, state_after_initialize, AnswersBeforeEnd, AreContentsOfReply, react_to_request, react_to_actions, react_to_question, react_to_rename, react_to_method, react_to_known_request, react_to_exit, react_to_notification, publication_reply, react_with_error, react_with_fault, apply_notification};
     ghost use Rattle.ob0_rpc.specs.Notifications.{opens, changes, closes, notification_by_method};
-    ghost use Rattle.ob0_rpc.specs.MessageViews.{document_place_view, id_or_null, kinds_view, request_view, notification_view};
+    ghost use Rattle.ob0_rpc.specs.MessageViews.{document_place_view, id_or_null, action_kinds_view, request_view, notification_view};
     ghost use Rattle.ob0_session_answers.specs.Questions.{references_question};
     ghost use Rattle.ob0_session_server.specs.ReplyViews.{Reacts, RepliesAboutDocument};
     ghost use Rattle.ob0_session_server.specs.Steps.{SessionSteps, SessionFails, next_in_phase};
@@ -235,7 +235,7 @@ impl<T: TextStore> Session<T> {
         params: &Value,
     ) -> Result<Option<Vec<u8>>, AllocError>
         ensures { IfOk result (λ sent. Reacts (react_to_request self.old.phase self.old
-            (id_data id.now) method.now (view params.now)) sent self.new) }
+            (json_of_id id.now) method.now (view params.now)) sent self.new) }
     {
         let is_initialize = method == "initialize";
         match self.phase {
@@ -265,7 +265,7 @@ impl<T: TextStore> Session<T> {
         params: &Value,
     ) -> Result<Option<Vec<u8>>, AllocError>
         ensures { IfOk result (λ sent. Reacts
-            (react_to_method self.old (id_data id.now) method.now (view params.now))
+            (react_to_method self.old (json_of_id id.now) method.now (view params.now))
             sent self.new) }
     {
         match request(self.alloc, method, params) {
@@ -281,7 +281,7 @@ impl<T: TextStore> Session<T> {
         call: ClientRequest,
     ) -> Result<Option<Vec<u8>>, AllocError>
         ensures { IfOk result (λ sent. Reacts
-            (react_to_known_request self.old (id_data id.now) (Ok (request_view call))) sent self.new) }
+            (react_to_known_request self.old (json_of_id id.now) (Ok (request_view call))) sent self.new) }
     {
         match call {
             ClientRequest::Initialize(client) => {
@@ -290,7 +290,7 @@ impl<T: TextStore> Session<T> {
             }
             ClientRequest::Shutdown => {
                 self.phase = Phase::ShutDown;
-                Ok(Some(answer_text(self.alloc, id, &())?))
+                Ok(Some(success_response_text(self.alloc, id, &())?))
             }
             ClientRequest::Hover(place) => {
                 let request = HoverRequest { id, place: &place };
@@ -334,7 +334,7 @@ impl<T: TextStore> Session<T> {
         include_declaration: bool,
     ) -> Result<Option<Vec<u8>>, AllocError>
         ensures { IfOk result (λ sent. Reacts
-            (react_to_question self.old (id_data id.now) (document_place_view place.now)
+            (react_to_question self.old (json_of_id id.now) (document_place_view place.now)
             (references_question include_declaration)) sent self.new) }
     {
         let request = ReferencesRequest {
@@ -354,7 +354,7 @@ impl<T: TextStore> Session<T> {
         new: &str,
     ) -> Result<Option<Vec<u8>>, AllocError>
         ensures { IfOk result (λ sent. Reacts
-            (react_to_rename self.old (id_data id.now) (document_place_view place.now) new.now) sent self.new) }
+            (react_to_rename self.old (json_of_id id.now) (document_place_view place.now) new.now) sent self.new) }
     {
         let request = RenameRequest {
             id,
@@ -374,7 +374,7 @@ impl<T: TextStore> Session<T> {
         only: &Option<Vec<String>>,
     ) -> Result<Option<Vec<u8>>, AllocError>
         ensures { IfOk result (λ sent. Reacts
-            (react_to_actions self.old (id_data id.now) uri.now range (kinds_view only.now)) sent
+            (react_to_actions self.old (json_of_id id.now) uri.now range (action_kinds_view only.now)) sent
             self.new) }
     {
         let request = ActionsRequest {
@@ -396,7 +396,7 @@ impl<T: TextStore> Session<T> {
         request: &Q,
     ) -> Result<Option<Vec<u8>>, AllocError>
         ensures { IfOk result (λ sent. RepliesAboutDocument (Q.answers request.now) self.old
-            (id_data id.now) uri.now sent self.new) }
+            (json_of_id id.now) uri.now sent self.new) }
     {
         let outcome = self.documents.answer_request(uri, request)?;
         reply_for_outcome(self.alloc, id, outcome)
@@ -557,7 +557,7 @@ fn reply_for_outcome(
     id: &Id,
     outcome: RequestOutcome,
 ) -> Result<Option<Vec<u8>>, AllocError>
-    ensures { IfOk result (RepliesForOutcome (id_data id.now) outcome) }
+    ensures { IfOk result (RepliesForOutcome (json_of_id id.now) outcome) }
 {
     match outcome {
         RequestOutcome::Answered(message) => Ok(Some(message)),

@@ -64,8 +64,8 @@ pub enum CheckMode {
     /// Each question is asked, and an allocation may fail. A row whose answer isn't found because
     /// of such a failure is accepted.
     AllowingFailedAllocation,
-    /// Each question is a renaming. `rename_edits` makes the edits: it takes the analysis instead of
-    /// the well-typed module.
+    /// Each question is a renaming. `rename_edits` makes the edits: it takes the analysis instead
+    /// of the well-typed module.
     RenamingInAnalysis,
 }
 

@@ -6,7 +6,7 @@ use crate::asking::TestQuestion::{BoundOrdinals, ConflictOf, TypeOf};
 use crate::asking::{CheckMode, QuestionCase, first_failing_row, push_number, push_span, rows};
 use ob0_refs::{NameConflict, captures};
 use ob0_scope::resolve_renamed;
-use ob0_types::{ArrayShape, Parts, RecordShape, Shape, WellTyped};
+use ob0_types::{ArrayShape, RecordShape, Shape, TypeWithParts, WellTyped};
 use std::alloc::{AllocError, Global};
 use std::process::Abort;
 
@@ -28,13 +28,13 @@ fn push_shape(out: &mut String, shape: Shape<'_>) -> Result<(), AllocError> {
     let mut level = shape;
     for _ in 0..3 {
         match level.parts() {
-            Parts::Integer => return out.push_str("INTEGER"),
-            Parts::Boolean => return out.push_str("BOOLEAN"),
-            Parts::Faulty => return out.push_str("faulty"),
-            Parts::Record(record) => {
+            TypeWithParts::Integer => return out.push_str("INTEGER"),
+            TypeWithParts::Boolean => return out.push_str("BOOLEAN"),
+            TypeWithParts::Faulty => return out.push_str("faulty"),
+            TypeWithParts::Record(record) => {
                 return push_record(out, record);
             }
-            Parts::Array(array) => {
+            TypeWithParts::Array(array) => {
                 push_array_prefix(out, &array)?;
                 level = Shape {
                     known: level.known,

@@ -58,7 +58,7 @@ fn has_assignments(module: &Module<'_>, count: usize, factor: bool) -> bool {
 
 /// Returns whether the tokens are a module whose body consists of this many assignments. If
 /// `factor` is true, each must assign an `Expression::Factor`. If it is false, none may.
-fn tokens_have_assignments(alloc: Global, tokens: &Tokens, count: usize, factor: bool) -> bool {
+fn tokens_parse_to_assignments(alloc: Global, tokens: &Tokens, count: usize, factor: bool) -> bool {
     match parse(alloc, tokens) {
         Ok(module) => has_assignments(&module, count, factor),
         Err(_refusal) => false,
@@ -69,7 +69,7 @@ fn tokens_have_assignments(alloc: Global, tokens: &Tokens, count: usize, factor:
 /// is true, each must assign an `Expression::Factor`. If it is false, none may.
 fn text_has_assignments(alloc: Global, text: &str, count: usize, factor: bool) -> bool {
     match scan(alloc, text) {
-        Ok(tokens) => tokens_have_assignments(alloc, &tokens, count, factor),
+        Ok(tokens) => tokens_parse_to_assignments(alloc, &tokens, count, factor),
         Err(_refusal) => false,
     }
 }

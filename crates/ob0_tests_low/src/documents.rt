@@ -5,7 +5,7 @@ use crate::cases::{Case, first_failing_row};
 use crate::documents::DocumentAction::{Close, Lose, Note, Open};
 use crate::documents::ExpectedState::{Closed, InStep, OutOfStep};
 use crate::text::{ASSIGNMENT_AFTER_EMOJI, range_of};
-use ob0_text::{Change, Documents, Held, Lines, ReplacedBytes, TextStore, Unit, Whole};
+use ob0_text::{Change, Documents, Held, Lines, TextStore, Unit, Whole};
 use std::alloc::{AllocError, Global};
 use std::process::Abort;
 
@@ -15,10 +15,8 @@ type ChangeRow = ((u64, u64), (u64, u64), &'static str);
 /// An action on a document.
 enum DocumentAction {
     Open(i64, &'static str),
-    /// A change notification: its version, its changes, and the bytes that it is expected to
-    /// replace. These are given by their offset, the number of removed bytes and the number of
-    /// added bytes, or None if the text isn't known.
-    Note(i64, &'static [ChangeRow], Option<(usize, usize, usize)>),
+    /// A notification with a version and changes.
+    Note(i64, &'static [ChangeRow]),
     Lose,
     /// The document is closed. The Bool says whether it was open before.
     Close(bool),
@@ -49,11 +47,11 @@ struct DocumentCase(Unit, &'static [(DocumentAction, ExpectedState)]);
 static DOCUMENT_CASES: &[DocumentCase] = rows![
     DocumentCase(Unit::Utf16, rows![
         Open(1, ASSIGNMENT_AFTER_EMOJI) => InStep(1, ASSIGNMENT_AFTER_EMOJI);
-        Note(2, TWO_CHANGES_NEAR_EMOJI, Some((3, 9, 11))) => InStep(2, "(* !😀 *) yz := 1;");
+        Note(2, TWO_CHANGES_NEAR_EMOJI) => InStep(2, "(* !😀 *) yz := 1;");
     ]);
     DocumentCase(Unit::Utf16, rows![
         Open(1, OPENED_TEXT) => InStep(1, OPENED_TEXT);
-        Note(2, THREE_CHANGES, Some((2, 1, 4))) => InStep(2, TEXT_AFTER_THREE_CHANGES);
+        Note(2, THREE_CHANGES) => InStep(2, TEXT_AFTER_THREE_CHANGES);
     ]);
     DocumentCase(Unit::Utf8, rows![
         Open(1, "a") => InStep(1, "a");
@@ -61,7 +59,7 @@ static DOCUMENT_CASES: &[DocumentCase] = rows![
         Close(false) => Closed;
         Open(1, "a") => InStep(1, "a");
         Lose => OutOfStep;
-        Note(2, &[], None) => OutOfStep;
+        Note(2, &[]) => OutOfStep;
         Open(3, "b") => InStep(3, "b");
     ]);
 ];
@@ -95,18 +93,6 @@ fn has_state<T: TextStore>(documents: &Documents<T>, uri: &str, wanted: Expected
     }
 }
 
-/// Returns whether the replaced bytes (`found`) are the expected ones (`wanted`).
-fn is_expected_replacement(
-    found: Option<ReplacedBytes>,
-    wanted: Option<(usize, usize, usize)>,
-) -> bool {
-    match (found, wanted) {
-        (Some(bytes), Some(wanted)) => (bytes.from, bytes.removed, bytes.added) == wanted,
-        (None, None) => true,
-        _ => false,
-    }
-}
-
 /// Performs an action, and returns whether its result is the expected one.
 fn perform_action<T: TextStore>(
     alloc: Global,
@@ -117,10 +103,9 @@ fn perform_action<T: TextStore>(
         Open(version, text) => {
             documents.did_open("u", *version, text)?;
         }
-        Note(version, rows, bytes) => {
+        Note(version, rows) => {
             let changes = changes_of(alloc, rows)?;
-            let found = documents.did_change("u", *version, changes.as_slice())?;
-            return Ok(is_expected_replacement(found, *bytes));
+            documents.did_change("u", *version, changes.as_slice())?;
         }
         Lose => documents.lose("u"),
         Close(was_open) => return Ok(documents.did_close("u") == *was_open),
@@ -186,7 +171,7 @@ fn open_with_retry(documents: &mut Documents<Lines>, uri: &str) -> bool {
 /// allocation failed.
 fn changes_or_is_out_of_step(documents: &mut Documents<Lines>, uri: &str, note: &[Change]) -> bool {
     match documents.did_change(uri, 2, note) {
-        Ok(_bytes) => has_state(documents, uri, InStep(2, TEXT_AFTER_THREE_CHANGES)),
+        Ok(()) => has_state(documents, uri, InStep(2, TEXT_AFTER_THREE_CHANGES)),
         Err(AllocError) => has_state(documents, uri, OutOfStep),
     }
 }

@@ -82,13 +82,12 @@ impl BothStores {
         self.whole.replace(range, new)
     }
 
-    /// In both stores, replaces the two units that begin at this line and column by a short text.
-    /// Returns whether both stores then have the same text and report the same replaced bytes.
+    /// Replaces the two units that begin at this line and column by a short text, in both stores.
+    /// Returns whether both stores have the same text.
     fn change_two_units(&mut self, line: u64, column: u64) -> Result<bool, AllocError> {
         let range = range_of((line, column), (line, column.saturating_add(2)));
-        let bytes = self.lines.replace_at(range, "é-")?;
-        let others = self.whole.replace_at(range, "é-")?;
-        Ok(bytes == others && self.lines.as_str() == self.whole.as_str())
+        self.replace(range, "é-")?;
+        Ok(self.lines.as_str() == self.whole.as_str())
     }
 
     /// Changes each of the first three lines at these columns, one after another. Returns whether

@@ -6,8 +6,8 @@ use crate::rpc::SentMessage::*;
 use crate::rpc::TestedMessage::{Content, Notification, Request, Sent};
 use crate::text::at;
 use ob0_rpc::{
-    Call, ClientFeatures, Id, Incoming, Note, OneMemberObject, RpcFault, answer_text, error,
-    notice, notification, notification_text, read, request, result,
+    Call, ClientFeatures, Id, Incoming, Note, OneMemberObject, RpcFault, error, notice,
+    notification, notification_text, read, request, result, success_response_text,
 };
 use ob0_text::{Indent, Range};
 use serde_json::{Value, json};
@@ -272,28 +272,28 @@ fn answer_with_range(
     end: (u64, u64),
 ) -> Result<Vec<u8>, AllocError> {
     let (start, end) = (at(start.0, start.1), at(end.0, end.1));
-    answer_text(alloc, &Id::Signed(1), &Range { start, end })
+    success_response_text(alloc, &Id::Signed(1), &Range { start, end })
 }
 
 /// Returns the content of an answer whose result is an object with one member.
 fn answer_with_member(alloc: Global) -> Result<Vec<u8>, AllocError> {
     let (key, value) = ("a b", Some(at(1, 2)));
-    answer_text(alloc, &Id::Signed(0), &OneMemberObject { key, value })
+    success_response_text(alloc, &Id::Signed(0), &OneMemberObject { key, value })
 }
 
-/// Returns the content of a message that is sent.
+/// Returns the content that is written for a message of the table.
 fn content_of_sent_message(alloc: Global, message: SentMessage) -> Result<Vec<u8>, AllocError> {
     const LARGEST_POSITION: (u64, u64) = (u64::MAX, u64::MAX);
     match message {
-        Nothing => answer_text(alloc, &Id::Signed(-7), &()),
+        Nothing => success_response_text(alloc, &Id::Signed(-7), &()),
         Refusal(fault) => error(alloc, None, fault.code(), fault.text()),
         NoteOfNothing => notification_text(alloc, "m", &()),
         LargestRange => answer_with_range(alloc, LARGEST_POSITION, LARGEST_POSITION),
         OneRange => answer_with_range(alloc, (0, 9), (10, 12345)),
-        LargestNumber => answer_text(alloc, &Id::Unsigned(0), &u64::MAX),
-        LeastNumber => answer_text(alloc, &Id::Unsigned(u64::MAX), &i64::MIN),
-        Text => answer_text(alloc, &Id::Signed(-7), &"a\"\n\u{1}"),
-        Truths => answer_text(alloc, &Id::Signed(0), &[true, false].as_slice()),
+        LargestNumber => success_response_text(alloc, &Id::Unsigned(0), &u64::MAX),
+        LeastNumber => success_response_text(alloc, &Id::Unsigned(u64::MAX), &i64::MIN),
+        Text => success_response_text(alloc, &Id::Signed(-7), &"a\"\n\u{1}"),
+        Truths => success_response_text(alloc, &Id::Signed(0), &[true, false].as_slice()),
         Member => answer_with_member(alloc),
         EachKind => result(alloc, &Id::Unsigned(5), value_with_each_kind(alloc)?),
         NoteOfEachKind => notification(alloc, "m", value_with_each_kind(alloc)?),

@@ -11,7 +11,7 @@ use Rattle.std.proofs.Math.Seq.{take-append_seam, drop-append_seam}
 use Rattle.ob0_text.specs.Texts.{LF, CR, ends_line}
 use Rattle.ob0_text.specs.declared.passes.PlaceInText.{PlaceInText}
 use Rattle.ob0_text.specs.declared.position_types.Position.{Position}
-use Rattle.ob0_text.specs.Places.{CanCountPositions, CanFindOffsets, CanCountFrom, CanSeekFrom}
+use Rattle.ob0_text.specs.Places.{CanCountPositions, CanFindOffsets, CanCountPositionsFrom, CanFindOffsetsFrom}
 use Rattle.ob0_text.specs.LineStarts.{line_starts, line_starts_after_bytes, AreAllBelow, AreAllAtLeast}
 use Rattle.ob0_text.proofs.Prefixes.{halves}
 use Rattle.ob0_text.proofs.PositionSteps.{counted_at_start, counted_here_dropped, counted_past_end, counted_past_cr, counted_past_char}
@@ -104,7 +104,7 @@ some_start text = omega (arith, ap length (starts-lines 0 text))
 
 -- The place at which the search for a position begins is a place from which the position can be
 -- found.
-pub seeks : (width : ℕ → ℕ) (text starts : List ℕ) (p : Position) (place : PlaceInText) → IsUtf8 text → starts ≡ line_starts (chars text) → place.offset ≡ get_or starts place.line 0 → place.line ≡ min p.line (length starts - 1) → place.character ≡ 0 → CanSeekFrom width text p place
+pub seeks : (width : ℕ → ℕ) (text starts : List ℕ) (p : Position) (place : PlaceInText) → IsUtf8 text → starts ≡ line_starts (chars text) → place.offset ≡ get_or starts place.line 0 → place.line ≡ min p.line (length starts - 1) → place.character ≡ 0 → CanFindOffsetsFrom width text p place
 seeks width text starts p place u is here line none =
     let some : 0 < length starts = subst (λ t. 0 < length t) (sym is) (some_start (chars text)) in
     let inside : place.line < length (line_starts (chars text)) = subst (λ t. place.line < length t) is (omega (arith, line)) in
@@ -112,7 +112,7 @@ seeks width text starts p place u is here line none =
     subst (λ n. CanFindOffsets width text p (drop place.offset text) place.offset place.line n) (sym none)
     (subst (λ o. CanFindOffsets width text p (drop o text) o place.line 0) (sym start) (line_sought width text p u place.line inside (omega (arith, line))))
 
-pub counts : (width : ℕ → ℕ) → ((c : ℕ) → width c ≤ len_utf8 c) → (text starts : List ℕ) (line : ℕ) (place : PlaceInText) → IsUtf8 text → starts ≡ line_starts (chars text) → place.offset ≡ get_or starts place.line 0 → place.line ≡ min line (length starts - 1) → place.character ≡ 0 → CanCountFrom width text place
+pub counts : (width : ℕ → ℕ) → ((c : ℕ) → width c ≤ len_utf8 c) → (text starts : List ℕ) (line : ℕ) (place : PlaceInText) → IsUtf8 text → starts ≡ line_starts (chars text) → place.offset ≡ get_or starts place.line 0 → place.line ≡ min line (length starts - 1) → place.character ≡ 0 → CanCountPositionsFrom width text place
 counts width narrow text starts l place u is here line none =
     let some : 0 < length starts = subst (λ t. 0 < length t) (sym is) (some_start (chars text)) in
     let inside : place.line < length (line_starts (chars text)) = subst (λ t. place.line < length t) is (omega (arith, line)) in

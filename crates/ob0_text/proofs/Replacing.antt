@@ -1,15 +1,10 @@
 -- Proves that replacing bytes is replacing a range of the text.
-use Rattle.std.proofs.Common.{◌≡◌, ℕ, List, ◌++◌, take, drop, min, max, sym, ap, ◌∙◌, subst, Some, Ok, Err}
-use Rattle.std.specs.Prelude.{Result, OnOk}
+use Rattle.std.proofs.Common.{◌≡◌, ℕ, List, ◌++◌, take, drop, min, max, sym, ap, ◌∙◌, subst, Some}
 use Rattle.std.specs.Str.{IsUtf8, IsCharBoundary, chars}
 use Rattle.ob0_text.specs.Texts.{text_before, byte_len, offset_of}
 use Rattle.ob0_text.specs.Patches.{char_count_before, cut_at, text_with_range_replaced}
 use Rattle.ob0_text.specs.declared.position_types.Range.{Range}
 use Rattle.ob0_text.proofs.Prefixes.{patched_text-one, range_start, range_end, border_at, replaced_at}
-
-pub on_ok_so : {T E P Q : Type 0} (r : Result T E) → (P → Q) → OnOk r P → OnOk r Q
-on_ok_so (Ok x) so p = so p
-on_ok_so (Err e) so p = tt
 
 module _ (width : ℕ → ℕ) (text bs : List ℕ) (u : IsUtf8 bs) (is : chars bs ≡ text) (r : Range) (s e from to : ℕ) (s_is : s ≡ offset_of width text r.start) (e_is : e ≡ offset_of width text r.end) (from_is : from ≡ min s e) (to_is : to ≡ max s e) where
   at_from : from ≡ byte_len (take (min (char_count_before width (chars bs) r.start) (char_count_before width (chars bs) r.end)) (chars bs))

@@ -14,7 +14,7 @@ use Rattle.ob0_text.specs.declared.passes.PlaceInText.{PlaceInText}
 use Rattle.ob0_text.specs.declared.stretches.Stretch.{Stretch}
 use Rattle.ob0_text.specs.Texts.{CR, byte_len}
 use Rattle.ob0_text.specs.Stretches.{IsNotLineBreak, IsPieceOfLine}
-use Rattle.ob0_text.specs.Places.{CanFindOffsets, CanSeekFrom, CanCountPositions, CanCountFrom}
+use Rattle.ob0_text.specs.Places.{CanFindOffsets, CanFindOffsetsFrom, CanCountPositions, CanCountPositionsFrom}
 use Rattle.ob0_text.proofs.LineLaws.{no_line_end}
 use Rattle.ob0_text.proofs.PositionSteps.{counted_past_char}
 use Rattle.ob0_text.proofs.PlaceSteps.{byte_len-cons, sought_past_char}
@@ -56,7 +56,7 @@ module _ (width : ℕ → ℕ) (text : List ℕ) where
         subst (λ n. CanFindOffsets width text p rest n line (character + sum_by width (c ∷ cs))) (omega (arith, byte_len-cons c cs))
         (subst (λ n. CanFindOffsets width text p rest (offset + len_utf8 c + byte_len cs) line n) (omega (arith, wide)) last)
 
-    pub sought_past_stretch : (place : PlaceInText) (s : Stretch) → CanSeekFrom width text p place → IsPieceOfLine width text place.offset s → place.line ≡ p.line → place.character + s.units ≤ p.character → CanFindOffsets width text p (drop s.end text) s.end place.line (place.character + s.units)
+    pub sought_past_stretch : (place : PlaceInText) (s : Stretch) → CanFindOffsetsFrom width text p place → IsPieceOfLine width text place.offset s → place.line ≡ p.line → place.character + s.units ≤ p.character → CanFindOffsets width text p (drop s.end text) s.end place.line (place.character + s.units)
     unfolding piece
     sought_past_stretch place s h is here room =
         let passed = sought_past (chars (piece place.offset s is)) (drop s.end text) place.offset place.line place.character is.in_one_line.no_line_break (subst (λ r. CanFindOffsets width text p r place.offset place.line place.character) (split place.offset s is) h) here (omega (arith, is.in_one_line.width_sum, room)) in
@@ -76,7 +76,7 @@ module _ (width : ℕ → ℕ) (text : List ℕ) where
         subst (λ n. CanCountPositions width text rest n line (character + sum_by width (c ∷ cs))) (omega (arith, byte_len-cons c cs))
         (subst (λ n. CanCountPositions width text rest (offset + len_utf8 c + byte_len cs) line n) (omega (arith, wide)) last)
 
-    pub counted_past_stretch : (place : PlaceInText) (s : Stretch) → CanCountFrom width text place → IsPieceOfLine width text place.offset s → CanCountPositions width text (drop s.end text) s.end place.line (place.character + s.units)
+    pub counted_past_stretch : (place : PlaceInText) (s : Stretch) → CanCountPositionsFrom width text place → IsPieceOfLine width text place.offset s → CanCountPositions width text (drop s.end text) s.end place.line (place.character + s.units)
     unfolding piece
     counted_past_stretch place s h is =
         let passed = counted_past (chars (piece place.offset s is)) (drop s.end text) place.offset place.line place.character is.in_one_line.no_line_break (subst (λ r. CanCountPositions width text r place.offset place.line place.character) (split place.offset s is) h) in

@@ -29,9 +29,9 @@ abbrev pub relative_position : ℕ → ℕ → Position → Position
 relative_position line character p =
     if p.line == line then at 0 (p.character - character) else at (p.line - line) p.character
 
--- States that the position `p` equals `q` or comes after `q` in the text.
-abbrev pub IsAtOrAfter : Position → Position → Type 0
-IsAtOrAfter q p = (q.line < p.line) ⊎ ((q.line ≡ p.line) × (q.character ≤ p.character))
+-- States that the position `q` equals `p` or comes before `p` in the text.
+abbrev pub PositionIsAtOrBefore : Position → Position → Type 0
+PositionIsAtOrBefore q p = (q.line < p.line) ⊎ ((q.line ≡ p.line) × (q.character ≤ p.character))
 
 -- States that `rest` is the text without its first `offset` bytes, and that `rest` consists of
 -- whole characters.
@@ -54,8 +54,8 @@ pub record CanCountPositions (width : ℕ → ℕ) (text rest : List ℕ) (offse
       ≡ position_of width (chars text) o
 
 -- States that the positions of all later offsets can be counted from the place `p`.
-abbrev pub CanCountFrom : (ℕ → ℕ) → List ℕ → PlaceInText → Type 0
-CanCountFrom width text p = CanCountPositions width text (drop p.offset text) p.offset p.line p.character
+abbrev pub CanCountPositionsFrom : (ℕ → ℕ) → List ℕ → PlaceInText → Type 0
+CanCountPositionsFrom width text p = CanCountPositions width text (drop p.offset text) p.offset p.line p.character
 
 -- States that the place with this byte offset, line and character is at or before the position
 -- `sought`. The offsets of `sought` and of each later position can be found from this place in
@@ -63,14 +63,14 @@ CanCountFrom width text p = CanCountPositions width text (drop p.offset text) p.
 pub record CanFindOffsets (width : ℕ → ℕ) (text : List ℕ) (sought : Position) (rest : List ℕ)
     (offset line character : ℕ) : Type 0 where
   pub rest_is : IsTextAfterOffset text rest offset
-  pub at_or_before_sought : IsAtOrAfter (at line character) sought
+  pub at_or_before_sought : PositionIsAtOrBefore (at line character) sought
   pub same : (p : Position)
-      → IsAtOrAfter sought p
+      → PositionIsAtOrBefore sought p
       → offset + byte_len (text_before width (chars rest) (relative_position line character p))
       ≡ byte_len (text_before width (chars text) p)
 
 -- States that the place `p` is at or before the position `sought`, and that the offsets of `sought`
 -- and of each later position can be found from `p`.
-abbrev pub CanSeekFrom : (ℕ → ℕ) → List ℕ → Position → PlaceInText → Type 0
-CanSeekFrom width text sought p =
+abbrev pub CanFindOffsetsFrom : (ℕ → ℕ) → List ℕ → Position → PlaceInText → Type 0
+CanFindOffsetsFrom width text sought p =
     CanFindOffsets width text sought (drop p.offset text) p.offset p.line p.character

@@ -94,7 +94,7 @@ fn shorten_to_units(text: &str, unit: Unit, start: usize, from: Stretch, units: 
 {
     let mut kept = from;
     while kept.units > units {
-        let Some(less) = without_last_bytes(text, unit, start, kept) else {
+        let Some(less) = without_last_characters(text, unit, start, kept) else {
             return Stretch {
                 end: start,
                 units: 0,
@@ -107,7 +107,7 @@ fn shorten_to_units(text: &str, unit: Unit, start: usize, from: Stretch, units: 
 
 /// Returns `piece`, which begins at the byte offset `start`, without its last characters. At most
 /// 64 bytes are removed. Returns None if nothing would be left.
-fn without_last_bytes(text: &str, unit: Unit, start: usize, piece: Stretch) -> Option<Stretch>
+fn without_last_characters(text: &str, unit: Unit, start: usize, piece: Stretch) -> Option<Stretch>
     requires { IsPieceOfLine (width_of unit) text.now start piece }
     ensures is { IfSome result (IsPieceOfLine (width_of unit) text.now start) }
     ensures shorter { IfSome result (λ s. s.end < piece.end) }
@@ -141,7 +141,7 @@ fn extend_to_units(text: &str, unit: Unit, start: usize, from: Stretch, units: u
     ensures fits { result.units ≤ units }
 {
     let mut counted = from;
-    while let Some(next) = stretch_after(text, unit, counted, units) {
+    while let Some(next) = stretch_after_piece(text, unit, counted, units) {
         counted = Stretch {
             end: next.end,
             units: counted.units + next.units,
@@ -152,7 +152,7 @@ fn extend_to_units(text: &str, unit: Unit, start: usize, from: Stretch, units: u
 
 /// Returns the stretch that begins at the end of `piece`. Returns None if both together might have
 /// more than `units` units, or if `next_stretch` returns None.
-fn stretch_after(text: &str, unit: Unit, piece: Stretch, units: u64) -> Option<Stretch>
+fn stretch_after_piece(text: &str, unit: Unit, piece: Stretch, units: u64) -> Option<Stretch>
     ensures is { IfSome result (IsStretch (width_of unit) text.now piece.end) }
     ensures fits { IfSome result (λ s. piece.units + (s.end - piece.end) ≤ units) }
 {

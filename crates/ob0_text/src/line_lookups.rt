@@ -21,7 +21,7 @@ ghost use Rattle.std.specs.Option.{option_map};
 ghost use Rattle.std.specs.Str.{chars};
 ghost use Rattle.ob0_text.specs.Texts.{lines, offset_of, position_of};
 ghost use Rattle.ob0_text.specs.Units.{width_of};
-ghost use Rattle.ob0_text.specs.Places.{CanCountFrom, CanSeekFrom};
+ghost use Rattle.ob0_text.specs.Places.{CanCountPositionsFrom, CanFindOffsetsFrom};
 ghost use Rattle.ob0_text.specs.declared.position_types.Unit.{Unit};
 ghost use Rattle.ob0_text.specs.LineStarts.{IsLineTableOf, line_with_ending};
 ghost use Rattle.ob0_text.specs.Stretches.{IsPieceOfLine};
@@ -29,7 +29,7 @@ ghost use Rattle.ob0_text.specs.Stretches.{IsPieceOfLine};
 use crate::counted_pieces::{CountedPiece, counted_piece_up_to};
 use crate::line_table::LineTable;
 use crate::passes::{
-    PlaceInText, TEXT_START, advance_to_offset, advance_to_position, is_at_or_after,
+    PlaceInText, TEXT_START, advance_to_offset, advance_to_position, is_at_or_before,
     position_of_place,
 };
 use crate::position_types::{Position, Range, Unit};
@@ -40,7 +40,12 @@ use std::alloc::{AllocError, Global};
 const NEAR_DISTANCE_BYTES: usize = 32;
 
 /// Returns the byte offset of a position in the text whose line table is `table`.
-pub fn offset_in(text: &str, table: &LineTable, unit: Unit, position: Position) -> usize
+pub fn offset_from_line_table(
+    text: &str,
+    table: &LineTable,
+    unit: Unit,
+    position: Position,
+) -> usize
     requires { IsLineTableOf text.now table.now }
     ensures { result ≡ offset_of (width_of unit) (chars text.now) position }
 {
@@ -75,7 +80,7 @@ pub fn range_offsets(
 {
     let counted = counted_piece_before(text, table, unit, last, range.start);
     let start = place_from_counted_piece(text, table, unit, counted, range.start);
-    let end = if range.start.line == range.end.line && is_at_or_after(range.start, range.end) {
+    let end = if range.start.line == range.end.line && is_at_or_before(range.start, range.end) {
         advance_to_position(text, unit, start, range.end)
     } else {
         place_of_position(text, table, unit, range.end)
@@ -123,7 +128,7 @@ fn place_from_counted_piece(
 ) -> PlaceInText
     requires lines { IsLineTableOf text.now table.now }
     requires counted { IsPieceOfLine (width_of unit) text.now counted.start counted.end_and_units }
-    ensures place { CanSeekFrom (width_of unit) text.now position result }
+    ensures place { CanFindOffsetsFrom (width_of unit) text.now position result }
     ensures offset { result.offset ≡ offset_of (width_of unit) (chars text.now) position }
 {
     let start = line_start_place(table, position.line);
@@ -145,7 +150,7 @@ fn place_from_counted_piece(
 /// the characters from there are counted.
 fn place_of_position(text: &str, table: &LineTable, unit: Unit, position: Position) -> PlaceInText
     requires { IsLineTableOf text.now table.now }
-    ensures place { CanSeekFrom (width_of unit) text.now position result }
+    ensures place { CanFindOffsetsFrom (width_of unit) text.now position result }
     ensures offset { result.offset ≡ offset_of (width_of unit) (chars text.now) position }
 {
     let start = line_start_place(table, position.line);
@@ -153,17 +158,22 @@ fn place_of_position(text: &str, table: &LineTable, unit: Unit, position: Positi
 }
 
 /// Returns the position of a byte offset. The offset's line is found by binary search.
-pub fn position_in(text: &str, table: &LineTable, unit: Unit, offset: usize) -> Position
+pub fn position_from_line_table(
+    text: &str,
+    table: &LineTable,
+    unit: Unit,
+    offset: usize,
+) -> Position
     requires { IsLineTableOf text.now table.now }
     ensures { result ≡ position_of (width_of unit) (chars text.now) offset }
 {
-    let place = line_start_before(text, table, offset);
+    let place = line_start_before_offset(text, table, offset);
     position_of_place(advance_to_offset(text, unit, place, offset))
 }
 
 /// Returns the position of each byte offset, in the order of `offsets`. Each position is counted
 /// from the previous offset's place or from the start of a line.
-pub fn positions_in(
+pub fn positions_from_line_table(
     alloc: Global,
     text: &str,
     table: &LineTable,
@@ -187,7 +197,7 @@ pub fn positions_in(
 /// Returns the byte offset of each position, in the order of `positions`. The search for a position
 /// begins at the previous position's place if this place is in the same line and not after the
 /// position. Otherwise it begins at the start of the position's line.
-pub fn offsets_in(
+pub fn offsets_from_line_table(
     alloc: Global,
     text: &str,
     table: &LineTable,
@@ -220,11 +230,11 @@ fn place_from_previous(
     position: Position,
 ) -> PlaceInText
     requires lines { IsLineTableOf text.now table.now }
-    requires last { CanSeekFrom (width_of unit) text.now last place }
-    ensures place { CanSeekFrom (width_of unit) text.now position result }
+    requires last { CanFindOffsetsFrom (width_of unit) text.now last place }
+    ensures place { CanFindOffsetsFrom (width_of unit) text.now position result }
     ensures offset { result.offset ≡ offset_of (width_of unit) (chars text.now) position }
 {
-    if last.line == position.line && is_at_or_after(last, position) {
+    if last.line == position.line && is_at_or_before(last, position) {
         advance_to_position(text, unit, place, position)
     } else {
         place_of_position(text, table, unit, position)
@@ -241,14 +251,14 @@ fn pass_start_for_offset(
     offset: usize,
 ) -> PlaceInText
     requires { IsLineTableOf text.now table.now }
-    ensures place { (unit : Unit) → CanCountFrom (width_of unit) text.now place
-        → CanCountFrom (width_of unit) text.now result }
+    ensures place { (unit : Unit) → CanCountPositionsFrom (width_of unit) text.now place
+        → CanCountPositionsFrom (width_of unit) text.now result }
     ensures following { result.offset ≤ offset }
 {
     if place.offset <= offset && offset - place.offset < NEAR_DISTANCE_BYTES {
         return place;
     }
-    let start = line_start_before(text, table, offset);
+    let start = line_start_before_offset(text, table, offset);
     if start.offset <= place.offset && place.offset <= offset {
         return place;
     }
@@ -256,9 +266,9 @@ fn pass_start_for_offset(
 }
 
 /// Returns the place at which the line of a byte offset starts. The line is found by binary search.
-fn line_start_before(text: &str, table: &LineTable, offset: usize) -> PlaceInText
+fn line_start_before_offset(text: &str, table: &LineTable, offset: usize) -> PlaceInText
     requires { IsLineTableOf text.now table.now }
-    ensures place { (unit : Unit) → CanCountFrom (width_of unit) text.now result }
+    ensures place { (unit : Unit) → CanCountPositionsFrom (width_of unit) text.now result }
     ensures following { result.offset ≤ offset }
 {
     let started = table.count_starts_before(offset.min(text.len()) + 1);
@@ -266,7 +276,7 @@ fn line_start_before(text: &str, table: &LineTable, offset: usize) -> PlaceInTex
 }
 
 /// Returns line `k`, counted from 0, with its ending. Returns None if the text has no such line.
-pub fn line_in<'a>(text: &'a str, table: &LineTable, k: usize) -> Option<&'a str>
+pub fn line_from_line_table<'a>(text: &'a str, table: &LineTable, k: usize) -> Option<&'a str>
     requires { IsLineTableOf text.now table.now }
     ensures { option_map (λ line. chars line.now) result
         ≡ option_map line_with_ending (slice_get (lines (chars text.now)) k) }

@@ -37,7 +37,7 @@ pub fn line_starts_added_by_change(
     add_line_starts(
         &mut starts,
         from,
-        byte_before(bytes, from),
+        byte_before_or_lf(bytes, from),
         new.as_bytes(),
         &bytes[to..],
     )?;
@@ -46,7 +46,7 @@ pub fn line_starts_added_by_change(
 
 /// Returns the byte before a byte offset. At offset 0 the result is an LF, because the first line
 /// starts like a line after an LF.
-fn byte_before(bytes: &[u8], offset: usize) -> u8
+fn byte_before_or_lf(bytes: &[u8], offset: usize) -> u8
     requires { offset ≤ length bytes.now }
     ensures { result ≡ slice_index (LF ∷ bytes.now) offset }
 {

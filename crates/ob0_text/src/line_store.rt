@@ -15,11 +15,11 @@ ghost use Rattle.ob0_text.specs.LineStarts.{line_with_ending};
 
 use crate::counted_pieces::{CountedPiece, empty_counted_piece};
 use crate::line_lookups::{
-    line_in, offset_in, offsets_in, position_in, positions_in, range_offsets,
+    line_from_line_table, offset_from_line_table, offsets_from_line_table,
+    position_from_line_table, positions_from_line_table, range_offsets,
 };
 use crate::line_table::LineTable;
 use crate::position_types::{Position, Range, Unit};
-use crate::replaced_bytes::ReplacedBytes;
 use crate::stores::TextStore;
 use std::alloc::{AllocError, Global};
 use std::marker::Model;
@@ -58,7 +58,7 @@ impl Lines {
         ensures { option_map (λ line. chars line.now) result
             ≡ option_map line_with_ending (slice_get (lines self.now.text) k) }
     {
-        line_in(self.text.as_str(), &self.table, k)
+        line_from_line_table(self.text.as_str(), &self.table, k)
     }
 }
 
@@ -87,22 +87,22 @@ impl TextStore for Lines {
     }
 
     fn offset(&self, position: Position) -> usize {
-        offset_in(self.text.as_str(), &self.table, self.unit, position)
+        offset_from_line_table(self.text.as_str(), &self.table, self.unit, position)
     }
 
     fn position(&self, offset: usize) -> Position {
-        position_in(self.text.as_str(), &self.table, self.unit, offset)
+        position_from_line_table(self.text.as_str(), &self.table, self.unit, offset)
     }
 
     fn positions(&self, alloc: Global, offsets: &[usize]) -> Result<Vec<Position>, AllocError> {
-        positions_in(alloc, self.text.as_str(), &self.table, self.unit, offsets)
+        positions_from_line_table(alloc, self.text.as_str(), &self.table, self.unit, offsets)
     }
 
     fn offsets(&self, alloc: Global, positions: &[Position]) -> Result<Vec<usize>, AllocError> {
-        offsets_in(alloc, self.text.as_str(), &self.table, self.unit, positions)
+        offsets_from_line_table(alloc, self.text.as_str(), &self.table, self.unit, positions)
     }
 
-    fn replace_at(&mut self, range: Range, text: &str) -> Result<ReplacedBytes, AllocError> {
+    fn replace(&mut self, range: Range, text: &str) -> Result<(), AllocError> {
         let found = range_offsets(
             self.text.as_str(),
             &self.table,
@@ -113,11 +113,7 @@ impl TextStore for Lines {
         let (from, to) = (found.start.min(found.end), found.start.max(found.end));
         self.table.replace(&mut self.text, from, to, text)?;
         self.counted_piece = found.counted_piece.piece_if_ends_before(from);
-        Ok(ReplacedBytes {
-            from,
-            removed: to - from,
-            added: text.len(),
-        })
+        Ok(())
     }
 
     fn as_str(&self) -> &str {

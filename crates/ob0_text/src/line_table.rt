@@ -9,18 +9,18 @@
 //! Their contracts say that the list of all starts is unchanged. If changes alternate between two
 //! distant places, each change moves all starts between these places.
 //!
-//! `replace_without_trimming` allocates all memory first: for the new starts, for both parts of the
-//! table, then for the text. After that no allocation can fail, as the contracts of `reserve` and
-//! `extend_from_slice` say. If an allocation fails while starts are moved, the two parts divide the
-//! table at another line, but the table still matches the text. At the end `replace` releases spare
-//! memory (`spare_room.rt`).
+//! `replace_keeping_spare_memory` allocates all memory first: for the new starts, for both parts of
+//! the table, then for the text. After that no allocation can fail, as the contracts of `reserve`
+//! and `extend_from_slice` say. If an allocation fails while starts are moved, the two parts divide
+//! the table at another line, but the table still matches the text. At the end `replace` releases
+//! spare memory (`spare_room.rt`).
 
 ghost use Rattle.std.specs.Prelude.{◌≡◌, ◌+◌, ◌<◌, ◌≤◌, ◌++◌, IfOk, OnOk, OnErr, drop, length, min, slice_index, string_bytes, take};
 ghost use Rattle.std.specs.Str.{IsCharBoundary};
 ghost use Rattle.ob0_text.specs.LineStarts.{AreAllBelow, IsLineTableOf, IsCountOfStartsBefore, starts_in_front_and_back};
 
 use crate::line_starts::{line_starts_added_by_change, line_starts_of};
-use crate::spare_room::{trim_list, trim_text};
+use crate::spare_room::{release_spare_list_memory, release_spare_text_memory};
 use std::alloc::{AllocError, Global};
 use std::marker::Model;
 
@@ -118,24 +118,24 @@ impl LineTable {
             ≡ (take from (string_bytes text.old) ++ new.now) ++ drop to (string_bytes text.old)) }
         ensures err { OnErr result (string_bytes text.new ≡ string_bytes text.old) }
     {
-        self.replace_without_trimming(text, from, to, new)?;
-        trim_text(text);
-        self.trim();
+        self.replace_keeping_spare_memory(text, from, to, new)?;
+        release_spare_text_memory(text);
+        self.release_spare_memory();
         Ok(())
     }
 
     /// Releases most of the memory that the table doesn't need. The line starts don't change.
-    fn trim(&mut self)
+    fn release_spare_memory(&mut self)
         ensures { self.new ≡ self.old }
     {
-        trim_list(&mut self.front);
-        trim_list(&mut self.back);
+        release_spare_list_memory(&mut self.front);
+        release_spare_list_memory(&mut self.back);
     }
 
     /// Replaces the bytes `from..to` of the text by `new`, and updates this table to match the
     /// text. Spare memory isn't released. If an allocation fails, the text is unchanged, and the
     /// table still matches it.
-    fn replace_without_trimming(
+    fn replace_keeping_spare_memory(
         &mut self,
         text: &mut String,
         from: usize,

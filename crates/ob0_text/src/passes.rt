@@ -6,16 +6,16 @@
 //! across lines, because the offset is usually only a few lines ahead. This pass decodes only CR
 //! and characters outside ASCII. The pass to a position decodes each remaining character. If the
 //! pass began in the position's line, fewer than 64 characters remain to be decoded. The pass to an
-//! offset preserves the invariant `CanCountFrom`, and the pass to a position preserves
-//! `CanSeekFrom`. `StretchSteps` proves that a step over a whole stretch preserves both, because a
-//! step over one character does.
+//! offset preserves the invariant `CanCountPositionsFrom`, and the pass to a position preserves
+//! `CanFindOffsetsFrom`. `StretchSteps` proves that a step over a whole stretch preserves both,
+//! because a step over one character does.
 
 ghost use Rattle.std.specs.Prelude.{◌≡◌, ◌↔◌, ◌==◌, ◌||◌, ◌+◌, ◌-◌, ◌<◌, ◌≤◌, IfOk, IfSome, IsTrue, None, map};
 ghost use Rattle.std.specs.Str.{IsCharBoundary, chars};
 ghost use Rattle.ob0_text.specs.Texts.{LF, CR, ends_line, offset_of, position_of};
 ghost use Rattle.ob0_text.specs.Units.{width_of};
 ghost use Rattle.ob0_text.specs.Stretches.{IsStretch};
-ghost use Rattle.ob0_text.specs.Places.{at, IsAtOrAfter, CanCountFrom, CanSeekFrom};
+ghost use Rattle.ob0_text.specs.Places.{at, PositionIsAtOrBefore, CanCountPositionsFrom, CanFindOffsetsFrom};
 
 use crate::position_types::{Position, Unit};
 use crate::stretches::{Stretch, next_stretch};
@@ -75,7 +75,7 @@ pub fn offsets_of(
     let mut place = TEXT_START;
     let mut last = position_of_place(TEXT_START);
     for position in positions {
-        if !is_at_or_after(last, *position) {
+        if !is_at_or_before(last, *position) {
             place = TEXT_START;
         }
         place = advance_to_position(text, unit, place, *position);
@@ -109,9 +109,9 @@ pub fn position_of_place(place: PlaceInText) -> Position
     }
 }
 
-/// Returns whether `position` equals `from` or comes after `from` in the text.
-pub fn is_at_or_after(from: Position, position: Position) -> bool
-    ensures { IsTrue result ↔ IsAtOrAfter from position }
+/// Returns whether `from` equals `position` or comes before `position` in the text.
+pub fn is_at_or_before(from: Position, position: Position) -> bool
+    ensures { IsTrue result ↔ PositionIsAtOrBefore from position }
 {
     from.line < position.line
         || (from.line == position.line && from.character <= position.character)
@@ -146,9 +146,9 @@ fn width(c: char, unit: Unit) -> u64
 /// or before the offset. If the offset is inside a character, the result is the place before that
 /// character. If the offset is after the text's end, the result is the text's end.
 pub fn advance_to_offset(text: &str, unit: Unit, from: PlaceInText, offset: usize) -> PlaceInText
-    requires place { CanCountFrom (width_of unit) text.now from }
+    requires place { CanCountPositionsFrom (width_of unit) text.now from }
     requires following { from.offset ≤ offset }
-    ensures place { CanCountFrom (width_of unit) text.now result }
+    ensures place { CanCountPositionsFrom (width_of unit) text.now result }
     ensures within { result.offset ≤ offset }
     ensures position { at result.line result.character
         ≡ position_of (width_of unit) (chars text.now) offset }
@@ -164,9 +164,9 @@ pub fn advance_to_offset(text: &str, unit: Unit, from: PlaceInText, offset: usiz
 /// Advances from the place `from` by whole stretches (`Stretch`) of its line, but not beyond the
 /// byte offset `offset`. Returns the place reached.
 fn skip_stretches_to_offset(text: &str, unit: Unit, from: PlaceInText, offset: usize) -> PlaceInText
-    requires place { CanCountFrom (width_of unit) text.now from }
+    requires place { CanCountPositionsFrom (width_of unit) text.now from }
     requires following { from.offset ≤ offset }
-    ensures place { CanCountFrom (width_of unit) text.now result }
+    ensures place { CanCountPositionsFrom (width_of unit) text.now result }
     ensures within { result.offset ≤ offset }
 {
     let mut place = from;
@@ -189,9 +189,9 @@ fn skip_stretches_to_offset(text: &str, unit: Unit, from: PlaceInText, offset: u
 /// offset `offset`. Returns the place reached. The characters are recognized by their bytes,
 /// without decoding.
 fn skip_ascii(text: &str, unit: Unit, from: PlaceInText, offset: usize) -> PlaceInText
-    requires place { CanCountFrom (width_of unit) text.now from }
+    requires place { CanCountPositionsFrom (width_of unit) text.now from }
     requires following { from.offset ≤ offset }
-    ensures place { CanCountFrom (width_of unit) text.now result }
+    ensures place { CanCountPositionsFrom (width_of unit) text.now result }
     ensures within { result.offset ≤ offset }
     ensures onward { from.offset ≤ result.offset }
 {
@@ -226,9 +226,9 @@ fn skip_ascii(text: &str, unit: Unit, from: PlaceInText, offset: usize) -> Place
 /// Returns the place after the character that begins at `place`. Returns None if the result would
 /// be beyond the byte offset `offset`, or if no character follows `place`.
 fn skip_char(text: &str, unit: Unit, place: PlaceInText, offset: usize) -> Option<PlaceInText>
-    requires place { CanCountFrom (width_of unit) text.now place }
+    requires place { CanCountPositionsFrom (width_of unit) text.now place }
     requires following { place.offset ≤ offset }
-    ensures next { IfSome result (λ p. CanCountFrom (width_of unit) text.now p) }
+    ensures next { IfSome result (λ p. CanCountPositionsFrom (width_of unit) text.now p) }
     ensures onward { IfSome result (λ p. (place.offset < p.offset) × (p.offset ≤ offset)) }
     ensures last { result ≡ None
         → at place.line place.character ≡ position_of (width_of unit) (chars text.now) offset }
@@ -267,8 +267,8 @@ pub fn advance_to_position(
     from: PlaceInText,
     position: Position,
 ) -> PlaceInText
-    requires place { CanSeekFrom (width_of unit) text.now position from }
-    ensures place { CanSeekFrom (width_of unit) text.now position result }
+    requires place { CanFindOffsetsFrom (width_of unit) text.now position from }
+    ensures place { CanFindOffsetsFrom (width_of unit) text.now position result }
     ensures offset { result.offset ≡ offset_of (width_of unit) (chars text.now) position }
 {
     let from = skip_stretches_to_position(text, unit, from, position);
@@ -308,8 +308,8 @@ fn skip_stretches_to_position(
     from: PlaceInText,
     position: Position,
 ) -> PlaceInText
-    requires place { CanSeekFrom (width_of unit) text.now position from }
-    ensures place { CanSeekFrom (width_of unit) text.now position result }
+    requires place { CanFindOffsetsFrom (width_of unit) text.now position from }
+    ensures place { CanFindOffsetsFrom (width_of unit) text.now position result }
 {
     let mut place = from;
     while let Some(stretch) = next_stretch_before(text, unit, place, position) {

@@ -1,11 +1,12 @@
 //! Releases spare memory.
 //!
-//! A list keeps its capacity when it gets shorter. `trim_list` and `trim_text` release most of the
-//! capacity if the used part and `NEGLIGIBLE_SPARE_CAPACITY` together are less than a quarter of
-//! the capacity. So an open document occupies at most a few times its present length, even if it
-//! was much longer before. Room for twice the length is kept, so a list can grow by its own length
-//! before memory is moved again. No contract bounds the capacity, because std's `shrink_to` leaves
-//! the capacity unchanged if it can't allocate a smaller block.
+//! A list keeps its capacity when it gets shorter. `release_spare_list_memory` and
+//! `release_spare_text_memory` release most of the capacity if the used part and
+//! `NEGLIGIBLE_SPARE_CAPACITY` together are less than a quarter of the capacity. So an open
+//! document occupies at most a few times its present length, even if it was much longer before.
+//! Room for twice the length is kept, so a list can grow by its own length before memory is moved
+//! again. No contract bounds the capacity, because std's `shrink_to` leaves the capacity unchanged
+//! if it can't allocate a smaller block.
 
 ghost use Rattle.std.specs.Prelude.{◌≡◌, string_bytes};
 
@@ -15,7 +16,7 @@ const NEGLIGIBLE_SPARE_CAPACITY: usize = 512;
 
 /// Releases most of a list's memory if little of it is used (`is_sparse`). Room for twice the
 /// list's length is kept.
-pub(crate) fn trim_list(list: &mut Vec<usize>)
+pub(crate) fn release_spare_list_memory(list: &mut Vec<usize>)
     ensures { list.new.items ≡ list.old.items }
 {
     if is_sparse(list.capacity(), list.len()) {
@@ -25,7 +26,7 @@ pub(crate) fn trim_list(list: &mut Vec<usize>)
 
 /// Releases most of a text's memory if little of it is used (`is_sparse`). Room for twice the
 /// text's length is kept.
-pub(crate) fn trim_text(text: &mut String)
+pub(crate) fn release_spare_text_memory(text: &mut String)
     ensures { string_bytes text.new ≡ string_bytes text.old }
 {
     if is_sparse(text.capacity(), text.len()) {

@@ -5,7 +5,6 @@ ghost use Rattle.std.specs.Str.{chars};
 
 use crate::passes::{offset_of, offsets_of, position_of, positions_of};
 use crate::position_types::{Position, Range, Unit};
-use crate::replaced_bytes::ReplacedBytes;
 use crate::stores::TextStore;
 use std::alloc::{AllocError, Global};
 
@@ -50,16 +49,12 @@ impl TextStore for Whole {
         offsets_of(alloc, self.text.as_str(), self.unit, positions)
     }
 
-    fn replace_at(&mut self, range: Range, text: &str) -> Result<ReplacedBytes, AllocError> {
+    fn replace(&mut self, range: Range, text: &str) -> Result<(), AllocError> {
         let start = self.offset(range.start);
         let end = self.offset(range.end);
         let (from, to) = (start.min(end), start.max(end));
         self.text.replace_range(from..to, text)?;
-        Ok(ReplacedBytes {
-            from,
-            removed: to - from,
-            added: text.len(),
-        })
+        Ok(())
     }
 
     fn as_str(&self) -> &str {

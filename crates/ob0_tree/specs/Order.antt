@@ -39,7 +39,8 @@ identifier_indexes_from i (t ∷ ts) = index_if_identifier i t.kind ++ identifie
 abbrev pub IsIdentifierToken : List Token → ℕ → Type 0
 IsIdentifierToken ts i = (i < length ts) × HoldsAt (λ t. t.kind ≡ kind.Identifier) ts i
 
--- States that the list of tokens has an identifier at each of these indexes, counted from 0.
+-- States that the list `ts` of tokens has an identifier at each index in the second list, counted
+-- from 0.
 abbrev pub AreIdentifierTokens : List Token → List ℕ → Type 0
 AreIdentifierTokens ts [] = Unit {0}
 AreIdentifierTokens ts (i ∷ others) = IsIdentifierToken ts i × AreIdentifierTokens ts others

@@ -8,7 +8,7 @@ use Rattle.ob0_tree.specs.declared.tree.ModuleTree.{ModuleTree}
 use Rattle.ob0_tree.specs.Lexeme.{EndOfText}
 use Rattle.ob0_tree.specs.Tree.{Tree, module_text, is_module, spell}
 use Rattle.ob0_tree.specs.View.{block_of}
-use Rattle.ob0_tree.specs.Module.{ModuleOf}
+use Rattle.ob0_tree.specs.Module.{IsModuleWithTree}
 use Rattle.ob0_tree.specs.Places.{indexed_terminals, tree_with_names}
 
 -- A parsed module: its text with the tokens and comments (`source`), its name, its block and its
@@ -34,5 +34,5 @@ named_tree_of m = tree_with_names m.source (tree_of m)
 -- States that the text of `m` is a module and that `named_tree_of m` is its tree. Also states that
 -- each identifier and integer in `tree_of m` is the index of its token.
 pub record IsParsed (m : ParsedModule) : Type 0 where
-  pub module_of : ModuleOf m.source (named_tree_of m)
+  pub module_of : IsModuleWithTree m.source (named_tree_of m)
   pub places : spell (tree_of m) ++ (EndOfText ∷ []) ≡ indexed_terminals m.source.tokens

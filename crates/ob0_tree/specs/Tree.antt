@@ -16,35 +16,35 @@ use Rattle.ob0_tree.specs.Lexeme.{Terminal, Name, Number, WordOrSymbol, relation
 
 -- The kinds of items. An item is a part of a production of the grammar that may be repeated or
 -- omitted, such as a selector or an ELSE part.
-pub data Item : Type 0 where
-  selector : Item
-  multiplier : Item
-  addend : Item
-  comparison : Item
-  arguments : Item
-  further_argument : Item
-  further_statement : Item
-  elsif_part : Item
-  else_part : Item
-  further_name : Item
-  further_fields : Item
-  formals : Item
-  further_section : Item
-  constant : Item
-  constants : Item
-  type_definition : Item
-  type_definitions : Item
-  variable : Item
-  variables : Item
-  procedure : Item
-  body : Item
+pub data GrammarItem : Type 0 where
+  selector : GrammarItem
+  multiplier : GrammarItem
+  addend : GrammarItem
+  comparison : GrammarItem
+  arguments : GrammarItem
+  further_argument : GrammarItem
+  further_statement : GrammarItem
+  elsif_part : GrammarItem
+  else_part : GrammarItem
+  further_name : GrammarItem
+  further_fields : GrammarItem
+  formals : GrammarItem
+  further_section : GrammarItem
+  constant : GrammarItem
+  constants : GrammarItem
+  type_definition : GrammarItem
+  type_definitions : GrammarItem
+  variable : GrammarItem
+  variables : GrammarItem
+  procedure : GrammarItem
+  body : GrammarItem
 
 -- The sort of a tree: one item, a list of items of the same kind, an optional item, or a
 -- nonterminal of the grammar, such as an expression or a block.
 pub data Sort : Type 0 where
-  item : Item → Sort
-  items : Item → Sort
-  maybe : Item → Sort
+  item : GrammarItem → Sort
+  items : GrammarItem → Sort
+  maybe : GrammarItem → Sort
   expression : Sort
   simple : Sort
   term : Sort
@@ -62,10 +62,10 @@ pub data Sort : Type 0 where
 -- A syntax tree of the given sort. Each identifier in the tree is a value of the type `N`: its text
 -- or the index of its token. Each integer is a number: its value or the index of its token.
 pub data Tree (N : Type 0) : Sort → Type 0 where
-  none : {i : Item} → Tree N (maybe i)
-  one : {i : Item} → Tree N (item i) → Tree N (maybe i)
-  end : {i : Item} → Tree N (items i)
-  more : {i : Item} → Tree N (item i) → Tree N (items i) → Tree N (items i)
+  none : {i : GrammarItem} → Tree N (maybe i)
+  one : {i : GrammarItem} → Tree N (item i) → Tree N (maybe i)
+  end : {i : GrammarItem} → Tree N (items i)
+  more : {i : GrammarItem} → Tree N (item i) → Tree N (items i) → Tree N (items i)
   compares : Tree N simple → Tree N (maybe comparison) → Tree N expression
   relates : Relation → Tree N simple → Tree N (item comparison)
   sum : Option Sign → Tree N term → Tree N (items addend) → Tree N simple
@@ -283,64 +283,69 @@ nesting (begins s) = nesting s
 nesting (forms_block ds b) = max (nesting ds) (nesting b)
 nesting (is_module name b closing) = nesting b
 
+-- Returns the tree with `f` applied to each looked-up name, `h` to each other name, and `g` to each
+-- number. Declaring names, closing names, names of fields and the module's name aren't looked up.
+abbrev pub mapped_leaves : {N M : Type 0} {s : Sort} → (N → M) → (N → M) → (ℕ → ℕ) → Tree N s → Tree M s
+mapped_leaves f h g none = none
+mapped_leaves f h g (one t) = one (mapped_leaves f h g t)
+mapped_leaves f h g end = end
+mapped_leaves f h g (more t ts) = more (mapped_leaves f h g t) (mapped_leaves f h g ts)
+mapped_leaves f h g (compares left compared) = compares (mapped_leaves f h g left) (mapped_leaves f h g compared)
+mapped_leaves f h g (relates relation right) = relates relation (mapped_leaves f h g right)
+mapped_leaves f h g (sum sign first terms) = sum sign (mapped_leaves f h g first) (mapped_leaves f h g terms)
+mapped_leaves f h g (adds operator t) = adds operator (mapped_leaves f h g t)
+mapped_leaves f h g (product first factors) = product (mapped_leaves f h g first) (mapped_leaves f h g factors)
+mapped_leaves f h g (multiplies operator t) = multiplies operator (mapped_leaves f h g t)
+mapped_leaves f h g (designator name selectors) = designator (f name) (mapped_leaves f h g selectors)
+mapped_leaves f h g (integer n) = integer (g n)
+mapped_leaves f h g (parenthesised e) = parenthesised (mapped_leaves f h g e)
+mapped_leaves f h g (negation t) = negation (mapped_leaves f h g t)
+mapped_leaves f h g (field name) = field (h name)
+mapped_leaves f h g (index e) = index (mapped_leaves f h g e)
+mapped_leaves f h g empty = empty
+mapped_leaves f h g (assigns name selectors e) = assigns (f name) (mapped_leaves f h g selectors) (mapped_leaves f h g e)
+mapped_leaves f h g (calls name args) = calls (f name) (mapped_leaves f h g args)
+mapped_leaves f h g (branches condition s elsifs rest) =
+    branches (mapped_leaves f h g condition) (mapped_leaves f h g s) (mapped_leaves f h g elsifs) (mapped_leaves f h g rest)
+mapped_leaves f h g (while_loop condition s) = while_loop (mapped_leaves f h g condition) (mapped_leaves f h g s)
+mapped_leaves f h g (repeat_loop s condition) = repeat_loop (mapped_leaves f h g s) (mapped_leaves f h g condition)
+mapped_leaves f h g no_arguments = no_arguments
+mapped_leaves f h g (some_arguments e es) = some_arguments (mapped_leaves f h g e) (mapped_leaves f h g es)
+mapped_leaves f h g (then_argument e) = then_argument (mapped_leaves f h g e)
+mapped_leaves f h g (runs first statements) = runs (mapped_leaves f h g first) (mapped_leaves f h g statements)
+mapped_leaves f h g (then_statement s) = then_statement (mapped_leaves f h g s)
+mapped_leaves f h g (elsif_branch condition s) = elsif_branch (mapped_leaves f h g condition) (mapped_leaves f h g s)
+mapped_leaves f h g (else_branch s) = else_branch (mapped_leaves f h g s)
+mapped_leaves f h g (listed name others) = listed (h name) (mapped_leaves f h g others)
+mapped_leaves f h g (then_name name) = then_name (h name)
+mapped_leaves f h g (named_type name) = named_type (f name)
+mapped_leaves f h g (array_type size t) = array_type (mapped_leaves f h g size) (mapped_leaves f h g t)
+mapped_leaves f h g (record_type first others) = record_type (mapped_leaves f h g first) (mapped_leaves f h g others)
+mapped_leaves f h g no_fields = no_fields
+mapped_leaves f h g (some_fields ns t) = some_fields (mapped_leaves f h g ns) (mapped_leaves f h g t)
+mapped_leaves f h g (then_fields fs) = then_fields (mapped_leaves f h g fs)
+mapped_leaves f h g no_formals = no_formals
+mapped_leaves f h g (some_formals first others) = some_formals (mapped_leaves f h g first) (mapped_leaves f h g others)
+mapped_leaves f h g (value_section ns t) = value_section (mapped_leaves f h g ns) (mapped_leaves f h g t)
+mapped_leaves f h g (variable_section ns t) = variable_section (mapped_leaves f h g ns) (mapped_leaves f h g t)
+mapped_leaves f h g (then_section s) = then_section (mapped_leaves f h g s)
+mapped_leaves f h g (declares_constant name e) = declares_constant (h name) (mapped_leaves f h g e)
+mapped_leaves f h g (declares_constants cs) = declares_constants (mapped_leaves f h g cs)
+mapped_leaves f h g (declares_type name t) = declares_type (h name) (mapped_leaves f h g t)
+mapped_leaves f h g (declares_types ts) = declares_types (mapped_leaves f h g ts)
+mapped_leaves f h g (declares_variable ns t) = declares_variable (mapped_leaves f h g ns) (mapped_leaves f h g t)
+mapped_leaves f h g (declares_variables vs) = declares_variables (mapped_leaves f h g vs)
+mapped_leaves f h g (declares_procedure name fs b closing) =
+    declares_procedure (h name) (mapped_leaves f h g fs) (mapped_leaves f h g b) (h closing)
+mapped_leaves f h g (declares cs ts vs ps) =
+    declares (mapped_leaves f h g cs) (mapped_leaves f h g ts) (mapped_leaves f h g vs) (mapped_leaves f h g ps)
+mapped_leaves f h g (begins s) = begins (mapped_leaves f h g s)
+mapped_leaves f h g (forms_block ds b) = forms_block (mapped_leaves f h g ds) (mapped_leaves f h g b)
+mapped_leaves f h g (is_module name b closing) = is_module (h name) (mapped_leaves f h g b) (h closing)
+
 -- Returns the tree with `f` applied to each name and `g` applied to each number.
 abbrev pub mapped_tree : {N M : Type 0} {s : Sort} → (N → M) → (ℕ → ℕ) → Tree N s → Tree M s
-mapped_tree f g none = none
-mapped_tree f g (one t) = one (mapped_tree f g t)
-mapped_tree f g end = end
-mapped_tree f g (more t ts) = more (mapped_tree f g t) (mapped_tree f g ts)
-mapped_tree f g (compares left compared) = compares (mapped_tree f g left) (mapped_tree f g compared)
-mapped_tree f g (relates relation right) = relates relation (mapped_tree f g right)
-mapped_tree f g (sum sign first terms) = sum sign (mapped_tree f g first) (mapped_tree f g terms)
-mapped_tree f g (adds operator t) = adds operator (mapped_tree f g t)
-mapped_tree f g (product first factors) = product (mapped_tree f g first) (mapped_tree f g factors)
-mapped_tree f g (multiplies operator t) = multiplies operator (mapped_tree f g t)
-mapped_tree f g (designator name selectors) = designator (f name) (mapped_tree f g selectors)
-mapped_tree f g (integer n) = integer (g n)
-mapped_tree f g (parenthesised e) = parenthesised (mapped_tree f g e)
-mapped_tree f g (negation t) = negation (mapped_tree f g t)
-mapped_tree f g (field name) = field (f name)
-mapped_tree f g (index e) = index (mapped_tree f g e)
-mapped_tree f g empty = empty
-mapped_tree f g (assigns name selectors e) = assigns (f name) (mapped_tree f g selectors) (mapped_tree f g e)
-mapped_tree f g (calls name args) = calls (f name) (mapped_tree f g args)
-mapped_tree f g (branches condition s elsifs rest) =
-    branches (mapped_tree f g condition) (mapped_tree f g s) (mapped_tree f g elsifs) (mapped_tree f g rest)
-mapped_tree f g (while_loop condition s) = while_loop (mapped_tree f g condition) (mapped_tree f g s)
-mapped_tree f g (repeat_loop s condition) = repeat_loop (mapped_tree f g s) (mapped_tree f g condition)
-mapped_tree f g no_arguments = no_arguments
-mapped_tree f g (some_arguments e es) = some_arguments (mapped_tree f g e) (mapped_tree f g es)
-mapped_tree f g (then_argument e) = then_argument (mapped_tree f g e)
-mapped_tree f g (runs first statements) = runs (mapped_tree f g first) (mapped_tree f g statements)
-mapped_tree f g (then_statement s) = then_statement (mapped_tree f g s)
-mapped_tree f g (elsif_branch condition s) = elsif_branch (mapped_tree f g condition) (mapped_tree f g s)
-mapped_tree f g (else_branch s) = else_branch (mapped_tree f g s)
-mapped_tree f g (listed name others) = listed (f name) (mapped_tree f g others)
-mapped_tree f g (then_name name) = then_name (f name)
-mapped_tree f g (named_type name) = named_type (f name)
-mapped_tree f g (array_type size t) = array_type (mapped_tree f g size) (mapped_tree f g t)
-mapped_tree f g (record_type first others) = record_type (mapped_tree f g first) (mapped_tree f g others)
-mapped_tree f g no_fields = no_fields
-mapped_tree f g (some_fields ns t) = some_fields (mapped_tree f g ns) (mapped_tree f g t)
-mapped_tree f g (then_fields fs) = then_fields (mapped_tree f g fs)
-mapped_tree f g no_formals = no_formals
-mapped_tree f g (some_formals first others) = some_formals (mapped_tree f g first) (mapped_tree f g others)
-mapped_tree f g (value_section ns t) = value_section (mapped_tree f g ns) (mapped_tree f g t)
-mapped_tree f g (variable_section ns t) = variable_section (mapped_tree f g ns) (mapped_tree f g t)
-mapped_tree f g (then_section s) = then_section (mapped_tree f g s)
-mapped_tree f g (declares_constant name e) = declares_constant (f name) (mapped_tree f g e)
-mapped_tree f g (declares_constants cs) = declares_constants (mapped_tree f g cs)
-mapped_tree f g (declares_type name t) = declares_type (f name) (mapped_tree f g t)
-mapped_tree f g (declares_types ts) = declares_types (mapped_tree f g ts)
-mapped_tree f g (declares_variable ns t) = declares_variable (mapped_tree f g ns) (mapped_tree f g t)
-mapped_tree f g (declares_variables vs) = declares_variables (mapped_tree f g vs)
-mapped_tree f g (declares_procedure name fs b closing) =
-    declares_procedure (f name) (mapped_tree f g fs) (mapped_tree f g b) (f closing)
-mapped_tree f g (declares cs ts vs ps) =
-    declares (mapped_tree f g cs) (mapped_tree f g ts) (mapped_tree f g vs) (mapped_tree f g ps)
-mapped_tree f g (begins s) = begins (mapped_tree f g s)
-mapped_tree f g (forms_block ds b) = forms_block (mapped_tree f g ds) (mapped_tree f g b)
-mapped_tree f g (is_module name b closing) = is_module (f name) (mapped_tree f g b) (f closing)
+mapped_tree f g t = mapped_leaves f f g t
 
 -- Returns the identifiers of a tree in text order, each with its role. The role `r` is used only if
 -- the tree is itself a list of names: `r` is then the role of these names. In a larger tree, the

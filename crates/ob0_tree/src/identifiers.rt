@@ -38,7 +38,7 @@ impl Visitor for IdentifierCollector {
 impl IdentifierCollector {
     /// Returns the collected identifiers in text order, each with its role and the index of its
     /// token.
-    fn into_list(self) -> Vec<(Role, usize)>
+    fn into_identifiers(self) -> Vec<(Role, usize)>
         ensures { result.items ≡ self }
     {
         let IdentifierCollector { listed } = self;
@@ -57,6 +57,6 @@ impl<'t> Module<'t> {
             listed: Vec::new(alloc),
         };
         self.visit(&mut seen)?;
-        Ok(seen.into_list())
+        Ok(seen.into_identifiers())
     }
 }

@@ -8,7 +8,7 @@ ghost use Rattle.std.specs.Prelude.{◌≡◌, ◌+◌};
 ghost use Rattle.ob0_tree.specs.Tree.{nesting};
 ghost use Rattle.ob0_tree.specs.ParsedModule.{tree_of};
 ghost use Rattle.ob0_tree.specs.Depth.{capped_to_u32};
-ghost use Rattle.ob0_tree.specs.View.{expression_of, compound_expression_of, simple_expression_of, term_of, factor_of, designator_of, selector_of, assignment_of, call_of, statement_of, if_of, elsifs_of_vec, sequence_of_vec, type_of, record_type_of, optional_field_group_of, parameter_section_of, formals_of, constants_of, types_of, variables_of, body_of, procedure_of, block_of};
+ghost use Rattle.ob0_tree.specs.View.{expression_of, compound_expression_of, simple_expression_of, term_of, factor_of, designator_of, selector_of, assignment_of, call_of, statement_of, if_of, elsifs_of_vec, sequence_of_vec, type_of, record_type_of, optional_field_group_of, parameter_section_of, formals_of, constant_section_of, type_section_of, variable_section_of, body_of, procedure_of, block_of};
 
 use crate::tree::{
     Assignment, Block, Call, CompoundExpression, Constant, Designator, Elsif, Expression, Factor,
@@ -35,7 +35,7 @@ impl<'t> Module<'t> {
 }
 
 /// Returns `levels` plus 1, capped at 2^32 - 1.
-fn one_level_deeper(levels: u32) -> u32
+fn capped_increment(levels: u32) -> u32
     ensures { result ≡ capped_to_u32 (levels + 1) }
 {
     levels.saturating_add(1)
@@ -96,8 +96,8 @@ fn factor_nesting(f: &Factor) -> u32
     match f {
         Factor::Designator(d) => designator_nesting(d),
         Factor::Integer(_) => 0,
-        Factor::Parenthesised(e) => one_level_deeper(expression_nesting(e)),
-        Factor::Not(f) => one_level_deeper(factor_nesting(f)),
+        Factor::Parenthesised(e) => capped_increment(expression_nesting(e)),
+        Factor::Not(f) => capped_increment(factor_nesting(f)),
     }
 }
 
@@ -120,7 +120,7 @@ fn selector_nesting(s: &Selector) -> u32
 {
     match s {
         Selector::Field(_) => 0,
-        Selector::Index(e) => one_level_deeper(expression_nesting(e)),
+        Selector::Index(e) => capped_increment(expression_nesting(e)),
     }
 }
 
@@ -167,10 +167,10 @@ fn statement_nesting(s: &Statement) -> u32
         Statement::Assign(a) => assignment_nesting(a),
         Statement::Call(c) => call_nesting(c),
         Statement::If(i) => if_nesting(i),
-        Statement::While(w) => one_level_deeper(expression_nesting(&w.condition).max(
+        Statement::While(w) => capped_increment(expression_nesting(&w.condition).max(
             sequence_nesting(&w.body),
         )),
-        Statement::Repeat(r) => one_level_deeper(sequence_nesting(&r.body).max(expression_nesting(
+        Statement::Repeat(r) => capped_increment(sequence_nesting(&r.body).max(expression_nesting(
             &r.condition,
         ))),
     }
@@ -184,8 +184,8 @@ fn if_nesting(i: &If) -> u32
     let first = expression_nesting(&i.condition).max(sequence_nesting(&i.then));
     let others = elsifs_nesting(&i.elsifs);
     match &i.otherwise {
-        Some(statements) => one_level_deeper(first.max(others.max(sequence_nesting(statements)))),
-        None => one_level_deeper(first.max(others)),
+        Some(statements) => capped_increment(first.max(others.max(sequence_nesting(statements)))),
+        None => capped_increment(first.max(others)),
     }
 }
 
@@ -208,7 +208,7 @@ fn type_nesting(t: &WrittenType) -> u32
 {
     match t {
         WrittenType::Named(_) => 0,
-        WrittenType::Array(a) => one_level_deeper(expression_nesting(&a.size).max(type_nesting(
+        WrittenType::Array(a) => capped_increment(expression_nesting(&a.size).max(type_nesting(
             &a.element,
         ))),
         WrittenType::Record(r) => record_type_nesting(r),
@@ -224,7 +224,7 @@ fn record_type_nesting(r: &RecordType) -> u32
     for group in &r.groups {
         deepest = deepest.max(optional_field_group_nesting(group));
     }
-    one_level_deeper(deepest)
+    capped_increment(deepest)
 }
 
 /// Returns the nesting depth of an optional group of fields, capped at 2^32 - 1.
@@ -262,8 +262,8 @@ fn formals_nesting(sections: &Option<Vec<ParameterSection>>) -> u32
 
 /// Returns the nesting depth of a block's CONST section, capped at 2^32 - 1. The result is 0 if
 /// there is no such section.
-fn constants_nesting(declared: &Option<Vec<Constant>>) -> u32
-    ensures { result ≡ capped_to_u32 (nesting (constants_of declared.now)) }
+fn constant_section_nesting(declared: &Option<Vec<Constant>>) -> u32
+    ensures { result ≡ capped_to_u32 (nesting (constant_section_of declared.now)) }
 {
     let Some(declared) = declared else {
         return 0;
@@ -277,8 +277,8 @@ fn constants_nesting(declared: &Option<Vec<Constant>>) -> u32
 
 /// Returns the nesting depth of a block's TYPE section, capped at 2^32 - 1. The result is 0 if
 /// there is no such section.
-fn types_nesting(declared: &Option<Vec<TypeDeclaration>>) -> u32
-    ensures { result ≡ capped_to_u32 (nesting (types_of declared.now)) }
+fn type_section_nesting(declared: &Option<Vec<TypeDeclaration>>) -> u32
+    ensures { result ≡ capped_to_u32 (nesting (type_section_of declared.now)) }
 {
     let Some(declared) = declared else {
         return 0;
@@ -292,8 +292,8 @@ fn types_nesting(declared: &Option<Vec<TypeDeclaration>>) -> u32
 
 /// Returns the nesting depth of a block's VAR section, capped at 2^32 - 1. The result is 0 if there
 /// is no such section.
-fn variables_nesting(declared: &Option<Vec<VariableDeclaration>>) -> u32
-    ensures { result ≡ capped_to_u32 (nesting (variables_of declared.now)) }
+fn variable_section_nesting(declared: &Option<Vec<VariableDeclaration>>) -> u32
+    ensures { result ≡ capped_to_u32 (nesting (variable_section_of declared.now)) }
 {
     let Some(declared) = declared else {
         return 0;
@@ -321,9 +321,9 @@ fn body_nesting(statements: &Option<Vec<Statement>>) -> u32
 fn block_nesting(b: &Block) -> u32
     ensures { result ≡ capped_to_u32 (nesting (block_of b.now)) }
 {
-    let constants = constants_nesting(&b.constants);
-    let types = types_nesting(&b.types);
-    let variables = variables_nesting(&b.variables);
+    let constants = constant_section_nesting(&b.constants);
+    let types = type_section_nesting(&b.types);
+    let variables = variable_section_nesting(&b.variables);
     let mut procedures: u32 = 0;
     for p in &b.procedures {
         procedures = procedures.max(procedure_nesting(p));
@@ -337,5 +337,5 @@ fn block_nesting(b: &Block) -> u32
 fn procedure_nesting(p: &Procedure) -> u32
     ensures { result ≡ capped_to_u32 (nesting (procedure_of p.now)) }
 {
-    one_level_deeper(formals_nesting(&p.formals).max(block_nesting(&p.block)))
+    capped_increment(formals_nesting(&p.formals).max(block_nesting(&p.block)))
 }

@@ -16,7 +16,7 @@ ghost use Rattle.ob0_tree.specs.declared.tree.Role.TheVariants as roles;
 ghost use Rattle.ob0_tree.specs.ParsedModule.{tree_of};
 ghost use Rattle.ob0_tree.specs.Tree.{identifiers};
 ghost use Rattle.ob0_tree.specs.Visited.{state_after_visit, state_after_identifiers};
-ghost use Rattle.ob0_tree.specs.View.{expression_of, compound_expression_of, simple_expression_of, term_of, factor_of, designator_of, selector_of, assignment_of, call_of, arguments_of_vec, statement_of, if_of, elsifs_of_vec, sequence_of_vec, names_of, type_of, record_type_of, optional_field_group_of, parameter_section_of, formals_of, constants_of, types_of, variables_of, body_of, procedure_of, block_of};
+ghost use Rattle.ob0_tree.specs.View.{expression_of, compound_expression_of, simple_expression_of, term_of, factor_of, designator_of, selector_of, assignment_of, call_of, arguments_of_vec, statement_of, if_of, elsifs_of_vec, sequence_of_vec, names_of, type_of, record_type_of, optional_field_group_of, parameter_section_of, formals_of, constant_section_of, type_section_of, variable_section_of, body_of, procedure_of, block_of};
 
 use crate::tree::{
     Assignment, Block, Call, CompoundExpression, Constant, Designator, Elsif, Expression, Factor,
@@ -287,7 +287,7 @@ fn walk_optional_field_group<V: Visitor>(
 }
 
 /// Visits the identifiers of a section of parameters.
-fn walk_section<V: Visitor>(visitor: &mut V, s: &ParameterSection) -> Result<(), AllocError>
+fn walk_formal_section<V: Visitor>(visitor: &mut V, s: &ParameterSection) -> Result<(), AllocError>
     ensures { OnOk result (visitor.new ≡ state_after_visit V.seen (parameter_section_of s.now) visitor.old) }
 {
     walk_names(visitor, Role::Declaring, &s.names)?;
@@ -305,17 +305,17 @@ fn walk_formals<V: Visitor>(
         return Ok(());
     };
     for s in sections {
-        walk_section(visitor, s)?;
+        walk_formal_section(visitor, s)?;
     }
     Ok(())
 }
 
 /// Visits the identifiers of a CONST section, if there is one.
-fn walk_constants<V: Visitor>(
+fn walk_constant_declarations<V: Visitor>(
     visitor: &mut V,
     declared: &Option<Vec<Constant>>,
 ) -> Result<(), AllocError>
-    ensures { OnOk result (visitor.new ≡ state_after_visit V.seen (constants_of declared.now) visitor.old) }
+    ensures { OnOk result (visitor.new ≡ state_after_visit V.seen (constant_section_of declared.now) visitor.old) }
 {
     let Some(declared) = declared else {
         return Ok(());
@@ -328,11 +328,11 @@ fn walk_constants<V: Visitor>(
 }
 
 /// Visits the identifiers of a TYPE section, if there is one.
-fn walk_types<V: Visitor>(
+fn walk_type_declarations<V: Visitor>(
     visitor: &mut V,
     declared: &Option<Vec<TypeDeclaration>>,
 ) -> Result<(), AllocError>
-    ensures { OnOk result (visitor.new ≡ state_after_visit V.seen (types_of declared.now) visitor.old) }
+    ensures { OnOk result (visitor.new ≡ state_after_visit V.seen (type_section_of declared.now) visitor.old) }
 {
     let Some(declared) = declared else {
         return Ok(());
@@ -345,11 +345,11 @@ fn walk_types<V: Visitor>(
 }
 
 /// Visits the identifiers of a VAR section, if there is one.
-fn walk_variables<V: Visitor>(
+fn walk_variable_declarations<V: Visitor>(
     visitor: &mut V,
     declared: &Option<Vec<VariableDeclaration>>,
 ) -> Result<(), AllocError>
-    ensures { OnOk result (visitor.new ≡ state_after_visit V.seen (variables_of declared.now) visitor.old) }
+    ensures { OnOk result (visitor.new ≡ state_after_visit V.seen (variable_section_of declared.now) visitor.old) }
 {
     let Some(declared) = declared else {
         return Ok(());
@@ -379,9 +379,9 @@ pub fn walk_body<V: Visitor>(
 fn walk_block<V: Visitor>(visitor: &mut V, b: &Block) -> Result<(), AllocError>
     ensures { OnOk result (visitor.new ≡ state_after_visit V.seen (block_of b.now) visitor.old) }
 {
-    walk_constants(visitor, &b.constants)?;
-    walk_types(visitor, &b.types)?;
-    walk_variables(visitor, &b.variables)?;
+    walk_constant_declarations(visitor, &b.constants)?;
+    walk_type_declarations(visitor, &b.types)?;
+    walk_variable_declarations(visitor, &b.variables)?;
     for p in &b.procedures {
         walk_procedure(visitor, p)?;
     }

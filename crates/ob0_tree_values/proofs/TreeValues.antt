@@ -28,11 +28,11 @@ use Rattle.ob0_tree.specs.declared.tree.VariableDeclaration.{VariableDeclaration
 use Rattle.ob0_tree.specs.declared.tree.Procedure.{Procedure, roll-Procedure}
 use Rattle.ob0_tree.specs.declared.tree.Block.{Block, roll-Block}
 use Rattle.ob0_tree.specs.declared.tree.ModuleTree.{ModuleTree}
-use Rattle.ob0_tree.specs.Tree.{Item, selector, multiplier, addend, comparison, arguments, further_argument, further_statement, elsif_part, else_part, further_name, further_fields, formals, further_section, constant, constants, type_definition, type_definitions, variable, variables, procedure, body, Sort, item, items, maybe, expression, simple, term, factor, statement, sequence, names, written_type, fields, section, declarations, block, module_text, Tree, spell, single_token_list, none, one, end, more, compares, relates, sum, adds, product, multiplies, designator, integer, parenthesised, negation, field, index, empty, assigns, calls, branches, while_loop, repeat_loop, no_arguments, some_arguments, then_argument, runs, then_statement, elsif_branch, else_branch, listed, then_name, named_type, array_type, record_type, no_fields, some_fields, then_fields, no_formals, some_formals, value_section, variable_section, then_section, declares_constant, declares_constants, declares_type, declares_types, declares_variable, declares_variables, declares_procedure, declares, begins, forms_block, is_module}
+use Rattle.ob0_tree.specs.Tree.{GrammarItem, selector, multiplier, addend, comparison, arguments, further_argument, further_statement, elsif_part, else_part, further_name, further_fields, formals, further_section, constant, constants, type_definition, type_definitions, variable, variables, procedure, body, Sort, item, items, maybe, expression, simple, term, factor, statement, sequence, names, written_type, fields, section, declarations, block, module_text, Tree, spell, single_token_list, none, one, end, more, compares, relates, sum, adds, product, multiplies, designator, integer, parenthesised, negation, field, index, empty, assigns, calls, branches, while_loop, repeat_loop, no_arguments, some_arguments, then_argument, runs, then_statement, elsif_branch, else_branch, listed, then_name, named_type, array_type, record_type, no_fields, some_fields, then_fields, no_formals, some_formals, value_section, variable_section, then_section, declares_constant, declares_constants, declares_type, declares_types, declares_variable, declares_variables, declares_procedure, declares, begins, forms_block, is_module}
 use Rattle.ob0_scan.specs.declared.lexeme.TokenKind.TheVariants as kind
 use Rattle.ob0_scan.specs.declared.lexeme.Symbol.TheVariants as symbol
 use Rattle.ob0_tree.specs.Lexeme.{WordOrSymbol}
-use Rattle.ob0_tree.specs.View.{expression_of, maybe_comparison_of, comparison_of, simple_expression_of, addend_of, term_of, multiplier_of, factor_of, selector_of, items_of, names_of, further_argument_of, arguments_of_list, arguments_of, statement_of, further_statement_of, sequence_of_list, elsif_of, else_part_of, type_of, optional_field_group_of, further_field_group_of, record_type_of_list, parameter_section_of, further_parameter_section_of, formals_of_list, formals_of, constant_of, constants_of, type_declaration_of, types_of, variable_of, variables_of, body_of, block_of, procedure_of}
+use Rattle.ob0_tree.specs.View.{expression_of, maybe_comparison_of, comparison_of, simple_expression_of, addend_of, term_of, multiplier_of, factor_of, selector_of, items_of, names_of, further_argument_of, arguments_of_list, arguments_of, statement_of, further_statement_of, sequence_of_list, elsif_of, else_part_of, type_of, optional_field_group_of, further_field_group_of, record_type_of_list, parameter_section_of, further_parameter_section_of, formals_of_list, formals_of, constant_of, constant_section_of, type_declaration_of, type_section_of, variable_of, variable_section_of, body_of, block_of, procedure_of}
 use Rattle.ob0_tree.proofs.Viewed.{simple_made, term_made, designator_made, compound_made, comparison_made, addend_made, made_record_type, while_made, repeat_made, block_made, procedure_made, if_made}
 
 -- ---- vectors and boxes
@@ -48,7 +48,7 @@ boxed x = record { ptr = null_ptr; alloc = heap; value = x }
 
 -- ---- the values of each sort
 
-abbrev pub Part : Item → Type 0
+abbrev pub Part : GrammarItem → Type 0
 Part selector = Selector
 Part multiplier = Multiplier
 Part addend = Addend
@@ -71,7 +71,7 @@ Part variables = Vec VariableDeclaration Global
 Part procedure = Procedure
 Part body = Vec Statement Global
 
-abbrev pub part_of : (i : Item) → Part i → Tree ℕ (item i)
+abbrev pub part_of : (i : GrammarItem) → Part i → Tree ℕ (item i)
 part_of selector x = selector_of x
 part_of multiplier x = multiplier_of x
 part_of addend x = addend_of x
@@ -94,7 +94,7 @@ part_of variables xs = declares_variables (items_of variable_of xs.items)
 part_of procedure x = procedure_of x
 part_of body xs = begins (sequence_of_list xs.items)
 
-abbrev pub maybe_of : (i : Item) → Option (Part i) → Tree ℕ (maybe i)
+abbrev pub maybe_of : (i : GrammarItem) → Option (Part i) → Tree ℕ (maybe i)
 maybe_of i None = none
 maybe_of i (Some x) = one (part_of i x)
 
@@ -136,7 +136,7 @@ tree_at names x = names_of x
 tree_at written_type x = type_of x
 tree_at fields x = optional_field_group_of x
 tree_at section x = parameter_section_of x
-tree_at declarations x = declares (constants_of x.constants_read) (types_of x.types_read) (variables_of x.variables_read) (items_of procedure_of x.procedures_read)
+tree_at declarations x = declares (constant_section_of x.constants_read) (type_section_of x.types_read) (variable_section_of x.variables_read) (items_of procedure_of x.procedures_read)
 tree_at block x = block_of x
 tree_at module_text x = is_module x.name (block_of x.block) x.closing
 
@@ -160,7 +160,7 @@ rest2 a short = omega (arith, short)
 rest3 : {A : Type 0} (a : List A) → suc (suc (suc (length a))) ≤ 1048576 → length a ≤ 1048576
 rest3 a short = omega (arith, short)
 
-some_tokens : {i : Item} (t : Tree ℕ (item i)) → 1 ≤ length (spell t)
+some_tokens : {i : GrammarItem} (t : Tree ℕ (item i)) → 1 ≤ length (spell t)
 some_tokens (relates r t) = omega (arith)
 some_tokens (adds o t) = omega (arith)
 some_tokens (multiplies o f) = omega (arith)
@@ -186,29 +186,29 @@ some_tokens (declares_variables vs) = omega (arith)
 some_tokens (declares_procedure n fs b c) = omega (arith)
 some_tokens (begins s) = omega (arith)
 
-pub items_short : (i : Item) (xs : List (Part i)) → length xs ≤ length (spell (items_of (part_of i) xs))
+pub items_short : (i : GrammarItem) (xs : List (Part i)) → length xs ≤ length (spell (items_of (part_of i) xs))
 items_short i [] = omega (arith)
 items_short i (x ∷ xs) = omega (arith, items_short i xs, some_tokens (part_of i x), length-append (spell (part_of i x)) (spell (items_of (part_of i) xs)))
 
-pub few : {i : Item} (t : Tree ℕ (items i)) (m : Made t) → length (spell t) ≤ 1048576 → length m.0 ≤ 1048576
+pub few : {i : GrammarItem} (t : Tree ℕ (items i)) (m : Made t) → length (spell t) ≤ 1048576 → length m.0 ≤ 1048576
 few {i} t m short = omega (arith, items_short i m.0, short, ap (λ u. length (spell u)) m.1)
 
-abbrev pub list_of : {i : Item} (t : Tree ℕ (items i)) (m : Made t) → length (spell t) ≤ 1048576 → Vec (Part i) Global
+abbrev pub list_of : {i : GrammarItem} (t : Tree ℕ (items i)) (m : Made t) → length (spell t) ≤ 1048576 → Vec (Part i) Global
 list_of t m short = vec_of m.0 (omega (arith, few t m short))
 
-pub one_more : {i : Item} (x : Part i) (t : Tree ℕ (items i)) (m : Made t) → length (spell t) ≤ 1048576 → length (x ∷ m.0) ≤ 1048577
+pub one_more : {i : GrammarItem} (x : Part i) (t : Tree ℕ (items i)) (m : Made t) → length (spell t) ≤ 1048576 → length (x ∷ m.0) ≤ 1048577
 one_more x t m short = omega (arith, few t m short)
 
-abbrev pub nonempty_of : {i : Item} (x : Part i) (t : Tree ℕ (items i)) (m : Made t) → length (spell t) ≤ 1048576 → Vec (Part i) Global
+abbrev pub nonempty_of : {i : GrammarItem} (x : Part i) (t : Tree ℕ (items i)) (m : Made t) → length (spell t) ≤ 1048576 → Vec (Part i) Global
 nonempty_of x t m short = vec_of (x ∷ m.0) (one_more x t m short)
 
 declared_few : (t : Tree ℕ declarations) (m : Made t) → length (spell t) ≤ 1048576 → length m.0.procedures_read ≤ 1048577
 declared_few t m short =
     let x = m.0 in
     let ps = spell (items_of (part_of procedure) x.procedures_read) in
-    let vs = spell (variables_of x.variables_read) in
-    let ts = spell (types_of x.types_read) in
-    let cs = spell (constants_of x.constants_read) in
+    let vs = spell (variable_section_of x.variables_read) in
+    let ts = spell (type_section_of x.types_read) in
+    let cs = spell (constant_section_of x.constants_read) in
     omega (arith, items_short procedure x.procedures_read, short, ap (λ u. length (spell u)) m.1, length-append vs ps, length-append ts (vs ++ ps), length-append cs (ts ++ (vs ++ ps)))
 
 -- ---- parts that may be missing
@@ -233,15 +233,15 @@ formals_so : (o : _) → formals_of o ≡ maybe_of formals o
 formals_so None = refl
 formals_so (Some xs) = refl
 
-constants_so : (o : _) → constants_of o ≡ maybe_of constants o
+constants_so : (o : _) → constant_section_of o ≡ maybe_of constants o
 constants_so None = refl
 constants_so (Some xs) = refl
 
-types_so : (o : _) → types_of o ≡ maybe_of type_definitions o
+types_so : (o : _) → type_section_of o ≡ maybe_of type_definitions o
 types_so None = refl
 types_so (Some xs) = refl
 
-variables_so : (o : _) → variables_of o ≡ maybe_of variables o
+variables_so : (o : _) → variable_section_of o ≡ maybe_of variables o
 variables_so None = refl
 variables_so (Some xs) = refl
 

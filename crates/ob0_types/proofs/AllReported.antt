@@ -2,39 +2,39 @@
 use Rattle.std.proofs.Common.{◌≤◌, ◌≡◌, ◌↔◌, ◌+◌, ◌&&◌, ◌||◌, if◌then◌else◌, Bool, true, false, not, List, [], ◌∷◌, ◌++◌, IfSome, MatchOption, is_some, Option, Some, None, length, refl, sym, ap, ◌∙◌, true≢false, arith, length-append}
 use Rattle.std.proofs.lemmas.List.{nil_from_length}
 use Rattle.std.specs.List.{filter, list_any}
-use Rattle.ob0_scan.specs.declared.fault.Fault.{Fault}
 use Rattle.ob0_language_names.specs.Names.{naming_by_spelling}
 use Rattle.ob0_language_names.specs.ConsistentNames.{has_consistent_names}
 use Rattle.ob0_scope_table.specs.Resolution.{IsResolution, Resolution, is_duplicate_or_end_name}
+use Rattle.ob0_scope_table.specs.declared.faults.FaultAtTokens.{FaultAtTokens}
 use Rattle.ob0_tree.specs.ParsedModule.{named_tree_of}
 use Rattle.ob0_types_check.specs.DeclarationFaults.{undeclared_name_and_type_faults}
 use Rattle.ob0_types_check.specs.ModuleLaws.{HasDeclarations, ModulesWithoutFaultPassTypeCheck}
 use Rattle.ob0_types_check.specs.SomeBodies.{IsReportOf}
 use Rattle.ob0_types_check.specs.WellTypedLaws.{TypedModulesHaveNoFault}
 use Rattle.ob0_types_check.specs.declared.reporting.Report.{Report}
-use Rattle.ob0_types.specs.FaultOrder.{AreFirstFaultsWhenSorted, all_faults_of}
-use Rattle.ob0_types.specs.CheckedModules.{IsChecked, HasTableIfWellTyped}
-use Rattle.ob0_types_table.specs.KnownTables.{Tables}
+use Rattle.ob0_types.specs.FaultOrder.{all_faults_of}
+use Rattle.ob0_types.specs.CheckedModules.{HasTableIfWellTyped}
+use Rattle.ob0_types_table.specs.KnownTables.{DeclarationTableView}
 use Rattle.ob0_language_types.specs.WellTyped.{WellTyped, passes_type_check}
 
 -- holds if the list of faults is empty exactly if the test is true
-abbrev IsReported : Bool → List Fault → Type 0
+abbrev IsReported : Bool → List FaultAtTokens → Type 0
 IsReported right faults = (faults ≡ []) ↔ (right ≡ true)
 
-length-nil : (xs : List Fault) → xs ≡ [] → length xs ≡ 0
+length-nil : (xs : List FaultAtTokens) → xs ≡ [] → length xs ≡ 0
 length-nil xs e = ap length e
 
 -- Two lists of faults are empty under the same condition if their lengths are 0 under the same condition.
-pub empty_alike : (xs ys : List Fault) → (length xs ≡ 0 → length ys ≡ 0) → (length ys ≡ 0 → length xs ≡ 0) → (xs ≡ []) ↔ (ys ≡ [])
+pub empty_alike : (xs ys : List FaultAtTokens) → (length xs ≡ 0 → length ys ≡ 0) → (length ys ≡ 0 → length xs ≡ 0) → (xs ≡ []) ↔ (ys ≡ [])
 empty_alike xs ys there back = ((λ e. nil_from_length ys (there (length-nil xs e))), (λ e. nil_from_length xs (back (length-nil ys e))))
 
-none_kept : (scopes : List Fault) → list_any is_duplicate_or_end_name scopes ≡ false → length (filter is_duplicate_or_end_name scopes) ≡ 0
+none_kept : (scopes : List FaultAtTokens) → list_any is_duplicate_or_end_name scopes ≡ false → length (filter is_duplicate_or_end_name scopes) ≡ 0
 none_kept [] none = refl
 none_kept (fault ∷ faults) none =
     (elim (is_duplicate_or_end_name fault) as (λ b. (b || list_any is_duplicate_or_end_name faults) ≡ false → length (if b then fault ∷ filter is_duplicate_or_end_name faults else filter is_duplicate_or_end_name faults) ≡ 0)
     [ true ↦ λ e. absurd (true≢false e) | false ↦ λ e. none_kept faults e ]) none
 
-kept_none : (scopes : List Fault) → length (filter is_duplicate_or_end_name scopes) ≡ 0 → list_any is_duplicate_or_end_name scopes ≡ false
+kept_none : (scopes : List FaultAtTokens) → length (filter is_duplicate_or_end_name scopes) ≡ 0 → list_any is_duplicate_or_end_name scopes ≡ false
 kept_none [] none = refl
 kept_none (fault ∷ faults) none =
     (elim (is_duplicate_or_end_name fault) as (λ b. length (if b then fault ∷ filter is_duplicate_or_end_name faults else filter is_duplicate_or_end_name faults) ≡ 0 → (b || list_any is_duplicate_or_end_name faults) ≡ false)
@@ -54,7 +54,7 @@ second_right false b e = absurd (true≢false (sym e))
 
 -- If a list of faults is empty exactly if a test is true, consider the list with the faults of declarations appended.
 -- It is empty exactly if the test is true and there are no such faults.
-reported_with : (right : Bool) (first scopes : List Fault) → IsReported right first → IsReported (right && not (list_any is_duplicate_or_end_name scopes)) (first ++ filter is_duplicate_or_end_name scopes)
+reported_with : (right : Bool) (first scopes : List FaultAtTokens) → IsReported right first → IsReported (right && not (list_any is_duplicate_or_end_name scopes)) (first ++ filter is_duplicate_or_end_name scopes)
 reported_with right first scopes reported = (
   (λ e.
       let all : length first + length (filter is_duplicate_or_end_name scopes) ≡ 0 = sym (length-append first (filter is_duplicate_or_end_name scopes)) ∙ length-nil (first ++ filter is_duplicate_or_end_name scopes) e in
@@ -76,11 +76,11 @@ from_once b any e t = e ∙ ap not t
 
 -- If a table is present only when there are no faults, and then has a property, a table that is present has this
 -- property.
-known_declares : (none : Type 0) (known : Option Tables) (P : Tables → Type 0) → MatchOption known (none → ⊥) (λ t. none × P t) → IfSome known P
+known_declares : (none : Type 0) (known : Option DeclarationTableView) (P : DeclarationTableView → Type 0) → MatchOption known (none → ⊥) (λ t. none × P t) → IfSome known P
 known_declares none None P h = tt
 known_declares none (Some t) P h = h.1
 
-known_there : (none : Type 0) (known : Option Tables) (P : Tables → Type 0) → MatchOption known (none → ⊥) (λ t. none × P t) → none → is_some known ≡ true
+known_there : (none : Type 0) (known : Option DeclarationTableView) (P : DeclarationTableView → Type 0) → MatchOption known (none → ⊥) (λ t. none × P t) → none → is_some known ≡ true
 known_there none None P h n = absurd (h n)
 known_there none (Some t) P h n = refl
 
@@ -96,29 +96,17 @@ known_where_typed r report law is h = record {
   kept = λ typed. known_there (undeclared_name_and_type_faults r ≡ []) report.known (HasDeclarations (named_tree_of r.module_read)) h.known (none_reported law r is typed);
 }
 
--- The result of checking a module is right (`IsChecked`) if it has the first 100 faults of the module. The table must
--- be present exactly if no fault of types is reported.
-pub checked_reported : (r : Resolution) (faults : List Fault) → ModulesWithoutFaultPassTypeCheck → TypedModulesHaveNoFault → IsResolution r → ((faults ≡ []) ↔ (all_faults_of r ≡ []))
-    → (known : Option Tables) → MatchOption known (undeclared_name_and_type_faults r ≡ [] → ⊥) (λ t. (undeclared_name_and_type_faults r ≡ []) × HasDeclarations (named_tree_of r.module_read) t) → length faults ≤ 100 → AreFirstFaultsWhenSorted (all_faults_of r) faults
-    → IsChecked (record { names = r; faults = faults; known = known })
+-- A module is well-typed exactly if a list is empty that is empty exactly if the module has no fault.
+pub reported_if_faulty : (r : Resolution) (faults : List FaultAtTokens) → ModulesWithoutFaultPassTypeCheck → TypedModulesHaveNoFault → IsResolution r → ((faults ≡ []) ↔ (all_faults_of r ≡ [])) → (faults ≡ []) ↔ WellTyped (named_tree_of r.module_read)
 unfolding WellTyped
-checked_reported r faults reported_law none_law h alike known knows few first =
+reported_if_faulty r faults reported_law none_law h alike =
     let m = named_tree_of r.module_read in
     let fits : Bool = passes_type_check naming_by_spelling m in
     let any = list_any is_duplicate_or_end_name r.faults in
     let of_types : IsReported fits (undeclared_name_and_type_faults r) = (reported_law r h, none_law r h) in
-    let whole : IsReported (fits && not any) (all_faults_of r) = reported_with fits (undeclared_name_and_type_faults r) r.faults of_types in
-    let reported : IsReported (fits && not any) faults = ((λ none. whole.0 (alike.0 none)), (λ right. alike.1 (whole.1 right))) in
-    record {
-      resolved = h;
-      reported = (
-        (λ none.
-            let right = reported.0 none in
-            (once_from (has_consistent_names m) any h.reported.declared_twice (second_right fits any right), first_right fits any right)),
-        (λ w. reported.1 (both_right fits any w.1 (from_once (has_consistent_names m) any h.reported.declared_twice w.0))),
-      );
-      holds = known_declares (undeclared_name_and_type_faults r ≡ []) known (HasDeclarations m) knows;
-      kept = λ none. known_there (undeclared_name_and_type_faults r ≡ []) known (HasDeclarations m) knows (none_law r h (first_right fits any (reported.0 none)));
-      few = few;
-      first = first;
-    }
+    let whole : IsReported (fits && not any) (all_faults_of r) = reported_with fits (undeclared_name_and_type_faults r) r.faults of_types in (
+      (λ none.
+          let right = whole.0 (alike.0 none) in
+          (once_from (has_consistent_names m) any h.reported.declared_twice (second_right fits any right), first_right fits any right)),
+      (λ w. alike.1 (whole.1 (both_right fits any w.1 (from_once (has_consistent_names m) any h.reported.declared_twice w.0)))),
+    )

@@ -3,9 +3,9 @@ use Rattle.std.proofs.Common.{◌≡◌, ℕ, Bool, true, false, ◌||◌, List,
 use Rattle.std.proofs.lemmas.List.Folds.{list_any-append}
 use Rattle.std.specs.List.{AllZip}
 use Rattle.std.proofs.lemmas.Bool.{or_left, or_right}
-use Rattle.ob0_types_check.specs.SomeBodies.{AllPass, is_among}
+use Rattle.ob0_types_check.specs.SomeBodies.{AllClosingNamesPass, is_among}
 
-pub all_weaker : (test other : ℕ → Bool) (xs : List ℕ) → ((k : ℕ) → test k ≡ true → other k ≡ true) → AllPass test xs → AllPass other xs
+pub all_weaker : (test other : ℕ → Bool) (xs : List ℕ) → ((k : ℕ) → test k ≡ true → other k ≡ true) → AllClosingNamesPass test xs → AllClosingNamesPass other xs
 all_weaker test other [] f h = tt
 all_weaker test other (x ∷ xs) f h = (f x h.0, all_weaker test other xs f h.1)
 
@@ -18,7 +18,7 @@ itself x = or_left (nat_eq x x) false (eq-eqb x x refl)
 pub among_last : (xs : List ℕ) (x : ℕ) → is_among (xs ++ x ∷ []) x ≡ true
 among_last xs x = list_any-append (λ y. nat_eq y x) xs (x ∷ []) ∙ or_right (is_among xs x) (is_among (x ∷ []) x) (itself x)
 
-pub all_among : (xs : List ℕ) → AllPass (is_among xs) xs
+pub all_among : (xs : List ℕ) → AllClosingNamesPass (is_among xs) xs
 all_among [] = tt
 all_among (x ∷ xs) = (itself_first, all_weaker (is_among xs) (is_among (x ∷ xs)) xs (λ k h. or_right (nat_eq x k) (is_among xs k) h) (all_among xs))
   where

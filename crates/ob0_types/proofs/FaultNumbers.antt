@@ -11,15 +11,16 @@ use Rattle.std.specs.declared.cmp.Ordering.TheVariants.{Less, Equal, Greater}
 use Rattle.ob0_scan.specs.declared.fault.FaultCode.{FaultCode}
 use Rattle.ob0_scan.specs.declared.fault.FaultCode.TheVariants as code
 use Rattle.ob0_scan.specs.contracts.fault.FaultCode.{the_type}
-use Rattle.ob0_scan.specs.declared.fault.Fault.{Fault}
-use Rattle.ob0_types.specs.FaultOrder.{code_number, fault_cmp, span_cmp}
+use Rattle.ob0_scope_table.specs.FaultsAtTokens.{token_or_last}
+use Rattle.ob0_scope_table.specs.declared.faults.FaultAtTokens.{FaultAtTokens}
+use Rattle.ob0_types.specs.FaultOrder.{fault_code_number, fault_cmp_by_tokens}
 
 abbrev pub declared_number : FaultCode → ℤ
 declared_number x = slice_index_or (pos 1 ∷ pos 2 ∷ pos 3 ∷ pos 4 ∷ pos 5 ∷ pos 10 ∷ pos 11 ∷ pos 12 ∷ pos 13 ∷ pos 14 ∷ pos 15 ∷ pos 16 ∷ pos 17 ∷ pos 18 ∷ pos 19 ∷ pos 20 ∷ pos 21 ∷ pos 22 ∷ pos 23 ∷ []) (tag_of the_type x) (pos 0)
 
-pub numbered : (x : FaultCode) → declared_number x ≡ pos (code_number x)
+pub numbered : (x : FaultCode) → declared_number x ≡ pos (fault_code_number x)
 numbered x =
-    elim x as (λ y. declared_number y ≡ pos (code_number y)) [
+    elim x as (λ y. declared_number y ≡ pos (fault_code_number y)) [
       | code.TooLong ↦ refl
       | code.BadChar ↦ refl
       | code.OpenComment ↦ refl
@@ -51,13 +52,14 @@ pos_cmp a b = one (nat_lt a b) refl (nat_lt b a) refl (a == b) refl
     one false p false q true r = refl
     one false p false q false r = let e : a ≡ b = omega (arith, ltb-false a b p, ltb-false b a q) in absurd (true≢false (sym (eq-eqb a b e) ∙ r))
 
--- A list that is sorted by the key of place and code is sorted in the order of faults.
-pub sorted_by_key : (cmp : ℕ × ℕ × FaultCode → ℕ × ℕ × FaultCode → Ordering) (xs : List Fault)
-    → ((s e : ℕ) (x : FaultCode) (s₂ e₂ : ℕ) (y : FaultCode) → cmp (s, e, x) (s₂, e₂, y) ≡ ordering_then (ordering_then (nat_cmp s s₂) (nat_cmp e e₂)) (int_cmp (declared_number x) (declared_number y)))
-    → IsSortedByKey (λ (f : Fault). (f.span.start, f.span.end, f.code)) cmp xs → IsSorted fault_cmp xs
-sorted_by_key cmp xs lexical sorted k d low high =
+-- A list that is sorted by the key of tokens and code is sorted in the order of faults.
+pub sorted_by_key : (cmp : ℕ × ℕ × FaultCode → ℕ × ℕ × FaultCode → Ordering) (count : ℕ) (xs : List FaultAtTokens)
+    → ((f l : ℕ) (x : FaultCode) (f₂ l₂ : ℕ) (y : FaultCode) → cmp (f, l, x) (f₂, l₂, y) ≡ ordering_then (ordering_then (nat_cmp f f₂) (nat_cmp l l₂)) (int_cmp (declared_number x) (declared_number y)))
+    → IsSortedByKey (λ (f : FaultAtTokens). (token_or_last count f.first, token_or_last count f.last, f.code)) cmp xs → IsSorted (fault_cmp_by_tokens count) xs
+sorted_by_key cmp count xs lexical sorted k d low high =
+    let at : ℕ → ℕ = token_or_last count in
     let x = slice_index_or xs (k + 1) d in
     let y = slice_index_or xs k d in
-    let by_code : int_cmp (declared_number x.code) (declared_number y.code) ≡ nat_cmp (code_number x.code) (code_number y.code) =
-    (λ i. int_cmp (numbered x.code i) (numbered y.code i)) ∙ pos_cmp (code_number x.code) (code_number y.code) in
-    ap is_lt (sym (lexical x.span.start x.span.end x.code y.span.start y.span.end y.code ∙ ap (ordering_then (span_cmp x y)) by_code)) ∙ sorted k d low high
+    let by_code : int_cmp (declared_number x.code) (declared_number y.code) ≡ nat_cmp (fault_code_number x.code) (fault_code_number y.code) =
+    (λ i. int_cmp (numbered x.code i) (numbered y.code i)) ∙ pos_cmp (fault_code_number x.code) (fault_code_number y.code) in
+    ap is_lt (sym (lexical (at x.first) (at x.last) x.code (at y.first) (at y.last) y.code ∙ ap (ordering_then (ordering_then (nat_cmp (at x.first) (at y.first)) (nat_cmp (at x.last) (at y.last)))) by_code)) ∙ sorted k d low high

@@ -17,7 +17,7 @@ use Rattle.ob0_types_fields.specs.declared.field_name.FieldName.{FieldName}
 use Rattle.ob0_types_fields.specs.Identifiers.{field_identifiers, token_indexes}
 use Rattle.ob0_types_fields.specs.FieldLists.{AreFieldListsOf, HasSameTokensIfReplaced, FieldLists}
 use Rattle.ob0_types_fields.specs.Owned.{fields_in_module, fields_in_tree, meanings_by_token}
-use Rattle.ob0_types_table.specs.KnownTables.{Tables, declared_object_in}
+use Rattle.ob0_types_table.specs.KnownTables.{DeclarationTableView, declared_object_in}
 use Rattle.ob0_types_fields.proofs.FieldNameList.{fields_ascend}
 use Rattle.ob0_types_fields.proofs.FieldsMatchGrammar.{fields_match_grammar-holds}
 use Rattle.ob0_types_fields.proofs.WalkFindsAllFields.{module-fields}
@@ -33,7 +33,7 @@ module _ (r : Resolution) (types : CheckResult) (low : ℕ) (w : WasCheckResultB
   old = before r types low w
 
   typed_before : WellTyped (named_tree_of old.module_read)
-  typed_before = w.types_are.checked.reported.0 none
+  typed_before = w.types_are.reported.0 none
 
   -- returns the meanings of names before the change, according to their declarations
   abbrev meant_before : Meanings ℕ Shape Signature
@@ -44,7 +44,7 @@ module _ (r : Resolution) (types : CheckResult) (low : ℕ) (w : WasCheckResultB
 
   declared_same : (k : ℕ) → declared_object (named_tree_of r.module_read) k ≡ declared_object (named_tree_of old.module_read) k
   declared_same =
-      declarations_stay (is_among (types.bodies_with_faults.items ++ last_body r types low w ∷ [])) r is (were_faulty r types low w is) (none_reported law old w.types_are.checked.resolved typed_before) (none_reported law r is typed)
+      declarations_stay (is_among (types.bodies_with_faults.items ++ last_body r types low w ∷ [])) r is (were_faulty r types low w is) (none_reported law old w.types_are.resolved typed_before) (none_reported law r is typed)
 
   means_same : (token : ℕ) → IsSameTokenAt old r token → MeansSame meant_before meant_now token
   means_same token h = record {
@@ -56,32 +56,32 @@ module _ (r : Resolution) (types : CheckResult) (low : ℕ) (w : WasCheckResultB
   around = module_around meant_before meant_now low (tree_of r.module_read) (alike_outside r types low w (λ token. MeansSame meant_before meant_now token) means_same is)
 
   fields_before : types.fields.all ≡ around.before ++ (fields_in_tree meant_before (body_with_token_in_module low (tree_of r.module_read)).statements ++ around.after)
-  fields_before = (w.types_are.fields none).1 ∙ (module-fields meant_before (tree_of r.module_read) ∙ around.first)
+  fields_before = (w.types_are.fields typed_before).1 ∙ (module-fields meant_before (tree_of r.module_read) ∙ around.first)
 
   fields_now : field_identifiers r ≡ around.before ++ (fields_in_tree meant_now (body_with_token_in_module low (tree_of r.module_read)).statements ++ around.after)
   fields_now = module-fields meant_now (tree_of r.module_read) ∙ around.second
 
   same_tokens : token_indexes types.fields.all ≡ token_indexes (field_identifiers r)
-  same_tokens = ap token_indexes (w.types_are.fields none).1 ∙ (fields_match_grammar-holds old w.types_are.checked.resolved typed_before ∙ sym (fields_match_grammar-holds r is typed))
+  same_tokens = ap token_indexes (w.types_are.fields typed_before).1 ∙ (fields_match_grammar-holds old w.types_are.resolved typed_before ∙ sym (fields_match_grammar-holds r is typed))
 
   has_others : HasSameTokensIfReplaced types.fields.all around.before (fields_in_tree meant_now (body_with_token_in_module low (tree_of r.module_read)).statements) around.after
   has_others = record {
     replaced_fields = fields_in_tree meant_before (body_with_token_in_module low (tree_of r.module_read)).statements;
     token_limit = length old.module_read.source.tokens;
-    in_order = subst (λ (xs : List FieldName). AreAscendingWithin 0 (token_indexes xs) (length old.module_read.source.tokens)) (sym (w.types_are.fields none).1) (fields_ascend old w.types_are.checked.resolved.parsed);
+    in_order = subst (λ (xs : List FieldName). AreAscendingWithin 0 (token_indexes xs) (length old.module_read.source.tokens)) (sym (w.types_are.fields typed_before).1) (fields_ascend old w.types_are.resolved.parsed);
     is_concatenation = fields_before;
     same = same_tokens ∙ ap token_indexes fields_now;
   }
 
   -- If the old fields within the body's tokens are replaced by the fields found in the body, the list has the module's
   -- fields.
-  pub fields_over : (f : FieldLists) (t : Tables) → ((k : ℕ) → declared_object_in t k ≡ declared_object (named_tree_of r.module_read) k)
+  pub fields_over : (f : FieldLists) (t : DeclarationTableView) → ((k : ℕ) → declared_object_in t k ≡ declared_object (named_tree_of r.module_read) k)
       → (statements : Tree ℕ (maybe body)) → statements ≡ (body_with_token_in_module low (tree_of r.module_read)).statements → f.declared ≡ types.fields.declared
       → ((first last : List FieldName) → HasSameTokensIfReplaced types.fields.all first (fields_in_tree (meanings_by_token (declared_object_in t) r) statements) last → f.all ≡ first ++ (fields_in_tree (meanings_by_token (declared_object_in t) r) statements ++ last))
       → AreFieldListsOf r f
   fields_over f t holds statements here declared over =
       let found : fields_in_tree meant_now (body_with_token_in_module low (tree_of r.module_read)).statements ≡ fields_in_tree (meanings_by_token (declared_object_in t) r) statements = λ i. fields_in_tree (meanings_by_token (λ k. sym (holds k) i) r) (sym here i) in (
-        declared ∙ (w.types_are.fields none).0,
+        declared ∙ (w.types_are.fields typed_before).0,
         over around.before around.after (subst (λ l. HasSameTokensIfReplaced types.fields.all around.before l around.after) found has_others)
             ∙ (ap (λ l. around.before ++ (l ++ around.after)) (sym found) ∙ sym fields_now),
       )

@@ -181,7 +181,7 @@ module _ (r : Resolution) (types : CheckResult) (s : CommonPrefixAndSuffix) (w :
   unfolding WellTyped
   fits_elsewhere clean =
       let before = w.old.module_read in
-      let typed = w.types_are.checked.reported.0 clean in
+      let typed = w.types_are.reported.0 clean in
       record {
         path = w.path;
         at = sym found_there.0;

@@ -55,7 +55,7 @@ module _ (r : Resolution) (types : CheckResult) (low : ℕ) (w : WasCheckResultB
       let bodies = types.bodies_with_faults.items ++ last_body ∷ [] in
       record {
         old = before;
-        resolved = w.types_are.checked.resolved;
+        resolved = w.types_are.resolved;
         bodies_with_faults = all_weaker (is_among types.bodies_with_faults.items) (is_among bodies) (faulty_bodies before) (λ k h. among_further types.bodies_with_faults.items (last_body ∷ []) k h) w.types_are.bodies_with_faults;
         alike = were_alike (is_among bodies) is (among_last types.bodies_with_faults.items last_body);
       }

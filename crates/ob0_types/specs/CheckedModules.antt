@@ -1,15 +1,16 @@
 -- A checked module: its names, its faults, and the table of its declarations.
 -- Rule: docs/LANGUAGE.md, Types 8, Faults of scopes and types 1.
-use Rattle.std.specs.Prelude.{◌≡◌, ◌≤◌, true, List, [], length, ◌↔◌, IfSome, is_some, Option}
+use Rattle.std.specs.Prelude.{◌≡◌, ◌≤◌, true, List, [], length, map, ◌↔◌, IfSome, is_some, Option}
 use Rattle.ob0_scan.specs.TextWithTokens.{max_faults}
 use Rattle.ob0_scan.specs.declared.fault.Fault.{Fault}
+use Rattle.ob0_scope_table.specs.FaultsAtTokens.{fault_with_span}
 use Rattle.ob0_scope_table.specs.Resolution.{Resolution, IsResolution}
 use Rattle.ob0_tree.specs.ParsedModule.{named_tree_of}
 use Rattle.ob0_types_check.specs.ModuleLaws.{HasDeclarations}
-use Rattle.ob0_types_check.specs.SomeBodies.{AllPass, faulty_bodies, is_among}
-use Rattle.ob0_types_table.specs.KnownTables.{Tables}
+use Rattle.ob0_types_check.specs.SomeBodies.{AllClosingNamesPass, faulty_bodies, is_among}
+use Rattle.ob0_types_table.specs.KnownTables.{DeclarationTableView}
 use Rattle.ob0_language_types.specs.WellTyped.{WellTyped}
-use Rattle.ob0_types.specs.FaultOrder.{AreFirstFaultsOfModule}
+use Rattle.ob0_types.specs.FaultOrder.{AreFirstFaultsOfModule, AreFirstFaultsByTokens}
 use Rattle.ob0_types.specs.declared.checked.CheckResult.{CheckResult}
 use Rattle.ob0_types_fields.specs.FieldLists.{AreFieldListsOf, FieldLists}
 
@@ -17,7 +18,7 @@ use Rattle.ob0_types_fields.specs.FieldLists.{AreFieldListsOf, FieldLists}
 pub record CheckedModule : Type 0 where
   pub names : Resolution
   pub faults : List Fault
-  pub known : Option Tables
+  pub known : Option DeclarationTableView
 
 -- States that `c.faults` has the module's first 100 faults, in order, and is empty exactly if the module is well-typed.
 -- If there is a table, it has the module's declarations. If there are no faults, there is a table.
@@ -29,26 +30,18 @@ pub record IsChecked (c : CheckedModule) : Type 0 where
   pub few : length c.faults ≤ max_faults
   pub first : AreFirstFaultsOfModule c.names c.faults
 
--- states that the module `names` and the faults `faults`, with some table of declarations or None, form a checked
--- module (`IsChecked`)
-abbrev pub AreFaultsOfCheckedModule : Resolution → List Fault → Type 0
-AreFaultsOfCheckedModule names faults =
-    (known : Option Tables) × IsChecked (record { names = names; faults = faults; known = known })
-
--- returns the checked module that consists of a module and the result of checking it
+-- returns the checked module that consists of a module and the result of checking it; the faults get their spans
 abbrev pub checked_module : Resolution → CheckResult → CheckedModule
-checked_module names types = record { names = names; faults = types.faults.items; known = types.known }
-
--- States that `types` is the result of checking a module. If the module has no fault, the lists of fields have the
--- module's fields. Each body with a fault of types is listed in `types.bodies_with_faults`.
-pub record IsCheckResultOf (names : Resolution) (types : CheckResult) : Type 0 where
-  pub checked : IsChecked (checked_module names types)
-  pub fields : types.faults.items ≡ [] → AreFieldListsOf names types.fields
-  pub bodies_with_faults : AllPass (is_among types.bodies_with_faults.items) (faulty_bodies names)
+checked_module names types =
+    record {
+      names = names;
+      faults = map (fault_with_span names.module_read.source) types.faults.items;
+      known = types.known;
+    }
 
 -- States that the table `known` has the module's declarations or is None. If the module is well-typed, the table isn't
 -- None.
-pub record HasTableIfWellTyped (names : Resolution) (known : Option Tables) : Type 0 where
+pub record HasTableIfWellTyped (names : Resolution) (known : Option DeclarationTableView) : Type 0 where
   pub holds : IfSome known (HasDeclarations (named_tree_of names.module_read))
   pub kept : WellTyped (named_tree_of names.module_read) → is_some known ≡ true
 
@@ -57,6 +50,16 @@ abbrev pub AreFieldListsIfWellTyped : Resolution → FieldLists → Type 0
 AreFieldListsIfWellTyped names fields =
     WellTyped (named_tree_of names.module_read) → AreFieldListsOf names fields
 
+-- States that `types` is the result of checking a module. It has the module's first 100 faults, and no fault exactly if
+-- the module is well-typed. Each body with a fault of types is listed in `types.bodies_with_faults`.
+pub record IsCheckResultOf (names : Resolution) (types : CheckResult) : Type 0 where
+  pub resolved : IsResolution names
+  pub reported : (types.faults.items ≡ []) ↔ WellTyped (named_tree_of names.module_read)
+  pub first : AreFirstFaultsByTokens names types.faults.items
+  pub table : HasTableIfWellTyped names types.known
+  pub fields : AreFieldListsIfWellTyped names types.fields
+  pub bodies_with_faults : AllClosingNamesPass (is_among types.bodies_with_faults.items) (faulty_bodies names)
+
 -- states that `names` has the right bindings of its module (`IsResolution`), and that this module is well-typed
 pub record IsWellTyped (names : Resolution) : Type 0 where
   pub resolved : IsResolution names
@@ -64,7 +67,7 @@ pub record IsWellTyped (names : Resolution) : Type 0 where
 
 -- states that the module is well-typed, that the table `known` has its declarations, and that the lists `fields` have
 -- its fields
-pub record IsWellTypedWithTableAndFields (names : Resolution) (known : Tables) (fields : FieldLists) : Type 0 where
+pub record IsWellTypedWithTableAndFields (names : Resolution) (known : DeclarationTableView) (fields : FieldLists) : Type 0 where
   pub well_typed : IsWellTyped names
   pub declarations : HasDeclarations (named_tree_of names.module_read) known
   pub fields_are : AreFieldListsOf names fields

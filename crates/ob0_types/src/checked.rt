@@ -2,34 +2,41 @@
 //! well-typed module.
 //!
 //! `CheckResult` is the complete result of checking. It borrows nothing, so it can be kept next to
-//! the module's bindings. A `Checked` joins this result to the bindings. `check` makes a `Checked`
-//! that owns the result. `Checked::from_parts` makes a `Checked` that borrows a result kept
-//! elsewhere, without allocating.
+//! the module's bindings. Its faults are at tokens, so a change of only white space or comments
+//! changes nothing in it. A `Checked` joins this result to the bindings, and has the faults with
+//! their spans. `check` makes a `Checked` that owns the result. `Checked::from_parts` makes a
+//! `Checked` that borrows a result kept elsewhere.
 //!
-//! Faults are sorted by (start, end, code). The lists of fields are made only for a module that has
+//! Faults are sorted by (start, end, code), which is the same order as by (first token, last token,
+//! code), because the tokens ascend. The lists of fields are made only for a module that has
 //! no fault of types (`fields_from_table`). If one body changed, the lists are made from the lists
 //! of the previous text (`fields_after_body_change`). In contracts, the value of a `Checked`
 //! doesn't contain the lists. Its invariant states that they have the module's fields if the module
 //! has no fault.
 
 ghost use Rattle.ob0_scope_table.specs.Resolution.{is_duplicate_or_end_name};
-ghost use Rattle.ob0_types.specs.CheckedModules.{AreFieldListsIfWellTyped, IsCheckResultOf, IsChecked, HasTableIfWellTyped, checked_module};
-ghost use Rattle.ob0_types.specs.FaultOrder.{AreFirstFaultsWhenSorted};
+ghost use Rattle.ob0_types.specs.CheckedModules.{AreFieldListsIfWellTyped, IsCheckResultOf, IsChecked, HasTableIfWellTyped};
+ghost use Rattle.ob0_types.specs.FaultOrder.{AreFirstFaultsWhenSorted, fault_cmp_by_tokens};
 ghost use Rattle.ob0_types.specs.NewBody.{WasCheckResultBeforeNewBody};
 ghost use Rattle.ob0_types.specs.OneBody.{WasCheckResultBeforeBodyChange};
 ghost use Rattle.ob0_types_check.specs.SomeBodies.{IsReportOf};
 ghost use Rattle.std.specs.List.{filter};
-ghost use Rattle.std.specs.Prelude.{◌≡◌, ◌≤◌, ◌↔◌, ◌++◌, [], length, IfOk, OnOk, MatchOption};
-ghost use Rattle.ob0_scan.specs.TextWithTokens.{max_faults};
+ghost use Rattle.std.specs.Cow.{cow_value};
+ghost use Rattle.std.specs.Prelude.{◌≡◌, ◌↔◌, ◌++◌, [], length, IfOk, OnOk, MatchOption};
 
 use crate::one_body::body_containing;
 use ob0_language_values::Scalar;
-use ob0_scan::{CommonPrefixAndSuffix, Fault, FaultCode, MAX_FAULTS};
-use ob0_scope_table::{PREDECLARED_COUNT, Resolved, body_bounds_in_module};
+use ob0_scan::{CommonPrefixAndSuffix, Fault, MAX_FAULTS};
+use ob0_scope_table::{
+    FaultAtTokens, PREDECLARED_COUNT, Resolved, body_bounds_in_module, faults_with_spans,
+    is_duplicate_or_end_name,
+};
 use ob0_types_check::laws::{modules_without_fault_pass_type_check, typed_modules_have_no_fault};
-use ob0_types_check::{Report, report_faults, report_one_body, report_some_bodies};
+use ob0_types_check::{
+    Report, module_report, module_report_walking_one_body, module_report_walking_some_bodies,
+};
 use ob0_types_fields::ModuleFields;
-use ob0_types_table::{DeclarationTable, Parts, TypeId};
+use ob0_types_table::{DeclarationTable, TypeId, TypeWithParts};
 use std::alloc::{AllocError, Global};
 use std::borrow::Cow;
 use std::marker::Model;
@@ -42,27 +49,30 @@ const MAX_FAULTY_BODIES_FOR_PARTIAL_CHECK: usize = 32;
 
 /// The result of checking a module. If the module is well-typed, `known` has the table of its
 /// declarations, and `fields` the lists of its fields. `faults` has the first 100 faults of its
-/// scopes and types. `bodies_with_faults` has the closing names of the bodies with a fault of
-/// types, as token indexes. The result borrows nothing.
+/// scopes and types, in the order of their spans. `bodies_with_faults` has the closing names of the
+/// bodies with a fault of types. All places are token indexes, so a change of only white space or
+/// comments changes nothing here. The result borrows nothing.
 #[derive(Drop)]
 pub struct CheckResult {
     pub known: Option<DeclarationTable>,
     pub fields: ModuleFields,
-    pub faults: Vec<Fault>,
+    pub faults: Vec<FaultAtTokens>,
     pub bodies_with_faults: Vec<usize>,
 }
 
-/// A module with its bindings and the result of checking it (`CheckResult`), for example its
-/// faults.
+/// A module with its bindings and the result of checking it (`CheckResult`). `faults` has the
+/// faults of this result with their spans.
 #[derive(Drop)]
 pub struct Checked<'t> {
     resolved: &'t Resolved<'t>,
     types: Cow<'t, CheckResult>,
+    faults: Vec<Fault>,
 }
 
 impl<'t> Model for Checked<'t> {
+    ghost use Rattle.std.specs.Prelude.{◌≡◌};
     ghost use Rattle.std.specs.Cow.{cow_value};
-    ghost use Rattle.ob0_types.specs.CheckedModules.{IsCheckResultOf, CheckedModule, checked_module};
+    ghost use Rattle.ob0_types.specs.CheckedModules.{IsCheckResultOf, CheckedModule, IsChecked, checked_module};
 
     ghost Value = { CheckedModule };
 
@@ -73,7 +83,9 @@ impl<'t> Model for Checked<'t> {
 
     ghost view = { λ c. checked_module c.resolved.now (cow_value c.types) };
 
-    ghost invariant = { λ c. IsCheckResultOf c.resolved.now (cow_value c.types) };
+    ghost invariant = { λ c. let checked = checked_module c.resolved.now (cow_value c.types) in
+        IsCheckResultOf c.resolved.now (cow_value c.types)
+        × (IsChecked checked × (c.faults.items ≡ checked.faults)) };
 }
 
 /// A well-typed module with its table of declarations and its fields.
@@ -115,7 +127,7 @@ pub fn check<'t>(alloc: Global, resolved: &'t Resolved<'t>) -> Result<Checked<'t
     ensures checked { IfOk result IsChecked }
 {
     let types = check_result_of(alloc, resolved)?;
-    Ok(Checked::new(resolved, types))
+    Checked::new(alloc, resolved, Cow::Owned(types))
 }
 
 /// Returns the result of checking a module. The result borrows nothing, so that it can be kept next
@@ -129,7 +141,7 @@ pub fn check_result_of<'t>(
     typed_modules_have_no_fault();
     // The proof needs this call: its contract states the module's invariant.
     let _module = resolved.module();
-    let report = report_faults(alloc, resolved)?;
+    let report = module_report(alloc, resolved)?;
     let fields = fields_from_table(alloc, resolved, &report.known)?;
     check_result_from_report(resolved, report, fields)
 }
@@ -154,7 +166,7 @@ pub fn check_result_after_body_change<'t>(
     let body = body_containing(resolved.module(), low);
     let mut bodies = before.bodies_with_faults.clone()?;
     bodies.push(body.closing)?;
-    let report = report_some_bodies(alloc, resolved, bodies.as_slice())?;
+    let report = module_report_walking_some_bodies(alloc, resolved, bodies.as_slice())?;
     let fields = fields_after_body_change(alloc, resolved, &report.known, before, low)?;
     check_result_from_report(resolved, report, fields)
 }
@@ -174,14 +186,14 @@ pub fn check_result_with_new_body<'t>(
     ensures { IfOk result (IsCheckResultOf resolved.now) }
 {
     if before.faults.is_empty() {
-        return check_result_from_new_body(alloc, resolved, before, same);
+        return check_result_by_walking_new_body(alloc, resolved, before, same);
     }
     check_result_of(alloc, resolved)
 }
 
 /// Returns the result of checking a module after the statements of one body were replaced. The
 /// module must have been valid before.
-fn check_result_from_new_body<'t>(
+fn check_result_by_walking_new_body<'t>(
     alloc: Global,
     resolved: &'t Resolved<'t>,
     before: CheckResult,
@@ -193,7 +205,7 @@ fn check_result_from_new_body<'t>(
 {
     typed_modules_have_no_fault();
     let body = body_containing(resolved.module(), same.prefix);
-    let report = report_one_body(alloc, resolved, body.closing)?;
+    let report = module_report_walking_one_body(alloc, resolved, body.closing)?;
     let fields = fields_with_new_body(alloc, resolved, &report.known, before, same)?;
     check_result_from_report(resolved, report, fields)
 }
@@ -313,29 +325,34 @@ fn fields_with_new_body<'t>(
     Ok(fields)
 }
 
-/// Returns the first 100 faults of scopes and types, sorted by start, end and code. `of_types` has
-/// the faults of types and the undeclared names. The other faults of scopes, which are duplicate
-/// declarations and wrong closing names, are added to these.
+/// Returns the first 100 faults of scopes and types, sorted by first token, last token and code.
+/// `of_types` has the faults of types and the undeclared names. The other faults of scopes, which
+/// are duplicate declarations and wrong closing names, are added to these. A token that doesn't
+/// exist counts as the last token.
 fn first_sorted_faults<'t>(
     resolved: &'t Resolved<'t>,
-    of_types: Vec<Fault>,
-) -> Result<Vec<Fault>, AllocError>
+    of_types: Vec<FaultAtTokens>,
+) -> Result<Vec<FaultAtTokens>, AllocError>
     ensures none { IfOk result (λ faults. (faults.items ≡ [])
         ↔ (of_types.items ++ filter is_duplicate_or_end_name resolved.now.faults ≡ [])) }
-    ensures few { IfOk result (λ faults. length faults.items ≤ max_faults) }
     ensures first { IfOk result (λ faults. AreFirstFaultsWhenSorted
+        (fault_cmp_by_tokens (length resolved.now.module_read.source.tokens))
         (of_types.items ++ filter is_duplicate_or_end_name resolved.now.faults) faults.items) }
 {
     let mut faults = of_types;
     add_duplicates_and_end_names(&mut faults, resolved.faults())?;
-    faults.sort_by_key(|fault| (fault.span.start, fault.span.end, fault.code))?;
+    let end = resolved.tokens().tokens().len().saturating_sub(1);
+    faults.sort_by_key(|fault| (fault.first.min(end), fault.last.min(end), fault.code))?;
     faults.truncate(MAX_FAULTS);
     Ok(faults)
 }
 
 /// Appends to `faults` the duplicate declarations and wrong closing names among the faults
 /// `scopes`, which were found when the names were bound.
-fn add_duplicates_and_end_names(faults: &mut Vec<Fault>, scopes: &[Fault]) -> Result<(), AllocError>
+fn add_duplicates_and_end_names(
+    faults: &mut Vec<FaultAtTokens>,
+    scopes: &[FaultAtTokens],
+) -> Result<(), AllocError>
     ensures { OnOk result
         (faults.new.items ≡ faults.old.items ++ filter is_duplicate_or_end_name scopes.now) }
 {
@@ -347,36 +364,52 @@ fn add_duplicates_and_end_names(faults: &mut Vec<Fault>, scopes: &[Fault]) -> Re
     Ok(())
 }
 
-/// Returns whether the fault is a duplicate declaration or field, or a wrong closing name.
-fn is_duplicate_or_end_name(fault: &Fault) -> bool
-    ensures { result ≡ is_duplicate_or_end_name fault.now }
+/// Returns the result of checking, owned or borrowed.
+fn types_in<'c, 't>(types: &'c Cow<'t, CheckResult>) -> &'c CheckResult
+    ensures { result.now ≡ cow_value types.now }
 {
-    fault.code == FaultCode::Duplicate || fault.code == FaultCode::EndName
+    match types {
+        Cow::Borrowed(types) => types,
+        Cow::Owned(types) => types,
+    }
 }
 
 impl<'t> Checked<'t> {
     ghost use Rattle.ob0_types.specs.CheckedModules.{IsCheckResultOf, IsChecked, checked_module};
 
-    /// Joins a module to the result of checking it. The `Checked` owns this result.
-    fn new(resolved: &'t Resolved<'t>, types: CheckResult) -> Checked<'t>
-        requires { IsCheckResultOf resolved.now types }
-        ensures { result ≡ checked_module resolved.now types }
+    /// Joins a module to the result of checking it, and gives the faults their spans.
+    fn new(
+        alloc: Global,
+        resolved: &'t Resolved<'t>,
+        types: Cow<'t, CheckResult>,
+    ) -> Result<Checked<'t>, AllocError>
+        requires { IsCheckResultOf resolved.now (cow_value types) }
+        ensures joined { IfOk result (λ c. c ≡ checked_module resolved.now (cow_value types)) }
+        ensures checked { IfOk result IsChecked }
     {
-        Checked {
+        let tokens = resolved.tokens();
+        // The proof needs this call: its contract states that the tokens are a scan (`IsScan`).
+        let _text = tokens.text();
+        let faults = faults_with_spans(alloc, tokens, types_in(&types).faults.as_slice())?;
+        Ok(Checked {
             resolved,
-            types: Cow::Owned(types),
-        }
+            types,
+            faults,
+        })
     }
 
-    /// Joins a module to the result of checking it. The `Checked` borrows this result.
-    pub fn from_parts(resolved: &'t Resolved<'t>, types: &'t CheckResult) -> Checked<'t>
+    /// Joins a module to the result of checking it, and gives the faults their spans. The `Checked`
+    /// borrows this result. Fails only if an allocation fails.
+    pub fn from_parts(
+        alloc: Global,
+        resolved: &'t Resolved<'t>,
+        types: &'t CheckResult,
+    ) -> Result<Checked<'t>, AllocError>
         requires { IsCheckResultOf resolved.now types.now }
-        ensures { result ≡ checked_module resolved.now types.now }
+        ensures joined { IfOk result (λ c. c ≡ checked_module resolved.now types.now) }
+        ensures checked { IfOk result IsChecked }
     {
-        Checked {
-            resolved,
-            types: Cow::Borrowed(types),
-        }
+        Checked::new(alloc, resolved, Cow::Borrowed(types))
     }
 
     /// Returns the result of checking the module.
@@ -384,10 +417,7 @@ impl<'t> Checked<'t> {
         ensures found { checked_module self.now.names result.now ≡ self.now }
         ensures types { IsCheckResultOf self.now.names result.now }
     {
-        match &self.types {
-            Cow::Borrowed(types) => types,
-            Cow::Owned(types) => types,
-        }
+        types_in(&self.types)
     }
 
     /// Returns the module with its bindings.
@@ -402,7 +432,7 @@ impl<'t> Checked<'t> {
         ensures value { result.now ≡ self.now.faults }
         ensures checked { IsChecked self.now }
     {
-        self.types().faults.as_slice()
+        self.faults.as_slice()
     }
 
     /// Returns the module as a well-typed module, with its table of declarations and its fields.
@@ -414,7 +444,7 @@ impl<'t> Checked<'t> {
         match &types.known {
             None => None,
             Some(known) => {
-                if types.faults.is_empty() {
+                if self.faults.is_empty() {
                     Some(WellTyped {
                         checked: self,
                         known,
@@ -501,14 +531,14 @@ impl<'t> WellTyped<'t> {
 
 impl<'t> Shape<'t> {
     ghost use Rattle.ob0_types_table.specs.KnownTables.{shapes_of};
-    ghost use Rattle.ob0_types_table.specs.Parts.{PartsHaveSizes, is_not_faulty, is_known_type, parts_shape};
+    ghost use Rattle.ob0_types_table.specs.TypeWithParts.{PartsHaveSizesOfShape, is_not_faulty, is_known_type, shape_of_type_with_parts};
     ghost use Rattle.ob0_types.specs.DeclaredShapes.{shape_of};
 
     /// Returns the parts of the type. The types of these parts are in the same table as the type.
     /// The result is `Faulty` exactly if the type isn't one of the module's types.
-    pub fn parts(&self) -> Parts<'t>
-        ensures shape { parts_shape (shapes_of self.now.known.now) result ≡ shape_of self.now }
-        ensures counted { PartsHaveSizes (shapes_of self.now.known.now) result }
+    pub fn parts(&self) -> TypeWithParts<'t>
+        ensures shape { shape_of_type_with_parts (shapes_of self.now.known.now) result ≡ shape_of self.now }
+        ensures counted { PartsHaveSizesOfShape (shapes_of self.now.known.now) result }
         ensures known { is_not_faulty result ≡ is_known_type self.now.known.now self.now.of }
     {
         self.known.parts(self.of)

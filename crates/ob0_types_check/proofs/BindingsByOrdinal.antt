@@ -6,7 +6,7 @@ use Rattle.std.proofs.Math.Seq.{take-append_seam}
 use Rattle.ob0_tree.specs.Tree.{Tree, block, body, declares, declares_procedure, end, formals, forms_block, is_module, item, items, maybe, module_text, more, procedure}
 use Rattle.ob0_language_names.specs.Names.{Label, Name, Naming, naming_by_label, naming_by_spelling, declared}
 use Rattle.ob0_language_names.specs.Parts.{constant_names, formal_names, formal_sections, module_block, declared_type_names, section_constants, section_types, section_variables, variable_names}
-use Rattle.ob0_language_names.specs.Scopes.{Scope, ordinal_after_block, ordinal_after_names, ordinal_after_procedure, ordinal_after_procedures, label_from_ordinal, declare_names, first_procedure_ordinal, first_type_ordinal, first_variable_ordinal, numbered, scope_before_procedures, relabel_block, relabel_formals, relabel_procedures, relabel_sections, scope_before_types, scope_before_variables}
+use Rattle.ob0_language_names.specs.Scopes.{Scope, ordinal_after_block, ordinal_after_names, ordinal_after_procedure, ordinal_after_procedures, label_from_ordinal, declare_names, first_procedure_ordinal, first_type_ordinal, first_variable_ordinal, numbered, scope_before_procedures, relabel_block, relabel_formals, relabel_procedures, relabel_parameter_sections, scope_before_types, scope_before_variables}
 use Rattle.ob0_language_names.proofs.Ordinals.{le-ordinal_after_procedure}
 use Rattle.ob0_language_names.proofs.Relabelled.{formals-section, types-section, variables-section}
 use Rattle.ob0_language_types.specs.Bindings.{block_bindings, list_if_some, module_bindings, procedure_bindings, procedures_bindings, bindings_since}
@@ -257,13 +257,13 @@ mutual
       let inner : TypeNoted Name = noted_parameters (suc k) listed own in
       let jb : ℕ = j + formals_constructor_count (formal_sections fs) in
       let jr : ℕ = j + procedure_constructor_count p in
-      let g = given-both (λ ps. ps) (label_typed (suc k)) (λ ps. typed_names ps ≡ xs) (typed_parameters naming_by_spelling env j (formal_sections fs)) (typed_parameters naming_by_label labels j (relabel_sections naming_by_spelling (label_from_ordinal naming_by_spelling) scope (suc k) (formal_sections fs)))
+      let g = given-both (λ ps. ps) (label_typed (suc k)) (λ ps. typed_names ps ≡ xs) (typed_parameters naming_by_spelling env j (formal_sections fs)) (typed_parameters naming_by_label labels j (relabel_parameter_sections naming_by_spelling (label_from_ordinal naming_by_spelling) scope (suc k) (formal_sections fs)))
       (parameters_typed naming_by_spelling j (suc k) noted (TypedBelow-weaken k (suc k) noted (le_of_lt (le_refl (suc k))) below) (formal_sections fs)) listed f.typed in
       let names_are : typed_names listed ≡ xs = ap typed_names (sym g.2) ∙ g.1 in
       let fs' : Tree Label (maybe formals) = relabel_formals naming_by_spelling (label_from_ordinal naming_by_spelling) scope (suc k) fs in
       let b' : Tree Label block = relabel_block naming_by_spelling (label_from_ordinal naming_by_spelling) (declare_names (suc k) xs ((x, k) ∷ scope)) m b in
       let rest' : Tree Label (items procedure) = relabel_procedures naming_by_spelling (label_from_ordinal naming_by_spelling) ((x, k) ∷ scope) q rest in
-      let sections : formal_sections fs' ≡ relabel_sections naming_by_spelling (label_from_ordinal naming_by_spelling) scope (suc k) (formal_sections fs) = formals-section naming_by_spelling (label_from_ordinal naming_by_spelling) scope (suc k) fs in
+      let sections : formal_sections fs' ≡ relabel_parameter_sections naming_by_spelling (label_from_ordinal naming_by_spelling) scope (suc k) (formal_sections fs) = formals-section naming_by_spelling (label_from_ordinal naming_by_spelling) scope (suc k) fs in
       let typed' : typed_parameters naming_by_label labels j (formal_sections fs') ≡ Some (label_typed (suc k) listed) = ap (typed_parameters naming_by_label labels j) sections ∙ (g.3 ∙ ap (λ ps. Some (label_typed (suc k) ps)) g.2) in
       let jb_same : j + formals_constructor_count (formal_sections fs') ≡ jb = ap (λ n. j + n) (ap formals_constructor_count sections ∙ formals_constructor_count-relabel naming_by_spelling (label_from_ordinal naming_by_spelling) scope (suc k) (formal_sections fs)) in
       let jr_same : j + procedure_constructor_count (declares_procedure (declared k) fs' b' (declared k)) ≡ jr = ap (λ n. j + n) (procedure_constructor_count-relabel naming_by_spelling (label_from_ordinal naming_by_spelling) scope k p) in

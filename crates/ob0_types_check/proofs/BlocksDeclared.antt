@@ -14,8 +14,8 @@ use Rattle.ob0_language_types.specs.Typing.{constant_value, constructor_count, d
 use Rattle.ob0_language_types.specs.WellTyped.{TypeEnvironment, bind_names, declare_typed_variables}
 use Rattle.ob0_language_values.specs.Values.{Shape, Value}
 use Rattle.ob0_types_check.specs.DeclarationFaults.{report_on_constant_declaration, report_on_constant_declarations, report_on_type_declarations, report_on_variable_declarations, report_on_type_declaration, report_on_variable_group}
-use Rattle.ob0_types_check.specs.Known.{Reported, a_constant, a_type, a_variable}
-use Rattle.ob0_types_check.specs.KnownDeclarations.{KnownDeclarations, TypeWithState, define, define_all, facts_at}
+use Rattle.ob0_types_check.specs.Known.{ResultWithFaults, a_constant, a_type, a_variable}
+use Rattle.ob0_types_check.specs.KnownDeclarations.{KnownDeclarations, TypeWithFollowingDeclarations, define_name_at_token, define_names_at_tokens, facts_at}
 use Rattle.ob0_types_check.specs.TypeFaults.{report_on_constant_expression}
 use Rattle.ob0_types_check.specs.WrittenTypeFaults.{report_on_written_type}
 use Rattle.ob0_types_check.proofs.MadeOnce.{Apart, apart_same, apart_then}
@@ -62,8 +62,8 @@ module _ (w : Numbering) (fit : PartsFit) where
   unfolding report_on_constant_declarations report_on_constant_declaration declare_constants
   constants_declare end k n p before scope env st placed h = nothing_declared w n k k refl p before scope env st
   constants_declare (more (declares_constant x e) cs) k n p before scope env st placed h =
-      let v : Reported (Option Value) = report_on_constant_expression (facts_at p true) e in
-      let q : KnownDeclarations = define p (a_constant v.known) x in
+      let v : ResultWithFaults (Option Value) = report_on_constant_expression (facts_at p true) e in
+      let q : KnownDeclarations = define_name_at_token p (a_constant v.known) x in
       let a = none-reported (v.faults ++ []) (report_on_constant_declarations q cs).faults h in
       let c = fit.constants p before (token_text_at w.source) (meanings naming_by_spelling env) e (agrees_where_seen w p true before n scope env st fit e placed.1) (none-reported v.faults [] a.0).0 in
       let given : constant_value (meanings naming_by_spelling env) (tree_with_names w.source e) ≡ Some c.value = ap (λ s. constant_value (meanings naming_by_spelling env) (mapped_tree (token_text_at w.source) (token_value_at s) e)) (sym st.source) ∙ c.given in
@@ -78,8 +78,8 @@ module _ (w : Numbering) (fit : PartsFit) where
   unfolding report_on_type_declarations report_on_type_declaration declare_types
   types_declare end k n p before scope env at st placed h = nothing_declared w n k (k + 0) (omega arith) p before scope env st
   types_declare (more (declares_type x t) ds) k n p before scope env at st placed h =
-      let u : Reported TypeWithState = report_on_written_type 0 p t in
-      let q : KnownDeclarations = define u.known.following (a_type u.known.of) x in
+      let u : ResultWithFaults TypeWithFollowingDeclarations = report_on_written_type 0 p t in
+      let q : KnownDeclarations = define_name_at_token u.known.following (a_type u.known.of) x in
       let a = none-reported (u.faults ++ []) (report_on_type_declarations q ds).faults h in
       let s = type_denotes w fit n scope env 0 k t p before (omega (arith, at)) st placed.1 (none-reported u.faults [] a.0).0 in
       let following = holds_later w n n n p u.known.following before s.after scope env (le_refl n) (le_refl n) st s.later in
@@ -104,8 +104,8 @@ module _ (w : Numbering) (fit : PartsFit) where
   variables_declare end k n p before scope env at st placed h = nothing_declared w n k (k + 0) (omega arith) p before scope env st
   variables_declare (more (declares_variable ns t) gs) k n p before scope env at st placed h =
       let xs : List ℕ = names_in_list ns in
-      let u : Reported TypeWithState = report_on_written_type 0 p t in
-      let q : KnownDeclarations = define_all u.known.following (a_variable u.known.of) xs in
+      let u : ResultWithFaults TypeWithFollowingDeclarations = report_on_written_type 0 p t in
+      let q : KnownDeclarations = define_names_at_tokens u.known.following (a_variable u.known.of) xs in
       let a = none-reported (u.faults ++ []) (report_on_variable_declarations q gs).faults h in
       let s = type_denotes w fit n scope env 0 k t p before (omega (arith, at)) st placed.1 (none-reported u.faults [] a.0).0 in
       let following = holds_later w n n n p u.known.following before s.after scope env (le_refl n) (le_refl n) st s.later in

@@ -3,6 +3,7 @@
 use Rattle.std.proofs.Common.{◌≡◌, ◌≢◌, ℕ, suc, ◌+◌, ◌<◌, ◌≤◌, Bool, true, false, ◌&&◌, List, [], ◌∷◌, ◌++◌, length, map, Option, Some, None, option_and_then, refl, sym, ap, ◌∙◌, subst, le_refl, le_trans, arith, length-append, lit<}
 use Rattle.std.proofs.lemmas.List.{length-map}
 use Rattle.std.specs.List.{filter}
+use Rattle.ob0_scan.specs.declared.fault.Fault.{Fault}
 use Rattle.ob0_tree.specs.ParsedModule.{tree_of}
 use Rattle.ob0_tree.specs.Places.{tree_with_names, token_text_at, token_value_at}
 use Rattle.ob0_tree.specs.Tree.{Tree, begins, block, body, constants, declares, declares_procedure, end, formals, forms_block, item, items, mapped_tree, maybe, more, none, one, procedure, type_definitions, variables}
@@ -17,10 +18,10 @@ use Rattle.ob0_language_types.specs.Environments.{meanings, outermost_environmen
 use Rattle.ob0_language_types.specs.Expressions as meant
 use Rattle.ob0_language_types.specs.WellTyped.{Signature, TypeEnvironment, TypedParameter, bind_typed_parameters, block_is_well_typed, body_is_well_typed, by_place, by_value, declare_typed_variables, passes_type_check, bind_procedure, option_satisfies, procedure_is_well_typed, procedures_are_well_typed, sequence_is_well_typed, typed_parameters}
 use Rattle.ob0_language_values.specs.Values.{Shape, boolean_shape, integer_shape, truth}
-use Rattle.ob0_types_check.specs.DeclarationFaults.{KnownHeading, declarations_after_heading, report_on_block, report_on_body, report_on_constant_declarations, undeclared_name_and_type_faults, report_on_procedure, report_on_procedures, report_on_parameter_sections, report_on_type_declarations, report_on_variable_declarations}
-use Rattle.ob0_types_check.specs.Known.{Meaning, Reported, a_procedure}
+use Rattle.ob0_types_check.specs.DeclarationFaults.{KnownHeading, WalkProgress, body_faults, every_body, undeclared_name_and_type_faults, report_on_block, report_on_constant_declarations, reported_module, report_on_procedure, report_on_procedures, report_on_parameter_sections, report_on_type_declarations, report_on_variable_declarations, declarations_after_heading, walk_at_start, with_declarations}
+use Rattle.ob0_types_check.specs.Known.{Meaning, ResultWithFaults, a_procedure}
 use Rattle.ob0_types_table.specs.declared.types.TypeId.{TypeId}
-use Rattle.ob0_types_check.specs.KnownDeclarations.{KnownDeclarations, state_at_start, predeclared_meanings}
+use Rattle.ob0_types_check.specs.KnownDeclarations.{KnownDeclarations, known_declarations_at_start, predeclared_meanings}
 use Rattle.ob0_types_check.proofs.PartsFitting.{PartsFit, parts_fit}
 use Rattle.ob0_types_check.specs.ModuleLaws.{ModulesWithoutFaultPassTypeCheck}
 use Rattle.ob0_types_check.proofs.DeclaredModules.{module_placed, numbering_of}
@@ -70,17 +71,12 @@ pub record HeadingKnown (w : Numbering) (n : ℕ) (p : KnownDeclarations) (befor
 block_end : (k t v p : ℕ) → k + t + v + p ≡ k + (t + (v + p))
 block_end k t v p = omega arith
 
-pub body_known : (p : KnownDeclarations) (statements : Tree ℕ (maybe body)) → (report_on_body p statements).known ≡ p
-unfolding report_on_body
-body_known p none = refl
-body_known p (one (begins statements)) = refl
-
 above : (j n : ℕ) → n < j → j ≢ n
 above j n less e = absurd (omega (arith, e, less))
 
 module _ (w : Numbering) (fit : PartsFit) where
-  pub body_reported : (statements : Tree ℕ (maybe body)) (n : ℕ) (p : KnownDeclarations) (before : List Shape) (scope : Scope Name) (env : TypeEnvironment Name) → IsKnownAt w p before n scope env → AreSeen w scope statements → (report_on_body p statements).faults ≡ [] → body_is_well_typed naming_by_spelling env (tree_with_names w.source statements) ≡ true
-  unfolding report_on_body body_is_well_typed
+  pub body_reported : (statements : Tree ℕ (maybe body)) (n : ℕ) (p : KnownDeclarations) (before : List Shape) (scope : Scope Name) (env : TypeEnvironment Name) → IsKnownAt w p before n scope env → AreSeen w scope statements → body_faults p statements ≡ [] → body_is_well_typed naming_by_spelling env (tree_with_names w.source statements) ≡ true
+  unfolding body_faults body_is_well_typed
   body_reported none n p before scope env st seen h = refl
   body_reported (one (begins s)) n p before scope env st seen h =
       ap (λ z. sequence_is_well_typed (meanings naming_by_spelling env) (mapped_tree (token_text_at w.source) (token_value_at z) s)) (sym st.source)
@@ -118,18 +114,18 @@ module _ (w : Numbering) (fit : PartsFit) where
       (subst (λ z. Declared w (first_variable_ordinal n b) (first_procedure_ordinal n b) (constructors_before_variables k nb) (constructors_before_variables k nb + variables_constructor_count z) p₂ p₃ first.after (following_variables w scope n b) (declare_typed_variables naming_by_spelling (constructors_before_variables k nb) z first.env)) (sym (variables-mapped_tree text value vs)) dv)
 
   -- A block fits if its declarations give an environment in which its procedures and statements fit.
-  block_then : (p v q : KnownDeclarations) (before : List Shape) (n m i k j l : ℕ) (scope : Scope Name) (env : TypeEnvironment Name) (given : Option (TypeEnvironment Name)) (statements : Tree ℕ (maybe body)) (test : TypeEnvironment Name → Bool) (bindings : TypeEnvironment Name → TypeEnvironment Name) → n ≤ m → (d : Declared w n m k j p v before scope given)
+  block_then : (p v q : KnownDeclarations) (before : List Shape) (n m i k j l : ℕ) (scope : Scope Name) (env : TypeEnvironment Name) (given : Option (TypeEnvironment Name)) (test : TypeEnvironment Name → Bool) (bindings : TypeEnvironment Name → TypeEnvironment Name) → n ≤ m → (d : Declared w n m k j p v before scope given)
       → BindingsKnown d.after v.declared n m (bindings_since env d.env) → FitsLater m i j l v q d.after (test d.env) (bindings d.env)
-      → FitsLater n i k l p (report_on_body q statements).known before (option_satisfies given test) (list_if_some given (λ inner. bindings inner ++ bindings_since env inner))
-  block_then p v q before n m i k j l scope env given statements test bindings le d own f =
-      subst (λ z. FitsLater n i k l p z before (option_satisfies given test) (list_if_some given (λ inner. bindings inner ++ bindings_since env inner))) (sym (body_known q statements)) (record {
+      → FitsLater n i k l p q before (option_satisfies given test) (list_if_some given (λ inner. bindings inner ++ bindings_since env inner))
+  block_then p v q before n m i k j l scope env given test bindings le d own f =
+      record {
         right = ap (λ o. option_satisfies o test) d.given_is ∙ f.right;
         after = f.after;
         apart = apart_then k j l before d.after f.after d.apart f.apart;
         later = later_then n m p v q before d.after f.after le d.later f.later;
         bound = subst (BindingsKnown f.after q.declared n i) (sym (ap (λ o. list_if_some o (λ inner. bindings inner ++ bindings_since env inner)) d.given_is))
             (bindings_both f.after q.declared n m i (bindings d.env) (bindings_since env d.env) f.bound (bindings_later d.after f.after v.declared q.declared n m m f.later.longer f.later.kept (le_refl m) (bindings_since env d.env) own));
-      })
+      }
 
   -- The parameters in a procedure's heading have types, and agree with the state after the heading, if no fault is
   -- reported for them.
@@ -187,67 +183,74 @@ module _ (w : Numbering) (fit : PartsFit) where
   mutual
     unfolding report_on_block block_is_well_typed block_bindings
 
-    pub block_reported : (b : Tree ℕ block) (k n : ℕ) (p : KnownDeclarations) (before : List Shape) (scope : Scope Name) (env : TypeEnvironment Name) → length before ≡ k → IsKnownAt w p before n scope env → BlockPlaced w scope n b → (report_on_block p b).faults ≡ []
-        → FitsLater n (ordinal_after_block n b) k (k + block_constructor_count (tree_with_names w.source b)) p (report_on_block p b).known before (block_is_well_typed naming_by_spelling env k (tree_with_names w.source b)) (block_bindings naming_by_spelling env k (tree_with_names w.source b))
-    block_reported (forms_block (declares cs ts vs ps) statements) k n p before scope env at st placed h =
+    pub block_reported : (b : Tree ℕ block) (own k n : ℕ) (v : WalkProgress) (before : List Shape) (scope : Scope Name) (env : TypeEnvironment Name) → length before ≡ k → IsKnownAt w v.so_far before n scope env → BlockPlaced w scope n b → (report_on_block every_body own v b).faults ≡ []
+        → FitsLater n (ordinal_after_block n b) k (k + block_constructor_count (tree_with_names w.source b)) v.so_far (report_on_block every_body own v b).known.so_far before (block_is_well_typed naming_by_spelling env k (tree_with_names w.source b)) (block_bindings naming_by_spelling env k (tree_with_names w.source b))
+    block_reported (forms_block (declares cs ts vs ps) statements) own k n v before scope env at st placed h =
+        let p : KnownDeclarations = v.so_far in
         let b : Tree ℕ block = forms_block (declares cs ts vs ps) statements in
         let nb : Tree Name block = tree_with_names w.source b in
         let text : ℕ → Name = token_text_at w.source in
-        let t₁ : Reported KnownDeclarations = report_on_constant_declarations p (section_constants cs) in
-        let t₂ : Reported KnownDeclarations = report_on_type_declarations t₁.known (section_types ts) in
-        let t₃ : Reported KnownDeclarations = report_on_variable_declarations t₂.known (section_variables vs) in
-        let t₄ : Reported KnownDeclarations = report_on_procedures t₃.known ps in
-        let t₅ : Reported KnownDeclarations = report_on_body t₄.known statements in
-        let a₁ = none-reported t₁.faults (t₂.faults ++ (t₃.faults ++ (t₄.faults ++ t₅.faults))) h in
-        let a₂ = none-reported t₂.faults (t₃.faults ++ (t₄.faults ++ t₅.faults)) a₁.1 in
-        let a₃ = none-reported t₃.faults (t₄.faults ++ t₅.faults) a₂.1 in
-        let a₄ = none-reported t₄.faults t₅.faults a₃.1 in
+        let t₁ : ResultWithFaults KnownDeclarations = report_on_constant_declarations p (section_constants cs) in
+        let t₂ : ResultWithFaults KnownDeclarations = report_on_type_declarations t₁.known (section_types ts) in
+        let t₃ : ResultWithFaults KnownDeclarations = report_on_variable_declarations t₂.known (section_variables vs) in
+        let v₃ : WalkProgress = with_declarations v t₃.known in
+        let t₄ : ResultWithFaults WalkProgress = report_on_procedures every_body v₃ ps in
+        let last : List Fault = body_faults t₄.known.so_far statements in
+        let a₁ = none-reported t₁.faults (t₂.faults ++ (t₃.faults ++ (t₄.faults ++ last))) h in
+        let a₂ = none-reported t₂.faults (t₃.faults ++ (t₄.faults ++ last)) a₁.1 in
+        let a₃ = none-reported t₃.faults (t₄.faults ++ last) a₂.1 in
+        let a₄ = none-reported t₄.faults last a₃.1 in
         let d = declarations_reported cs ts vs ps statements k n p before scope env at st placed.0 placed.1 placed.2 a₁.0 a₂.0 a₃.0 in
         let le : n ≤ first_procedure_ordinal n b = le_trans (le-ordinal_after_names n (constant_names (section_constants cs))) (le_trans (le-ordinal_after_names (first_type_ordinal n b) (declared_type_names (section_types ts))) (le-ordinal_after_names (first_variable_ordinal n b) (variable_names (section_variables vs)))) in
-        let rest = procedures_reported ps statements (constructors_before_procedures k nb) (first_procedure_ordinal n b) t₃.known d.after (following_variables w scope n b) d.env (omega (arith, at, d.apart.counted)) d.holds placed.3 a₄.0 a₄.1 in
+        let rest = procedures_reported ps statements (constructors_before_procedures k nb) (first_procedure_ordinal n b) v₃ d.after (following_variables w scope n b) d.env (omega (arith, at, d.apart.counted)) d.holds placed.3 a₄.0 a₄.1 in
         let l : ℕ = constructors_before_procedures k nb + procedures_constructor_count (tree_with_names w.source ps) in
         let own = sections_bind d.after t₃.known.declared (first_procedure_ordinal n b) n (first_type_ordinal n b) (first_variable_ordinal n b) (first_procedure_ordinal n b) (map text (constant_names (section_constants cs))) (map text (declared_type_names (section_types ts))) (map text (variable_names (section_variables vs))) scope env d.env
         (ordinal_after_names-map text n (constant_names (section_constants cs))) (ordinal_after_names-map text (first_type_ordinal n b) (declared_type_names (section_types ts))) (ordinal_after_names-map text (first_variable_ordinal n b) (variable_names (section_variables vs)))
         (as_long before p.declared n scope env st.names) d.holds.names in
-        subst (λ j. FitsLater n (ordinal_after_block n b) k j p (report_on_block p (forms_block (declares cs ts vs ps) statements)).known before (block_is_well_typed naming_by_spelling env k (tree_with_names w.source (forms_block (declares cs ts vs ps) statements))) (block_bindings naming_by_spelling env k (tree_with_names w.source (forms_block (declares cs ts vs ps) statements))))
+        subst (λ j. FitsLater n (ordinal_after_block n b) k j p t₄.known.so_far before (block_is_well_typed naming_by_spelling env k (tree_with_names w.source (forms_block (declares cs ts vs ps) statements))) (block_bindings naming_by_spelling env k (tree_with_names w.source (forms_block (declares cs ts vs ps) statements))))
         (block_end k (types_constructor_count (section_types (tree_with_names w.source ts))) (variables_constructor_count (section_variables (tree_with_names w.source vs))) (procedures_constructor_count (tree_with_names w.source ps)))
-        (block_then p t₃.known t₄.known before n (first_procedure_ordinal n b) (ordinal_after_block n b) k (constructors_before_procedures k nb) l (following_variables w scope n b) env (option_and_then (declare_typed_variables naming_by_spelling (constructors_before_variables k nb) (section_variables (tree_with_names w.source vs))) (declare_constants_and_types naming_by_spelling env k nb)) statements
+        (block_then p t₃.known t₄.known.so_far before n (first_procedure_ordinal n b) (ordinal_after_block n b) k (constructors_before_procedures k nb) l (following_variables w scope n b) env (option_and_then (declare_typed_variables naming_by_spelling (constructors_before_variables k nb) (section_variables (tree_with_names w.source vs))) (declare_constants_and_types naming_by_spelling env k nb))
         (λ inner. procedures_are_well_typed naming_by_spelling inner (constructors_before_procedures k nb) (tree_with_names w.source statements) (tree_with_names w.source ps)) (λ inner. procedures_bindings naming_by_spelling inner (constructors_before_procedures k nb) (tree_with_names w.source ps)) le d own rest)
 
-    procedures_reported : (ps : Tree ℕ (items procedure)) (statements : Tree ℕ (maybe body)) (k n : ℕ) (p : KnownDeclarations) (before : List Shape) (scope : Scope Name) (env : TypeEnvironment Name) → length before ≡ k → IsKnownAt w p before n scope env → ProceduresPlaced w scope n statements ps → (report_on_procedures p ps).faults ≡ []
-        → (report_on_body (report_on_procedures p ps).known statements).faults ≡ [] → FitsLater n (ordinal_after_procedures n ps) k (k + procedures_constructor_count (tree_with_names w.source ps)) p (report_on_procedures p ps).known before (procedures_are_well_typed naming_by_spelling env k (tree_with_names w.source statements) (tree_with_names w.source ps)) (procedures_bindings naming_by_spelling env k (tree_with_names w.source ps))
-    procedures_reported end statements k n p before scope env at st placed h last = record { right = body_reported statements n p before scope env st placed last; after = before; apart = apart_same k (k + 0) before (omega arith); later = later_same n p before st.table; bound = refl }
-    procedures_reported (more d rest) statements k n p before scope env at st placed h last =
+    procedures_reported : (ps : Tree ℕ (items procedure)) (statements : Tree ℕ (maybe body)) (k n : ℕ) (v : WalkProgress) (before : List Shape) (scope : Scope Name) (env : TypeEnvironment Name) → length before ≡ k → IsKnownAt w v.so_far before n scope env → ProceduresPlaced w scope n statements ps → (report_on_procedures every_body v ps).faults ≡ []
+        → body_faults (report_on_procedures every_body v ps).known.so_far statements ≡ [] → FitsLater n (ordinal_after_procedures n ps) k (k + procedures_constructor_count (tree_with_names w.source ps)) v.so_far (report_on_procedures every_body v ps).known.so_far before (procedures_are_well_typed naming_by_spelling env k (tree_with_names w.source statements) (tree_with_names w.source ps)) (procedures_bindings naming_by_spelling env k (tree_with_names w.source ps))
+    procedures_reported end statements k n v before scope env at st placed h last = record { right = body_reported statements n v.so_far before scope env st placed last; after = before; apart = apart_same k (k + 0) before (omega arith); later = later_same n v.so_far before st.table; bound = refl }
+    procedures_reported (more d rest) statements k n v before scope env at st placed h last =
         let nd : Tree Name (item procedure) = tree_with_names w.source d in
-        let q : KnownDeclarations = (report_on_procedure p d).known in
-        let a = none-reported (report_on_procedure p d).faults (report_on_procedures q rest).faults h in
-        let f = procedure_reported d k n p before scope env at st placed.0 a.0 in
-        let others = procedures_reported rest statements (k + procedure_constructor_count nd) (ordinal_after_procedure (suc n) d) q f.after (following_procedure w scope n d) (bind_procedure (procedure_name nd) f.parameters env) (omega (arith, at, f.apart.counted)) f.holds placed.1 a.1 last in
+        let u : WalkProgress = (report_on_procedure every_body v d).known in
+        let p : KnownDeclarations = v.so_far in
+        let q : KnownDeclarations = u.so_far in
+        let r : KnownDeclarations = (report_on_procedures every_body u rest).known.so_far in
+        let a = none-reported (report_on_procedure every_body v d).faults (report_on_procedures every_body u rest).faults h in
+        let f = procedure_reported d k n v before scope env at st placed.0 a.0 in
+        let others = procedures_reported rest statements (k + procedure_constructor_count nd) (ordinal_after_procedure (suc n) d) u f.after (following_procedure w scope n d) (bind_procedure (procedure_name nd) f.parameters env) (omega (arith, at, f.apart.counted)) f.holds placed.1 a.1 last in
         record {
           right = ap (λ o. option_satisfies o (λ ps. procedure_is_well_typed naming_by_spelling (bind_typed_parameters ps (bind_procedure (procedure_name nd) ps env)) k nd && procedures_are_well_typed naming_by_spelling (bind_procedure (procedure_name nd) ps env) (k + procedure_constructor_count nd) (tree_with_names w.source statements) (tree_with_names w.source rest))) f.typed
               ∙ (λ i. f.right i && others.right i);
           after = others.after;
           apart = apart_to k (k + procedure_constructor_count nd + procedures_constructor_count (tree_with_names w.source rest)) (k + (procedure_constructor_count nd + procedures_constructor_count (tree_with_names w.source rest))) before others.after (more_constructors k (procedure_constructor_count nd) (procedures_constructor_count (tree_with_names w.source rest)))
               (apart_then k (k + procedure_constructor_count nd) (k + procedure_constructor_count nd + procedures_constructor_count (tree_with_names w.source rest)) before f.after others.after f.apart others.apart);
-          later = later_then n (ordinal_after_procedure (suc n) d) p q (report_on_procedures q rest).known before f.after others.after (le_trans (next_le n) (le-ordinal_after_procedure (suc n) d)) f.later others.later;
-          bound = subst (BindingsKnown others.after (report_on_procedures q rest).known.declared n (ordinal_after_procedures n (more d rest))) (sym (procedures_bound d rest k env f.parameters f.typed f.right))
-              (bindings_both others.after (report_on_procedures q rest).known.declared n (ordinal_after_procedure (suc n) d) (ordinal_after_procedures n (more d rest)) (procedures_bindings naming_by_spelling (bind_procedure (procedure_name nd) f.parameters env) (k + procedure_constructor_count nd) (tree_with_names w.source rest)) (procedure_bindings naming_by_spelling env k nd) others.bound
-              (bindings_later f.after others.after q.declared (report_on_procedures q rest).known.declared n (ordinal_after_procedure (suc n) d) (ordinal_after_procedure (suc n) d) others.later.longer others.later.kept (le_refl (ordinal_after_procedure (suc n) d)) (procedure_bindings naming_by_spelling env k nd) f.bound));
+          later = later_then n (ordinal_after_procedure (suc n) d) p q r before f.after others.after (le_trans (next_le n) (le-ordinal_after_procedure (suc n) d)) f.later others.later;
+          bound = subst (BindingsKnown others.after r.declared n (ordinal_after_procedures n (more d rest))) (sym (procedures_bound d rest k env f.parameters f.typed f.right))
+              (bindings_both others.after r.declared n (ordinal_after_procedure (suc n) d) (ordinal_after_procedures n (more d rest)) (procedures_bindings naming_by_spelling (bind_procedure (procedure_name nd) f.parameters env) (k + procedure_constructor_count nd) (tree_with_names w.source rest)) (procedure_bindings naming_by_spelling env k nd) others.bound
+              (bindings_later f.after others.after q.declared r.declared n (ordinal_after_procedure (suc n) d) (ordinal_after_procedure (suc n) d) others.later.longer others.later.kept (le_refl (ordinal_after_procedure (suc n) d)) (procedure_bindings naming_by_spelling env k nd) f.bound));
         }
 
-    pub procedure_reported : (d : Tree ℕ (item procedure)) (k n : ℕ) (p : KnownDeclarations) (before : List Shape) (scope : Scope Name) (env : TypeEnvironment Name) → length before ≡ k → IsKnownAt w p before n scope env → ProcedurePlaced w scope n d → (report_on_procedure p d).faults ≡ []
-        → ProcedureFits w n p (report_on_procedure p d).known before scope env k d
-    procedure_reported (declares_procedure x fs b closing) k n p before scope env at st placed h =
+    pub procedure_reported : (d : Tree ℕ (item procedure)) (k n : ℕ) (v : WalkProgress) (before : List Shape) (scope : Scope Name) (env : TypeEnvironment Name) → length before ≡ k → IsKnownAt w v.so_far before n scope env → ProcedurePlaced w scope n d → (report_on_procedure every_body v d).faults ≡ []
+        → ProcedureFits w n v.so_far (report_on_procedure every_body v d).known.so_far before scope env k d
+    procedure_reported (declares_procedure x fs b closing) k n v before scope env at st placed h =
+        let p : KnownDeclarations = v.so_far in
         let d : Tree ℕ (item procedure) = declares_procedure x fs b closing in
         let text : ℕ → Name = token_text_at w.source in
         let q₁ : KnownDeclarations = heading_known p x fs in
-        let q : KnownDeclarations = (report_on_block q₁ b).known in
-        let a = none-reported (report_on_parameter_sections (record { formals = []; following = p }) (formal_sections fs)).faults (report_on_block q₁ b).faults h in
+        let inside : ResultWithFaults WalkProgress = report_on_block every_body closing (with_declarations v q₁) b in
+        let q : KnownDeclarations = inside.known.so_far in
+        let a = none-reported (report_on_parameter_sections (record { formals = []; following = p }) (formal_sections fs)).faults inside.faults h in
         let e = heading_reported x fs k n p before scope env at st placed.0 placed.1 a.0 in
         let first : ℕ = k + formals_constructor_count (formal_sections (tree_with_names w.source fs)) in
         let own : ℕ = block_constructor_count (tree_with_names w.source b) in
         let m : ℕ = ordinal_after_names (suc n) (formal_names (formal_sections fs)) in
-        let f = block_reported b first m q₁ e.after (scope_following w (suc n) (formal_names (formal_sections fs)) ((text x, n) ∷ scope)) (bind_typed_parameters e.parameters (bind_procedure (text x) e.parameters env)) (omega (arith, at, e.apart.counted)) e.inside placed.2 a.1 in
+        let f = block_reported b closing first m (with_declarations v q₁) e.after (scope_following w (suc n) (formal_names (formal_sections fs)) ((text x, n) ∷ scope)) (bind_typed_parameters e.parameters (bind_procedure (text x) e.parameters env)) (omega (arith, at, e.apart.counted)) e.inside placed.2 a.1 in
         let le : suc n ≤ m = le-ordinal_after_names (suc n) (formal_names (formal_sections fs)) in
         record {
           parameters = e.parameters;
@@ -270,7 +273,7 @@ room_first xs =
     omega (arith, length-append predeclared_meanings later, count)
 
 -- The state at the beginning of a module agrees with the predeclared names.
-pub first_holds : (r : Resolution) → IsKnownAt (numbering_of r) (state_at_start r) [] 7 (predeclared_scope naming_by_spelling) (outermost_environment naming_by_spelling)
+pub first_holds : (r : Resolution) → IsKnownAt (numbering_of r) (known_declarations_at_start r) [] 7 (predeclared_scope naming_by_spelling) (outermost_environment naming_by_spelling)
 first_holds r = record {
   source = refl;
   ordinals = refl;
@@ -319,5 +322,5 @@ pub modules_without_fault_pass_type_check-holds : ModulesWithoutFaultPassTypeChe
 unfolding undeclared_name_and_type_faults passes_type_check
 modules_without_fault_pass_type_check-holds r is h =
     let m = r.module_read in
-    let a = none-reported (filter is_undeclared_fault r.faults) (report_on_block (state_at_start r) (module_block (tree_of m))).faults h in
-    (block_reported (numbering_of r) parts_fit (module_block (tree_of m)) 0 7 (state_at_start r) [] (predeclared_scope naming_by_spelling) (outermost_environment naming_by_spelling) refl (first_holds r) (module_placed r is a.0) a.1).right
+    let a = none-reported (filter is_undeclared_fault r.faults) (reported_module every_body r).faults h in
+    (block_reported (numbering_of r) parts_fit (module_block (tree_of m)) m.closing 0 7 (walk_at_start r) [] (predeclared_scope naming_by_spelling) (outermost_environment naming_by_spelling) refl (first_holds r) (module_placed r is a.0) a.1).right

@@ -19,10 +19,10 @@ use Rattle.ob0_language_types.proofs.TypesByOrdinal.{TypeNoted, typed_by_name, t
 use Rattle.ob0_types_table.specs.declared.types.TypeId.{TypeId}
 use Rattle.ob0_language_values.specs.Values.{Shape}
 use Rattle.ob0_types_check.specs.Agreement.{DeclarationAgreesWithObject, IsKnownAndAgreesWithObject, is_standard_procedure, shape_of_type_in}
-use Rattle.ob0_types_check.specs.DeclarationFaults.{report_on_block, undeclared_name_and_type_faults}
+use Rattle.ob0_types_check.specs.DeclarationFaults.{every_body, undeclared_name_and_type_faults, reported_module, walk_at_start}
 use Rattle.ob0_types_check.specs.Known.{Meaning}
 use Rattle.ob0_types_check.specs.ModuleLaws.{WalkWithoutFaultFindsCorrectMeanings}
-use Rattle.ob0_types_check.specs.KnownDeclarations.{KnownDeclarations, state_at_start}
+use Rattle.ob0_types_check.specs.KnownDeclarations.{KnownDeclarations, known_declarations_at_start}
 use Rattle.ob0_types_check.proofs.BindingsByOrdinal.{InOrder, Ordered, module-block, module-ordered}
 use Rattle.ob0_types_check.proofs.BlocksBound.{BindingsKnown, bindings_both, bindings_later, names_bind}
 use Rattle.ob0_types_check.proofs.BlocksFit.{block_reported, first_holds, room_first}
@@ -106,12 +106,12 @@ walk_without_fault_finds_correct_meanings-holds r is h =
     let m = r.module_read in
     let b : Tree ℕ block = module_block (tree_of m) in
     let last : ℕ = ordinal_after_block 7 b in
-    let q : KnownDeclarations = (report_on_block (state_at_start r) b).known in
-    let a = none-reported (filter is_undeclared_fault r.faults) (report_on_block (state_at_start r) b).faults h in
+    let q : KnownDeclarations = (reported_module every_body r).known.so_far in
+    let a = none-reported (filter is_undeclared_fault r.faults) (reported_module every_body r).faults h in
     let st = first_holds r in
-    let f = block_reported (numbering_of r) parts_fit b 0 7 (state_at_start r) [] (predeclared_scope naming_by_spelling) (outermost_environment naming_by_spelling) refl st (module_placed r is a.0) a.1 in
+    let f = block_reported (numbering_of r) parts_fit b m.closing 0 7 (walk_at_start r) [] (predeclared_scope naming_by_spelling) (outermost_environment naming_by_spelling) refl st (module_placed r is a.0) a.1 in
     let first : BindingsKnown f.after q.declared 0 7 (outermost_environment naming_by_spelling) =
-    bindings_later [] f.after (state_at_start r).declared q.declared 0 7 7 f.later.longer f.later.kept (le_refl 7) (outermost_environment naming_by_spelling) (names_bind [] (state_at_start r).declared 7 0 7 (map naming_by_spelling.predeclared (0 ∷ 1 ∷ 2 ∷ 3 ∷ 4 ∷ 5 ∷ 6 ∷ [])) [] [] (outermost_environment naming_by_spelling) refl refl st.names) in
+    bindings_later [] f.after (known_declarations_at_start r).declared q.declared 0 7 7 f.later.longer f.later.kept (le_refl 7) (outermost_environment naming_by_spelling) (names_bind [] (known_declarations_at_start r).declared 7 0 7 (map naming_by_spelling.predeclared (0 ∷ 1 ∷ 2 ∷ 3 ∷ 4 ∷ 5 ∷ 6 ∷ [])) [] [] (outermost_environment naming_by_spelling) refl refl st.names) in
     let bound : BindingsKnown f.after q.declared 0 last (module_bindings naming_by_spelling (named_tree_of m)) =
     bindings_both f.after q.declared 0 7 last (block_bindings naming_by_spelling (outermost_environment naming_by_spelling) 0 (module_block (named_tree_of m))) (outermost_environment naming_by_spelling) f.bound first in
     let all : Ordered 0 last (module_bindings naming_by_spelling (named_tree_of m)) (module_bindings naming_by_label (numbered (named_tree_of m))) =

@@ -9,7 +9,7 @@ use Rattle.ob0_language_names.specs.Names.{Name, naming_by_spelling}
 use Rattle.ob0_language_names.specs.Parts.{formal_names, names_in_list}
 use Rattle.ob0_language_names.specs.Scopes.{Scope, ordinal_after_names, declare_names}
 use Rattle.ob0_language_names.proofs.Ordinals.{le-ordinal_after_names}
-use Rattle.ob0_types_table.specs.Tables.{mode_of}
+use Rattle.ob0_types_table.specs.DeclarationTableView.{mode_from_flag}
 use Rattle.ob0_types_table.specs.declared.types.TypeId.{TypeId}
 use Rattle.ob0_language_types.specs.Declarations.{formals_constructor_count}
 use Rattle.ob0_language_types.specs.Environments.{meanings}
@@ -18,8 +18,8 @@ use Rattle.ob0_language_types.specs.Typing.{constructor_count, denoted_type}
 use Rattle.ob0_language_types.specs.WellTyped.{Mode, Signature, TypeEnvironment, TypedParameter, bind_names, bind_typed_parameters, by_place, by_value, typed_parameters}
 use Rattle.ob0_language_values.specs.Values.{Shape}
 use Rattle.ob0_types_check.specs.DeclarationFaults.{KnownHeading, report_on_parameters, report_on_parameter_section, report_on_parameter_sections, with_parameters}
-use Rattle.ob0_types_check.specs.Known.{KnownParameter, Meaning, Reported, a_variable}
-use Rattle.ob0_types_check.specs.KnownDeclarations.{KnownDeclarations, TypeWithState, define, define_all}
+use Rattle.ob0_types_check.specs.Known.{KnownParameter, Meaning, ResultWithFaults, a_variable}
+use Rattle.ob0_types_check.specs.KnownDeclarations.{KnownDeclarations, TypeWithFollowingDeclarations, define_name_at_token, define_names_at_tokens}
 use Rattle.ob0_types_check.specs.WrittenTypeFaults.{report_on_written_type}
 use Rattle.ob0_types_check.specs.Agreement.{FormalsAgreeWithSignature, IsKnownAndAgreesWithObject, shape_of_type_in}
 use Rattle.ob0_types_check.proofs.BlocksDeclared.{more_constructors}
@@ -79,20 +79,20 @@ typed_as mode s x = record { name = x; formal = record { mode = mode; shape = s 
 abbrev pub formals_of : List (TypedParameter Name) → Signature
 formals_of ps = map (λ p. p.formal) ps
 
-formals_same : (shape : TypeId → Option Shape) (text : ℕ → Name) (by : Bool) (t : TypeId) (s : Shape) → shape t ≡ Some s → (xs : List ℕ) → FormalsAgreeWithSignature shape (map (λ x. record { by_place = by; of = t }) xs) (formals_of (map (typed_as (mode_of by) s) (map text xs)))
+formals_same : (shape : TypeId → Option Shape) (text : ℕ → Name) (by : Bool) (t : TypeId) (s : Shape) → shape t ≡ Some s → (xs : List ℕ) → FormalsAgreeWithSignature shape (map (λ x. record { by_place = by; of = t }) xs) (formals_of (map (typed_as (mode_from_flag by) s) (map text xs)))
 formals_same shape text by t s e [] = tt
 formals_same shape text by t s e (x ∷ xs) = (refl, e, formals_same shape text by t s e xs)
 
 own_known : (w : Numbering) (p : KnownDeclarations) (shapes : List Shape) (n : ℕ) (scope : Scope Name) (env : TypeEnvironment Name) (mode : Mode) (t : TypeId) (s : Shape) (xs : List ℕ) → shape_of_type_in shapes t ≡ Some s → IsKnownAt w p shapes n scope env → NamesPlaced w n xs
-    → ParametersKnown shapes (define_all p (a_variable t) xs).declared n (map (token_text_at w.source) xs) (map (typed_as mode s) (map (token_text_at w.source) xs))
+    → ParametersKnown shapes (define_names_at_tokens p (a_variable t) xs).declared n (map (token_text_at w.source) xs) (map (typed_as mode s) (map (token_text_at w.source) xs))
 own_known w p shapes n scope env mode t s [] is st placed = tt
 own_known w p shapes n scope env mode t s (x ∷ xs) is st placed =
-    let q : KnownDeclarations = define p (a_variable t) x in
+    let q : KnownDeclarations = define_name_at_token p (a_variable t) x in
     let o : meant.Object Shape Signature = meant.a_variable s in
     let d = defined w p shapes n (a_variable t) x st.ordinals st.room st.table placed.0 in
     let next = holds_defined w p q shapes n scope env (a_variable t) (token_text_at w.source x) o st d refl (s, is, refl) in
     let rest = all_defined w q shapes (suc n) ((token_text_at w.source x, n) ∷ scope) ((token_text_at w.source x, o) ∷ env) (a_variable t) xs o next placed.1 refl (s, is, refl) in
-    let slot : slice_index_or (define_all q (a_variable t) xs).declared n None ≡ Some (a_variable t) = rest.later.kept n (le_refl (suc n)) ∙ d.here in (
+    let slot : slice_index_or (define_names_at_tokens q (a_variable t) xs).declared n None ≡ Some (a_variable t) = rest.later.kept n (le_refl (suc n)) ∙ d.here in (
       refl,
       subst (λ z. IsKnownAndAgreesWithObject (shape_of_type_in shapes) z (Some o)) (sym slot) (s, is, refl),
       own_known w q shapes (suc n) ((token_text_at w.source x, n) ∷ scope) ((token_text_at w.source x, o) ∷ env) mode t s xs is next placed.1,
@@ -122,9 +122,9 @@ pub record OneType (w : Numbering) (n m k l : ℕ) (h g : KnownHeading) (before 
 
 module _ (w : Numbering) (fit : PartsFit) where
   pub one_type : (by : Bool) (xs : List ℕ) (t : Tree ℕ written_type) (k n : ℕ) (h : KnownHeading) (before : List Shape) (scope : Scope Name) (env : TypeEnvironment Name) → length before ≡ k → IsKnownAt w h.following before n scope env → NamesPlaced w n xs → AreSeen w scope t → (report_on_written_type 0 h.following t).faults ≡ []
-      → OneType w n (ordinal_after_names n xs) k (k + constructor_count (tree_with_names w.source t)) h (with_parameters h by xs (report_on_written_type 0 h.following t).known) before (scope_following w n xs scope) env (mode_of by) (map (token_text_at w.source) xs) (denoted_type (meanings naming_by_spelling env) k (tree_with_names w.source t))
+      → OneType w n (ordinal_after_names n xs) k (k + constructor_count (tree_with_names w.source t)) h (with_parameters h by xs (report_on_written_type 0 h.following t).known) before (scope_following w n xs scope) env (mode_from_flag by) (map (token_text_at w.source) xs) (denoted_type (meanings naming_by_spelling env) k (tree_with_names w.source t))
   one_type by xs t k n h before scope env at st placed seen none =
-      let u : TypeWithState = (report_on_written_type 0 h.following t).known in
+      let u : TypeWithFollowingDeclarations = (report_on_written_type 0 h.following t).known in
       let s = type_denotes w fit n scope env 0 k t h.following before (omega (arith, at)) st seen none in
       let following = holds_later w n n n h.following u.following before s.after scope env (le_refl n) (le_refl n) st s.later in
       let all = all_defined w u.following s.after n scope env (a_variable u.of) xs (meant.a_variable s.shape) following placed refl (s.shape, s.known, refl) in
@@ -133,10 +133,10 @@ module _ (w : Numbering) (fit : PartsFit) where
         given_is = s.given_is;
         after = s.after;
         apart = s.apart;
-        later = later_then n n h.following u.following (define_all u.following (a_variable u.of) xs) before s.after s.after (le_refl n) s.later all.later;
+        later = later_then n n h.following u.following (define_names_at_tokens u.following (a_variable u.of) xs) before s.after s.after (le_refl n) s.later all.later;
         holds = all.holds;
-        own = own_known w u.following s.after n scope env (mode_of by) u.of s.shape xs s.known following placed;
-        formals = λ signature agree. formals_both (shape_of_type_in s.after) h.formals (map (λ x. record { by_place = by; of = u.of }) xs) signature (formals_of (map (typed_as (mode_of by) s.shape) (map (token_text_at w.source) xs)))
+        own = own_known w u.following s.after n scope env (mode_from_flag by) u.of s.shape xs s.known following placed;
+        formals = λ signature agree. formals_both (shape_of_type_in s.after) h.formals (map (λ x. record { by_place = by; of = u.of }) xs) signature (formals_of (map (typed_as (mode_from_flag by) s.shape) (map (token_text_at w.source) xs)))
             (formals_kept before s.after s.later.longer h.formals signature agree) (formals_same (shape_of_type_in s.after) (token_text_at w.source) by u.of s.shape s.known xs);
       }
 
@@ -177,7 +177,7 @@ module _ (w : Numbering) (fit : PartsFit) where
   }
   sections_declare (more (then_section (value_section ns t)) fs) k n h before scope env at st placed none =
       let xs : List ℕ = names_in_list ns in
-      let u : Reported TypeWithState = report_on_written_type 0 h.following t in
+      let u : ResultWithFaults TypeWithFollowingDeclarations = report_on_written_type 0 h.following t in
       let g : KnownHeading = with_parameters h false xs u.known in
       let a = none-reported (u.faults ++ []) (report_on_parameter_sections g fs).faults none in
       let one = one_type false xs t k n h before scope env at st placed.0 placed.1 (none-reported u.faults [] a.0).0 in
@@ -189,7 +189,7 @@ module _ (w : Numbering) (fit : PartsFit) where
       (λ e. typed_parameters naming_by_spelling e (k + constructor_count (tree_with_names w.source t)) (tree_with_names w.source fs)) (names_in_list-mapped_tree (token_text_at w.source) (token_value_at w.source) ns) one rest)
   sections_declare (more (then_section (variable_section ns t)) fs) k n h before scope env at st placed none =
       let xs : List ℕ = names_in_list ns in
-      let u : Reported TypeWithState = report_on_written_type 0 h.following t in
+      let u : ResultWithFaults TypeWithFollowingDeclarations = report_on_written_type 0 h.following t in
       let g : KnownHeading = with_parameters h true xs u.known in
       let a = none-reported (u.faults ++ []) (report_on_parameter_sections g fs).faults none in
       let one = one_type true xs t k n h before scope env at st placed.0 placed.1 (none-reported u.faults [] a.0).0 in

@@ -15,7 +15,7 @@ use Rattle.ob0_language_types.specs.Declarations.{constructors_before_variables,
 use Rattle.ob0_language_types.specs.Environments.{environment_from_binding, meanings, newest_object, outermost_environment}
 use Rattle.ob0_language_types.specs.Expressions.{Object, a_constant, a_type, a_variable}
 use Rattle.ob0_language_types.specs.Typing.{constant_value, constructor_count, denoted_type}
-use Rattle.ob0_language_types.specs.WellTyped.{Signature, TypeEnvironment, TypedParameter, bind_names, bind_typed_parameters, block_is_well_typed, body_is_well_typed, declare_typed_variables, passes_type_check, bind_procedure, procedure_is_well_typed, procedures_are_well_typed, section_mode, typed_parameters}
+use Rattle.ob0_language_types.specs.WellTyped.{Signature, TypeEnvironment, TypedParameter, bind_names, bind_typed_parameters, block_is_well_typed, body_is_well_typed, declare_typed_variables, passes_type_check, bind_procedure, procedure_is_well_typed, procedures_are_well_typed, parameter_section_mode, typed_parameters}
 use Rattle.ob0_language_types.proofs.Proved.{numbering_keeps_type_check-holds}
 use Rattle.ob0_language_types.proofs.Conditions.{hold-true}
 use Rattle.ob0_language_values.specs.Values.{Shape}
@@ -56,7 +56,7 @@ module _ {N : Type 0} (P : N → Type 0) (naming : Naming N) (bound : (env : Typ
   sections-bound end k env ps h = tt
   sections-bound (more (then_section f) fs) k env ps h =
       let inner : Shape → TypeEnvironment N = λ s. bind_names (parameter_section_names f) (a_variable s) env in
-      let own : Shape → List (TypedParameter N) = λ s. map (λ x. record { name = x; formal = record { mode = section_mode f; shape = s } }) (parameter_section_names f) in
+      let own : Shape → List (TypedParameter N) = λ s. map (λ x. record { name = x; formal = record { mode = parameter_section_mode f; shape = s } }) (parameter_section_names f) in
       let (s, hs, later) = and-then (λ s. option_and_then (λ rest. Some (own s ++ rest)) (typed_parameters naming (inner s) (k + constructor_count (parameter_section_type f)) fs)) (denoted_type (meanings naming env) k (parameter_section_type f)) ps h in
       let (rest, hr, last) = and-then (λ rest. Some (own s ++ rest)) (typed_parameters naming (inner s) (k + constructor_count (parameter_section_type f)) fs) ps later in
       each-of-both P (occurrences f) (occurrences fs) (section-bound f (type-bound P (meanings naming env) (bound env) k (parameter_section_type f) s hs))

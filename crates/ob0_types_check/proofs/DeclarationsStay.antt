@@ -2,23 +2,21 @@
 -- Both versions have the same final state, and that state determines the object of each declaration.
 use Rattle.std.proofs.Common.{◌≡◌, ℕ, Bool, true, false, nat_lt, List, [], ◌∷◌, ◌++◌, slice_index_or, Option, Some, None, refl, sym, ap, ◌∙◌, subst, ltb-true, ltb-false}
 use Rattle.ob0_language_names.specs.Names.{Name}
-use Rattle.ob0_language_names.specs.Parts.{module_block}
 use Rattle.ob0_language_types.specs.Bindings.{declared_object}
 use Rattle.ob0_language_types.specs.Expressions as meant
 use Rattle.ob0_language_types.specs.WellTyped.{Signature}
 use Rattle.ob0_language_values.specs.Values.{FieldShapes, Shape, array_shape, next_field_shape, no_field_shape, record_shape}
 use Rattle.ob0_scope_table.specs.Resolution.{IsResolution, Resolution}
-use Rattle.ob0_tree.specs.ParsedModule.{named_tree_of, tree_of}
+use Rattle.ob0_tree.specs.ParsedModule.{named_tree_of}
 use Rattle.ob0_tree.specs.Tree.{Tree, module_text}
 use Rattle.ob0_types_table.specs.declared.types.TypeId.{TypeId}
 use Rattle.ob0_types_check.specs.Agreement.{DeclarationAgreesWithObject, EntriesAgreeWithShapes, FieldsAgreeWithShapes, FormalsAgreeWithSignature, PartsAgreeWithShape, TableAgreesWithShapes, is_standard_procedure, shape_of_type_in}
-use Rattle.ob0_types_check.specs.DeclarationFaults.{report_on_block, undeclared_name_and_type_faults}
-use Rattle.ob0_types_check.specs.Known.{KnownParameter, Meaning, Reported, a_constant, a_procedure, a_type, a_variable}
+use Rattle.ob0_types_check.specs.DeclarationFaults.{every_body, undeclared_name_and_type_faults, reported_module}
+use Rattle.ob0_types_check.specs.Known.{KnownParameter, Meaning, a_constant, a_procedure, a_type, a_variable}
 use Rattle.ob0_types_check.specs.ModuleLaws.{KnowsDeclarations}
-use Rattle.ob0_types_check.specs.KnownDeclarations.{KnownField, CompositeType, PartTypes, KnownDeclarations, state_at_start, of_elements, of_fields}
-use Rattle.ob0_types_check.specs.SomeBodies.{IncludesChangedAndFaultyBodies, every_body, report_on_module_with_wanted_bodies}
+use Rattle.ob0_types_check.specs.KnownDeclarations.{KnownField, CompositeType, PartTypes, KnownDeclarations, of_elements, of_fields}
+use Rattle.ob0_types_check.specs.SomeBodies.{IncludesChangedAndFaultyBodies}
 use Rattle.ob0_types_check.proofs.BlocksKnown.{walk_without_fault_finds_correct_meanings-holds}
-use Rattle.ob0_types_check.proofs.ReportedWith.{module_forgets}
 use Rattle.ob0_types_check.proofs.SomeBodies.{IsKnownAlike, known_alike}
 use Rattle.ob0_types_check.proofs.TableKnown.{procedure_there}
 use Rattle.ob0_types_check.proofs.Unreported.{some-same}
@@ -92,17 +90,12 @@ module _ (p q : KnownDeclarations) (m n : Tree Name module_text) (h : KnowsDecla
 
 -- returns the state at the end of a module
 abbrev last_known : Resolution → KnownDeclarations
-last_known r = (report_on_block (state_at_start r) (module_block (tree_of r.module_read))).known
-
-as_walked : (r : Resolution) → last_known r ≡ (report_on_module_with_wanted_bodies every_body r).known.so_far
-as_walked r = sym (ap (λ (t : Reported KnownDeclarations). t.known) (module_forgets r))
+last_known r = (reported_module every_body r).known.so_far
 
 pub declarations_stay : (wanted : ℕ → Bool) (r : Resolution) → IsResolution r → (w : IncludesChangedAndFaultyBodies wanted r) → undeclared_name_and_type_faults w.old ≡ [] → undeclared_name_and_type_faults r ≡ []
     → (k : ℕ) → declared_object (named_tree_of r.module_read) k ≡ declared_object (named_tree_of w.old.module_read) k
 declarations_stay wanted r is w none_before none =
     let old = w.old in
     let alike : IsKnownAlike old r = known_alike wanted r is w in
-    let after = as_walked r ∙ alike.after in
-    let before = as_walked old ∙ alike.before in
     declared_alike (last_known r) (last_known old) (named_tree_of r.module_read) (named_tree_of old.module_read) (walk_without_fault_finds_correct_meanings-holds r is none) (walk_without_fault_finds_correct_meanings-holds old w.resolved none_before)
-    (ap (λ (p : KnownDeclarations). p.declared) after ∙ sym (ap (λ (p : KnownDeclarations). p.declared) before)) (ap (λ (p : KnownDeclarations). p.made) after ∙ sym (ap (λ (p : KnownDeclarations). p.made) before))
+    (ap (λ (p : KnownDeclarations). p.declared) alike.after ∙ sym (ap (λ (p : KnownDeclarations). p.declared) alike.before)) (ap (λ (p : KnownDeclarations). p.made) alike.after ∙ sym (ap (λ (p : KnownDeclarations). p.made) alike.before))

@@ -15,15 +15,15 @@ use Rattle.ob0_tree.specs.declared.tree.Role.{Role}
 use Rattle.ob0_tree.specs.declared.tree.Role.TheVariants as role
 use Rattle.ob0_language_names.specs.Names.{Name, naming_by_spelling, same_name}
 use Rattle.ob0_scope_table.specs.Resolution.{ordinal_in}
-use Rattle.ob0_language_names.specs.Scopes.{Scope, ordinal_after_names, ordinal_of}
+use Rattle.ob0_language_names.specs.Scopes.{Scope, ordinal_after_names, ordinal_in_scope}
 use Rattle.ob0_types_table.specs.declared.types.TypeId.{TypeId}
 use Rattle.ob0_language_types.specs.Environments.{environment_from_binding, meanings, newest_object}
 use Rattle.ob0_language_types.specs.Expressions as meant
 use Rattle.ob0_language_types.specs.WellTyped.{Signature, TypeEnvironment, bind_names}
 use Rattle.ob0_language_values.specs.Values.{Shape}
 use Rattle.ob0_types_check.specs.Known.{KnownParameter, Meaning, a_constant, a_procedure, a_type, a_variable}
-use Rattle.ob0_types_check.specs.KnownDeclarations.{KnownDeclarations, define, define_all, facts_at, with_meaning}
-use Rattle.ob0_types_check.specs.Agreement.{TypesAndMeaningsAgree, FormalsAgreeWithSignature, MeaningAgreesWithObject, IsKnownAndAgreesWithObject, TableAgreesWithShapes, TokensAgreeWithLabels, is_standard_procedure, shape_of_type_in}
+use Rattle.ob0_types_check.specs.KnownDeclarations.{KnownDeclarations, define_name_at_token, define_names_at_tokens, facts_at, with_meaning}
+use Rattle.ob0_types_check.specs.Agreement.{FactsAgreeWithShapesAndLabels, FormalsAgreeWithSignature, MeaningAgreesWithObject, IsKnownAndAgreesWithObject, TableAgreesWithShapes, TokensAgreeWithLabels, is_standard_procedure, shape_of_type_in}
 use Rattle.ob0_types_check.proofs.PartsFitting.{PartsFit}
 use Rattle.ob0_types_check.proofs.DeclaredNames.{AreSeen, Each, IsPlaced, IsSeen, NamesPlaced, Numbering, scope_following}
 use Rattle.ob0_types_check.proofs.DeclaredShapes.{Longer, longer_same, longer_then}
@@ -74,14 +74,14 @@ first_found : (shapes : List Shape) (declared : List (Option (Meaning TypeId))) 
 first_found shapes declared j k c env below true o h next e = subst (λ i. IsKnownAndAgreesWithObject (shape_of_type_in shapes) (slice_index_or declared i None) (Some c.1)) (ap (λ u. elim u [ None ↦ j | Some i ↦ i ]) e) h
 first_found shapes declared j k c env below false o h next e = next e
 
-name_found : (shapes : List Shape) (declared : List (Option (Meaning TypeId))) (n : ℕ) (scope : Scope Name) (env : TypeEnvironment Name) → NamesKnown shapes declared n scope env → (x : Name) (k : ℕ) → ordinal_of naming_by_spelling scope x ≡ Some k
+name_found : (shapes : List Shape) (declared : List (Option (Meaning TypeId))) (n : ℕ) (scope : Scope Name) (env : TypeEnvironment Name) → NamesKnown shapes declared n scope env → (x : Name) (k : ℕ) → ordinal_in_scope naming_by_spelling scope x ≡ Some k
     → IsKnownAndAgreesWithObject (shape_of_type_in shapes) (slice_index_or declared k None) (newest_object (environment_from_binding naming_by_spelling env x))
 name_found shapes declared n [] [] h x k e = absurd (cc)
 name_found shapes declared n [] (c ∷ env) h x k e = absurd h
 name_found shapes declared n (b ∷ scope) [] h x k e = absurd h
 name_found shapes declared n (b ∷ scope) (c ∷ env) h x k e =
     subst (λ v. FoundAlike shapes declared (elim v [ true ↦ c ∷ env | false ↦ environment_from_binding naming_by_spelling env x ]) k) (ap (same_name x) (sym h.1))
-    (first_found shapes declared b.1 k c env (environment_from_binding naming_by_spelling env x) (same_name x b.0) (ordinal_of naming_by_spelling scope x) h.2 (name_found shapes declared n scope env h.4 x k) e)
+    (first_found shapes declared b.1 k c env (environment_from_binding naming_by_spelling env x) (same_name x b.0) (ordinal_in_scope naming_by_spelling scope x) h.2 (name_found shapes declared n scope env h.4 x k) e)
 
 -- holds if the state at a place agrees with the scope and the environment there; `n` is the next ordinal
 pub record IsKnownAt (w : Numbering) (p : KnownDeclarations) (shapes : List Shape) (n : ℕ) (scope : Scope Name) (env : TypeEnvironment Name) : Type 0 where
@@ -126,7 +126,7 @@ holds_later w n m l p q before after scope env le up h f = record {
 }
 
 -- Defining a name sets the declaration with its ordinal.
-with_one : (p : KnownDeclarations) (m : Meaning TypeId) (token k : ℕ) → ordinal_in p.ordinals token ≡ Some k → define p m token ≡ record { source = p.source; ordinals = p.ordinals; declared = slice_set p.declared k (Some m); made = p.made }
+with_one : (p : KnownDeclarations) (m : Meaning TypeId) (token k : ℕ) → ordinal_in p.ordinals token ≡ Some k → define_name_at_token p m token ≡ record { source = p.source; ordinals = p.ordinals; declared = slice_set p.declared k (Some m); made = p.made }
 with_one p m token k e = ap (with_meaning p m) e
 
 apart : (k n : ℕ) → k < n → k ≢ n
@@ -140,7 +140,7 @@ pub record Defined (w : Numbering) (p q : KnownDeclarations) (shapes : List Shap
   pub here : slice_index_or q.declared n None ≡ Some m
   pub others : (k : ℕ) → k ≢ n → slice_index_or q.declared k None ≡ slice_index_or p.declared k None
 
-pub defined : (w : Numbering) (p : KnownDeclarations) (shapes : List Shape) (n : ℕ) (m : Meaning TypeId) (x : ℕ) → p.ordinals ≡ w.ordinals → length p.declared ≡ w.room → TableAgreesWithShapes p.made shapes → IsPlaced w n x → Defined w p (define p m x) shapes n m
+pub defined : (w : Numbering) (p : KnownDeclarations) (shapes : List Shape) (n : ℕ) (m : Meaning TypeId) (x : ℕ) → p.ordinals ≡ w.ordinals → length p.declared ≡ w.room → TableAgreesWithShapes p.made shapes → IsPlaced w n x → Defined w p (define_name_at_token p m x) shapes n m
 defined w p shapes n m x ordinals room table placed =
     let q : KnownDeclarations = record { source = p.source; ordinals = p.ordinals; declared = slice_set p.declared n (Some m); made = p.made } in
     let at : ordinal_in p.ordinals x ≡ Some n = ap (λ o. ordinal_in o x) ordinals ∙ placed.0 in
@@ -186,7 +186,7 @@ module _ (w : Numbering) (p : KnownDeclarations) (only_constants : Bool) (shapes
   tokens_agree ((role.FieldName, x) ∷ xs) seen = (ap (λ s. token_text_at s x) (sym h.source), tokens_agree xs seen)
   tokens_agree ((role.ModuleName, x) ∷ xs) seen = (tt, tokens_agree xs seen)
 
-  pub agrees_where_seen : {s : Sort} → PartsFit → (t : Tree ℕ s) → AreSeen w scope t → TypesAndMeaningsAgree (facts_at p only_constants) (shape_of_type_in shapes) (token_text_at w.source) (meanings naming_by_spelling env) t
+  pub agrees_where_seen : {s : Sort} → PartsFit → (t : Tree ℕ s) → AreSeen w scope t → FactsAgreeWithShapesAndLabels (facts_at p only_constants) (shape_of_type_in shapes) (token_text_at w.source) (meanings naming_by_spelling env) t
   agrees_where_seen fit t seen = record {
     types = fit.tables p.made shapes h.table;
     tokens = tokens_agree (identifiers role.Declaring t) (subst (Each (IsSeen w scope)) (sym (looked_up-occurrences role.Declaring (λ x xs. refl) t)) seen);
@@ -199,13 +199,13 @@ pub record AllDefined (w : Numbering) (p q : KnownDeclarations) (shapes : List S
   pub holds : IsKnownAt w q shapes m scope env
 
 pub all_defined : (w : Numbering) (p : KnownDeclarations) (shapes : List Shape) (n : ℕ) (scope : Scope Name) (env : TypeEnvironment Name) (m : Meaning TypeId) (xs : List ℕ) (o : meant.Object Shape Signature) → IsKnownAt w p shapes n scope env → NamesPlaced w n xs → is_standard_procedure (Some o) ≡ false → MeaningAgreesWithObject (shape_of_type_in shapes) m (Some o)
-    → AllDefined w p (define_all p m xs) shapes n (ordinal_after_names n xs) (scope_following w n xs scope) (bind_names (map (token_text_at w.source) xs) o env)
+    → AllDefined w p (define_names_at_tokens p m xs) shapes n (ordinal_after_names n xs) (scope_following w n xs scope) (bind_names (map (token_text_at w.source) xs) o env)
 all_defined w p shapes n scope env m [] o h placed own agrees = record { later = later_same n p shapes h.table; holds = h }
 all_defined w p shapes n scope env m (x ∷ xs) o h placed own agrees =
     let one = defined w p shapes n m x h.ordinals h.room h.table placed.0 in
-    let first = holds_defined w p (define p m x) shapes n scope env m (token_text_at w.source x) o h one own agrees in
-    let rest = all_defined w (define p m x) shapes (suc n) ((token_text_at w.source x, n) ∷ scope) ((token_text_at w.source x, o) ∷ env) m xs o first placed.1 own agrees in
+    let first = holds_defined w p (define_name_at_token p m x) shapes n scope env m (token_text_at w.source x) o h one own agrees in
+    let rest = all_defined w (define_name_at_token p m x) shapes (suc n) ((token_text_at w.source x, n) ∷ scope) ((token_text_at w.source x, o) ∷ env) m xs o first placed.1 own agrees in
     record {
-      later = later_then n (suc n) p (define p m x) (define_all (define p m x) m xs) shapes shapes shapes (le_of_lt (le_refl (suc n))) one.later rest.later;
+      later = later_then n (suc n) p (define_name_at_token p m x) (define_names_at_tokens (define_name_at_token p m x) m xs) shapes shapes shapes (le_of_lt (le_refl (suc n))) one.later rest.later;
       holds = rest.holds;
     }

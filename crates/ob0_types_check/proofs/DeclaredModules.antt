@@ -2,7 +2,6 @@
 use Rattle.std.proofs.Common.{◌≡◌, ℕ, suc, ◌+◌, Option, Some, None, List, [], ◌∷◌, ◌++◌, map, length, refl, sym, ap, ◌∙◌, arith, length-append, if◌then◌else◌}
 use Rattle.std.specs.List.{filter}
 use Rattle.ob0_scan.specs.declared.fault.FaultCode.TheVariants as code
-use Rattle.ob0_scan.specs.declared.fault.Fault.{Fault}
 use Rattle.ob0_tree.specs.declared.tree.Role.{Role}
 use Rattle.ob0_tree.specs.declared.tree.Role.TheVariants as role
 use Rattle.ob0_tree.specs.ParsedModule.{tree_of}
@@ -10,7 +9,9 @@ use Rattle.ob0_tree.specs.Places.{token_text_at}
 use Rattle.ob0_tree.specs.Tree.{Tree, block, constant, constants, declares, declares_constant, declares_constants, declares_procedure, declares_type, declares_types, declares_variable, declares_variables, end, formals, further_name, further_section, forms_block, identifiers, item, items, listed, maybe, more, names, no_formals, none, occurrences, one, procedure, section, some_formals, then_name, then_section, type_definition, type_definitions, value_section, variable, variable_section, variables}
 use Rattle.ob0_language_names.specs.Names.{naming_by_spelling}
 use Rattle.ob0_language_names.specs.Parts.{constant_names, formal_names, formal_sections, further_names, module_block, declared_type_names, names_in_list, section_constants, parameter_section_names, section_types, section_variables, variable_names}
-use Rattle.ob0_scope_table.specs.Resolution.{IsResolution, Resolution, declaring_names, is_undeclared_fault, is_unbound, label_at, ordinal_in, span_at, undeclared_faults_by_labels}
+use Rattle.ob0_scope_table.specs.Resolution.{IsResolution, Resolution, declaring_names, is_undeclared_fault, is_unbound, label_from_table, ordinal_in, undeclared_faults_by_labels}
+use Rattle.ob0_scope_table.specs.FaultsAtTokens.{fault_at_token}
+use Rattle.ob0_scope_table.specs.declared.faults.FaultAtTokens.{FaultAtTokens}
 use Rattle.ob0_language_names.specs.Scopes.{ordinal_after_block, ordinal_after_names, ordinal_after_procedure, ordinal_after_procedures, label_from_ordinal, predeclared_scope}
 use Rattle.ob0_scope_table.proofs.Bound.{bindings_by_table}
 use Rattle.ob0_language_names.proofs.Ordinals.{ordinal_after_names-append}
@@ -102,15 +103,15 @@ mutual
       first (both (counts_formals (suc k) fs) (both (counts_block j b) (closing_last (ordinal_after_block j b) closing)))
 
 -- If no name is reported as undeclared, each name is bound.
-one_bound : (n : Numbering) (x : ℕ) (xs : List ℕ) (later : List Fault) (o : Option ℕ) (f : Fault) → ordinal_in n.ordinals x ≡ o → (later ≡ [] → Each (IsBound n) xs)
+one_bound : (n : Numbering) (x : ℕ) (xs : List ℕ) (later : List FaultAtTokens) (o : Option ℕ) (f : FaultAtTokens) → ordinal_in n.ordinals x ≡ o → (later ≡ [] → Each (IsBound n) xs)
     → (if is_unbound (label_from_ordinal naming_by_spelling o (token_text_at n.source x)) then f ∷ later else later) ≡ [] → Each (IsBound n) (x ∷ xs)
 one_bound n x xs later None f h others e = absurd (cc)
 one_bound n x xs later (Some k) f h others e = ((k, h), others e)
 
-all_bound : (n : Numbering) (xs : List ℕ) → undeclared_faults_by_labels n.source xs (map (label_at n.source n.ordinals) xs) ≡ [] → Each (IsBound n) xs
+all_bound : (n : Numbering) (xs : List ℕ) → undeclared_faults_by_labels xs (map (label_from_table n.source n.ordinals) xs) ≡ [] → Each (IsBound n) xs
 all_bound n [] e = tt
 all_bound n (x ∷ xs) e =
-    one_bound n x xs (undeclared_faults_by_labels n.source xs (map (label_at n.source n.ordinals) xs)) (ordinal_in n.ordinals x) (record { code = code.Undeclared; span = span_at n.source x }) refl (all_bound n xs) e
+    one_bound n x xs (undeclared_faults_by_labels xs (map (label_from_table n.source n.ordinals) xs)) (ordinal_in n.ordinals x) (fault_at_token code.Undeclared x) refl (all_bound n xs) e
 
 -- returns the numbering of a resolved module's names
 abbrev pub numbering_of : Resolution → Numbering
@@ -129,6 +130,6 @@ module_placed r is nothing =
     let m = r.module_read in
     let n : Numbering = numbering_of r in
     let b : Tree ℕ block = module_block (tree_of m) in
-    let bound : undeclared_faults_by_labels m.source (occurrences (tree_of m)) (map (label_at m.source r.ordinals) (occurrences (tree_of m))) ≡ [] =
-    ap (undeclared_faults_by_labels m.source (occurrences (tree_of m))) (sym (bindings_by_table m r.ordinals is.numbering)) ∙ (sym is.reported.undeclared ∙ nothing) in
+    let bound : undeclared_faults_by_labels (occurrences (tree_of m)) (map (label_from_table m.source r.ordinals) (occurrences (tree_of m))) ≡ [] =
+    ap (undeclared_faults_by_labels (occurrences (tree_of m))) (sym (bindings_by_table m r.ordinals is.numbering)) ∙ (sym is.reported.undeclared ∙ nothing) in
     block_placed n (predeclared_scope naming_by_spelling) 7 b (ap module_block is.binding) (all_bound n (occurrences b) bound) (omega (arith, module_counted r is))

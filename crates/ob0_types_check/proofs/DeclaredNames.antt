@@ -6,13 +6,12 @@ use Rattle.std.proofs.Common.{◌≡◌, ℕ, suc, ◌<◌, ◌≤◌, Option, S
 use Rattle.std.proofs.lemmas.List.{map-append}
 use Rattle.ob0_scan.specs.TextWithTokens.{TextWithTokens}
 use Rattle.ob0_tree.specs.Places.{tree_with_names, token_text_at, token_value_at}
-use Rattle.ob0_tree.specs.Tree.{Item, Sort, Tree, block, body, constant, constants, declares, declares_constant, declares_constants, declares_procedure, declares_type, declares_types, declares_variable, declares_variables, end, expression, formals, further_name, further_section, forms_block, item, items, listed, mapped_tree, maybe, more, names, no_formals, none, occurrences, one, procedure, section, some_formals, then_name, then_section, type_definition, type_definitions, value_section, variable, variable_section, variables, written_type}
+use Rattle.ob0_tree.specs.Tree.{GrammarItem, Sort, Tree, block, body, constant, constants, declares, declares_constant, declares_constants, declares_procedure, declares_type, declares_types, declares_variable, declares_variables, end, expression, formals, further_name, further_section, forms_block, item, items, listed, mapped_tree, maybe, more, names, no_formals, none, occurrences, one, procedure, section, some_formals, then_name, then_section, type_definition, type_definitions, value_section, variable, variable_section, variables, written_type}
 use Rattle.ob0_language_names.specs.Names.{Name, naming_by_spelling}
 use Rattle.ob0_language_names.specs.Parts.{block_constants, block_procedures, block_statements, block_types, block_variables, constant_names, formal_names, formal_sections, further_names, declared_type_names, names_in_list, procedure_block, procedure_formals, procedure_name, section_constants, parameter_section_names, parameter_section_type, section_types, section_variables, variable_names}
 use Rattle.ob0_scope_table.specs.Resolution.{ordinal_and_spelling_at, ordinal_in, ordinal_and_spelling}
-use Rattle.ob0_language_names.specs.Scopes.{Scope, ordinal_after_block, ordinal_after_names, ordinal_after_procedure, ordinal_after_procedures, declare_names, declare_procedure_names, first_procedure_ordinal, first_type_ordinal, first_variable_ordinal, labels_of_declared_names, label_of, ordinal_of, scope_before_procedures, relabel_block, relabel_constants, relabel_procedure, relabel_procedures, relabel_sections, relabel_types, relabel_uses, relabel_variables, scope_before_types, scope_before_variables}
-use Rattle.ob0_language_names.proofs.OccurrenceNames.{occurrences-map_names}
-use Rattle.ob0_language_names.proofs.OccurrencesMapped.{occurrences-mapped_tree}
+use Rattle.ob0_language_names.specs.Scopes.{Scope, ordinal_after_block, ordinal_after_names, ordinal_after_procedure, ordinal_after_procedures, declare_names, declare_procedure_names, first_procedure_ordinal, first_type_ordinal, first_variable_ordinal, labels_of_declared_names, label_of, ordinal_in_scope, scope_before_procedures, relabel_block, relabel_constants, relabel_procedure, relabel_procedures, relabel_parameter_sections, relabel_types, relabel_uses, relabel_variables, scope_before_types, scope_before_variables}
+use Rattle.ob0_language_names.proofs.OccurrencesMapped.{occurrences-mapped}
 use Rattle.ob0_language_names.proofs.Ordinals.{ordinal_after_names-append, le-ordinal_after_block, le-ordinal_after_names, le-ordinal_after_procedures}
 use Rattle.ob0_language_names.proofs.Peeling.{heads}
 use Rattle.ob0_language_names.proofs.Relabelled.{constants-section, formals-section, names-relabel, parameter_section_names-relabel, parameter_section_type-relabel, types-section, variables-section}
@@ -39,11 +38,11 @@ map-twice f g [] = refl
 map-twice f g (x ∷ xs) = λ i. f (g x) ∷ map-twice f g xs i
 
 -- returns the first item of a list, or `d` if it is empty; the next ones return other parts of lists and declarations
-abbrev first_of : {N : Type 0} {i : Item} → Tree N (item i) → Tree N (items i) → Tree N (item i)
+abbrev first_of : {N : Type 0} {i : GrammarItem} → Tree N (item i) → Tree N (items i) → Tree N (item i)
 first_of d end = d
 first_of d (more t ts) = t
 
-abbrev rest_of : {N : Type 0} {i : Item} → Tree N (items i) → Tree N (items i)
+abbrev rest_of : {N : Type 0} {i : GrammarItem} → Tree N (items i) → Tree N (items i)
 rest_of end = end
 rest_of (more t ts) = ts
 
@@ -182,7 +181,7 @@ abbrev pub IsBound : Numbering → ℕ → Type 0
 IsBound n x = (k : ℕ) × (ordinal_in n.ordinals x ≡ Some k)
 
 abbrev pub IsSeen : Numbering → Scope Name → ℕ → Type 0
-IsSeen n scope x = (k : ℕ) × (ordinal_in n.ordinals x ≡ Some k) × (ordinal_of naming_by_spelling scope (token_text_at n.source x) ≡ Some k)
+IsSeen n scope x = (k : ℕ) × (ordinal_in n.ordinals x ≡ Some k) × (ordinal_in_scope naming_by_spelling scope (token_text_at n.source x) ≡ Some k)
 
 abbrev pub AreSeen : {s : Sort} → Numbering → Scope Name → Tree ℕ s → Type 0
 AreSeen n scope t = Each (IsSeen n scope) (occurrences t)
@@ -260,9 +259,9 @@ module _ (n : Numbering) where
       let text : ℕ → Name = token_text_at n.source in
       let bound : ℕ → Option ℕ × Name = ordinal_and_spelling_at n.source n.ordinals in
       let left : occurrences (relabel_uses naming_by_spelling ordinal_and_spelling scope (tree_with_names n.source t)) ≡ map (λ x. look (text x)) (occurrences t) =
-      occurrences-map_names look (ordinal_and_spelling None) (tree_with_names n.source t) ∙ (ap (map look) (occurrences-mapped_tree text (token_value_at n.source) t) ∙ map-twice look text (occurrences t)) in
+      occurrences-mapped look (ordinal_and_spelling None) (λ n. n) (tree_with_names n.source t) ∙ (ap (map look) (occurrences-mapped text text (token_value_at n.source) t) ∙ map-twice look text (occurrences t)) in
       each_with (λ x. look (text x) ≡ bound x) (IsBound n) (IsSeen n scope) (seen scope) (occurrences t)
-      (each_same (λ x. look (text x)) bound (occurrences t) (sym left ∙ (ap occurrences e ∙ occurrences-mapped_tree bound (token_value_at n.source) t))) all
+      (each_same (λ x. look (text x)) bound (occurrences t) (sym left ∙ (ap occurrences e ∙ occurrences-mapped bound bound (token_value_at n.source) t))) all
 
   names_placed : (k : ℕ) (xs : List ℕ) → labels_of_declared_names ordinal_and_spelling k (map (token_text_at n.source) xs) ≡ map (ordinal_and_spelling_at n.source n.ordinals) xs → ordinal_after_names k xs ≤ n.room → NamesPlaced n k xs
   names_placed k [] e room = tt
@@ -309,7 +308,7 @@ module _ (n : Numbering) where
   section_occurrences (value_section ns t) = refl
   section_occurrences (variable_section ns t) = refl
 
-  sections_placed : (scope : Scope Name) (k : ℕ) (fs : Tree ℕ (items further_section)) → relabel_sections naming_by_spelling ordinal_and_spelling scope k (tree_with_names n.source fs) ≡ bound_by fs → Each (IsBound n) (occurrences fs) → ordinal_after_names k (formal_names fs) ≤ n.room → SectionsPlaced n scope k fs
+  sections_placed : (scope : Scope Name) (k : ℕ) (fs : Tree ℕ (items further_section)) → relabel_parameter_sections naming_by_spelling ordinal_and_spelling scope k (tree_with_names n.source fs) ≡ bound_by fs → Each (IsBound n) (occurrences fs) → ordinal_after_names k (formal_names fs) ≤ n.room → SectionsPlaced n scope k fs
   sections_placed scope k end e all room = tt
   sections_placed scope k (more (then_section f) fs) e all room =
       let text : ℕ → Name = token_text_at n.source in
@@ -321,8 +320,8 @@ module _ (n : Numbering) where
       sym (parameter_section_names-relabel naming_by_spelling ordinal_and_spelling scope k (tree_with_names n.source f) ∙ ap (labels_of_declared_names ordinal_and_spelling k) own) ∙ (ap parameter_section_names first ∙ parameter_section_names-mapped_tree (ordinal_and_spelling_at n.source n.ordinals) (token_value_at n.source) f) in
       let sided : relabel_uses naming_by_spelling ordinal_and_spelling scope (tree_with_names n.source (parameter_section_type f)) ≡ bound_by (parameter_section_type f) =
       sym (parameter_section_type-relabel naming_by_spelling ordinal_and_spelling scope k (tree_with_names n.source f) ∙ ap (relabel_uses naming_by_spelling ordinal_and_spelling scope) (parameter_section_type-mapped_tree text (token_value_at n.source) f)) ∙ (ap parameter_section_type first ∙ parameter_section_type-mapped_tree (ordinal_and_spelling_at n.source n.ordinals) (token_value_at n.source) f) in
-      let rest : relabel_sections naming_by_spelling ordinal_and_spelling (scope_following n k (parameter_section_names f) scope) (ordinal_after_names k (parameter_section_names f)) (tree_with_names n.source fs) ≡ bound_by fs =
-      sym (λ i. relabel_sections naming_by_spelling ordinal_and_spelling (declare_names k (own i) scope) (after-mapped_tree text k k (parameter_section_names f) (parameter_section_names (tree_with_names n.source f)) own refl i) (tree_with_names n.source fs)) ∙ ap rest_of e in (
+      let rest : relabel_parameter_sections naming_by_spelling ordinal_and_spelling (scope_following n k (parameter_section_names f) scope) (ordinal_after_names k (parameter_section_names f)) (tree_with_names n.source fs) ≡ bound_by fs =
+      sym (λ i. relabel_parameter_sections naming_by_spelling ordinal_and_spelling (declare_names k (own i) scope) (after-mapped_tree text k k (parameter_section_names f) (parameter_section_names (tree_with_names n.source f)) own refl i) (tree_with_names n.source fs)) ∙ ap rest_of e in (
         names_placed k (parameter_section_names f) labels (le_trans (le-ordinal_after_names (ordinal_after_names k (parameter_section_names f)) (formal_names fs)) following),
         uses_seen scope (parameter_section_type f) sided (subst (Each (IsBound n)) (section_occurrences f) parts.0),
         sections_placed (scope_following n k (parameter_section_names f) scope) (ordinal_after_names k (parameter_section_names f)) fs rest parts.1 following,
@@ -405,8 +404,8 @@ module _ (n : Numbering) where
         let own : formal_names (formal_sections (tree_with_names n.source fs)) ≡ map text (formal_names (formal_sections fs)) = formals-names text value fs in
         let next : ordinal_after_names (suc k) (formal_names (formal_sections (tree_with_names n.source fs))) ≡ ordinal_after_names (suc k) (formal_names (formal_sections fs)) = after-mapped_tree text (suc k) (suc k) (formal_names (formal_sections fs)) (formal_names (formal_sections (tree_with_names n.source fs))) own refl in
         let inner : ordinal_after_names (suc k) (formal_names (formal_sections fs)) ≤ n.room = le_trans (le-ordinal_after_block (ordinal_after_names (suc k) (formal_names (formal_sections fs))) b) room in
-        let of_formals : relabel_sections naming_by_spelling ordinal_and_spelling scope (suc k) (tree_with_names n.source (formal_sections fs)) ≡ bound_by (formal_sections fs) =
-        sym (formals-section naming_by_spelling ordinal_and_spelling scope (suc k) (tree_with_names n.source fs) ∙ ap (relabel_sections naming_by_spelling ordinal_and_spelling scope (suc k)) (formals-mapped_tree text value fs)) ∙ (ap procedure_formals e ∙ formals-mapped_tree (ordinal_and_spelling_at n.source n.ordinals) value fs) in
+        let of_formals : relabel_parameter_sections naming_by_spelling ordinal_and_spelling scope (suc k) (tree_with_names n.source (formal_sections fs)) ≡ bound_by (formal_sections fs) =
+        sym (formals-section naming_by_spelling ordinal_and_spelling scope (suc k) (tree_with_names n.source fs) ∙ ap (relabel_parameter_sections naming_by_spelling ordinal_and_spelling scope (suc k)) (formals-mapped_tree text value fs)) ∙ (ap procedure_formals e ∙ formals-mapped_tree (ordinal_and_spelling_at n.source n.ordinals) value fs) in
         let of_block : relabel_block naming_by_spelling ordinal_and_spelling (inside_procedure n scope k p) (ordinal_after_names (suc k) (formal_names (formal_sections fs))) (tree_with_names n.source b) ≡ bound_by b =
         sym (λ i. relabel_block naming_by_spelling ordinal_and_spelling (declare_names (suc k) (own i) (following_procedure n scope k p)) (next i) (tree_with_names n.source b)) ∙ ap procedure_block e in (
           (ap (λ (q : Tree (Option ℕ × Name) (item procedure)). (procedure_name q).0) (sym e), le_trans (le-ordinal_after_names (suc k) (formal_names (formal_sections fs))) inner),

@@ -11,7 +11,7 @@ use Rattle.ob0_language_types.specs.Typing.{depth, field_depth, field_scalars, s
 use Rattle.ob0_language_values.specs.Values.{FieldShapes, Shape, array_shape, boolean_shape, integer_shape, next_field_shape, no_field_shape, record_shape}
 use Rattle.ob0_types_check.specs.KnownDeclarations.{CompositeType, PartTypes, Size, KnownField, is_within_limits, of_elements, of_fields, scalar_size, size_of_type_so_far, composite_size}
 use Rattle.ob0_types_check.specs.WrittenTypeFaults.{KnownFields, array_size, record_size, with_known_field, with_known_fields}
-use Rattle.ob0_types_check.specs.Agreement.{EntriesAgreeWithShapes, FieldsAgreeWithShapes, CompositeAgreesWithShape, PartsAgreeWithShape, TableAgreesWithShapes, as_array, as_record, shape_of_type_in}
+use Rattle.ob0_types_check.specs.Agreement.{EntriesAgreeWithShapes, FieldsAgreeWithShapes, CompositeAgreesWithShape, PartsAgreeWithShape, TableAgreesWithShapes, shape_if_array, shape_if_record, shape_of_type_in}
 
 -- holds if each type that has a shape in `before` has the same shape in `after`
 abbrev pub Longer : List Shape → List Shape → Type 0
@@ -31,8 +31,8 @@ got_before (x ∷ xs) ys (suc i) f s e = got_before xs ys i f s e
 pub longer_more : (shapes later : List Shape) → Longer shapes (shapes ++ later)
 longer_more shapes later type.Integer s e = e
 longer_more shapes later type.Boolean s e = e
-longer_more shapes later (type.Array i) s e = got_before shapes later i as_array s e
-longer_more shapes later (type.Record i) s e = got_before shapes later i as_record s e
+longer_more shapes later (type.Array i) s e = got_before shapes later i shape_if_array s e
+longer_more shapes later (type.Record i) s e = got_before shapes later i shape_if_record s e
 longer_more shapes later type.Unknown s e = absurd (cc)
 
 pub fields_kept : (before after : List Shape) → Longer before after → (fields : List KnownField) (fs : FieldShapes) → FieldsAgreeWithShapes (shape_of_type_in before) fields fs → FieldsAgreeWithShapes (shape_of_type_in after) fields fs
@@ -75,10 +75,10 @@ last_shape (x ∷ shapes) zero s e = absurd (cc)
 last_shape (x ∷ shapes) (suc n) s e = last_shape shapes n s (omega (arith, e))
 
 pub last_array : (ms : List CompositeType) (shapes : List Shape) (k n : ℕ) (u : Shape) → TableAgreesWithShapes ms shapes → shape_of_type_in (shapes ++ array_shape k n u ∷ []) (type.Array (length ms)) ≡ Some (array_shape k n u)
-last_array ms shapes k n u h = ap (option_and_then as_array) (last_shape shapes (length ms) (array_shape k n u) (table_long ms shapes h))
+last_array ms shapes k n u h = ap (option_and_then shape_if_array) (last_shape shapes (length ms) (array_shape k n u) (table_long ms shapes h))
 
 pub last_record : (ms : List CompositeType) (shapes : List Shape) (k : ℕ) (fs : FieldShapes) → TableAgreesWithShapes ms shapes → shape_of_type_in (shapes ++ record_shape k fs ∷ []) (type.Record (length ms)) ≡ Some (record_shape k fs)
-last_record ms shapes k fs h = ap (option_and_then as_record) (last_shape shapes (length ms) (record_shape k fs) (table_long ms shapes h))
+last_record ms shapes k fs h = ap (option_and_then shape_if_record) (last_shape shapes (length ms) (record_shape k fs) (table_long ms shapes h))
 
 -- holds if a size is the size of a shape
 pub record SizeAgrees (z : Size) (s : Shape) : Type 0 where
@@ -94,13 +94,13 @@ pub record Entered (m : Option CompositeType) (s : Shape) : Type 0 where
 some_same : (x y : Shape) → Some x ≡ Some y → x ≡ y
 some_same x y e = ap (λ o. elim o [ None ↦ x | Some z ↦ z ]) e
 
-array_is : (x s : Shape) → as_array x ≡ Some s → x ≡ s
+array_is : (x s : Shape) → shape_if_array x ≡ Some s → x ≡ s
 array_is integer_shape s e = absurd (cc)
 array_is boolean_shape s e = absurd (cc)
 array_is (array_shape k n u) s e = some_same (array_shape k n u) s e
 array_is (record_shape k fs) s e = absurd (cc)
 
-record_is : (x s : Shape) → as_record x ≡ Some s → x ≡ s
+record_is : (x s : Shape) → shape_if_record x ≡ Some s → x ≡ s
 record_is integer_shape s e = absurd (cc)
 record_is boolean_shape s e = absurd (cc)
 record_is (array_shape k n u) s e = absurd (cc)
@@ -119,8 +119,8 @@ sized s h = subst (λ o. SizeAgrees (composite_size o) s) (sym h.there) h.sizes
 pub size_agrees : (ms : List CompositeType) (shapes : List Shape) (t : TypeId) (s : Shape) → TableAgreesWithShapes ms shapes → shape_of_type_in shapes t ≡ Some s → SizeAgrees (size_of_type_so_far ms t) s
 size_agrees ms shapes type.Integer s h e = subst (SizeAgrees scalar_size) (some_same integer_shape s e) (record { scalars_are = refl; depth_is = refl })
 size_agrees ms shapes type.Boolean s h e = subst (SizeAgrees scalar_size) (some_same boolean_shape s e) (record { scalars_are = refl; depth_is = refl })
-size_agrees ms shapes (type.Array i) s h e = sized s (entered [] as_array array_is ms shapes i s h e)
-size_agrees ms shapes (type.Record i) s h e = sized s (entered [] as_record record_is ms shapes i s h e)
+size_agrees ms shapes (type.Array i) s h e = sized s (entered [] shape_if_array array_is ms shapes i s h e)
+size_agrees ms shapes (type.Record i) s h e = sized s (entered [] shape_if_record record_is ms shapes i s h e)
 size_agrees ms shapes type.Unknown s h e = absurd (cc)
 
 pub is_limited : (z : Size) (s : Shape) → SizeAgrees z s → is_within_limits z ≡ true → type_within_limits s ≡ Some s

@@ -14,9 +14,9 @@ use Rattle.ob0_language_types.specs.Typing.{array_length, constant_value, denote
 use Rattle.ob0_language_types.specs.WellTyped.{Signature, TypeEnvironment}
 use Rattle.ob0_language_values.specs.Values.{FieldShapes, Shape, Value, array_shape, no_field_shape, record_shape}
 use Rattle.ob0_types_check.specs.ExpressionFaults.{report_on_expression}
-use Rattle.ob0_types_check.specs.Known.{Meaning, Operand, Reported, a_constant, a_procedure, a_type, a_variable}
+use Rattle.ob0_types_check.specs.Known.{Meaning, Operand, ResultWithFaults, a_constant, a_procedure, a_type, a_variable}
 use Rattle.ob0_types_check.specs.Operations.{without_fault}
-use Rattle.ob0_types_check.specs.KnownDeclarations.{PartTypes, Size, KnownDeclarations, TypeWithState, facts_at, is_within_limits, append_composite, make_type, of_elements, of_fields, size_of_type_so_far, report_on_too_large_type, type_at_index}
+use Rattle.ob0_types_check.specs.KnownDeclarations.{PartTypes, Size, KnownDeclarations, TypeWithFollowingDeclarations, facts_at, is_within_limits, append_composite, make_composite_type, of_elements, of_fields, size_of_type_so_far, report_on_too_large_type, type_at_index}
 use Rattle.ob0_types_check.specs.TypeFaults.{length_by_operand, type_by_meaning}
 use Rattle.ob0_types_check.specs.WrittenTypeFaults.{KnownFields, made_array_type, array_size, with_field_group, no_known_fields, made_record_type, record_size, record_keyword_token, report_on_field_group, report_on_further_field_groups, next_type_ordinal, report_on_written_type, with_known_field, with_known_fields, token_before_group}
 use Rattle.ob0_types_check.specs.Agreement.{PartsAgreeWithShape, IsKnownAndAgreesWithObject, TableAgreesWithShapes, shape_of_type_in}
@@ -30,7 +30,7 @@ use Rattle.ob0_types_check.proofs.Unreported.{none-reported}
 
 -- Holds if a type's text denotes a shape and the state after it agrees with this shape. `k` is the ordinal of its first
 -- word ARRAY or RECORD, and `l` the next ordinal after its last.
-pub record Denotes (n : ℕ) (p : KnownDeclarations) (before : List Shape) (k l : ℕ) (given : Option Shape) (u : TypeWithState) : Type 0 where
+pub record Denotes (n : ℕ) (p : KnownDeclarations) (before : List Shape) (k l : ℕ) (given : Option Shape) (u : TypeWithFollowingDeclarations) : Type 0 where
   pub shape : Shape
   pub given_is : given ≡ Some shape
   pub after : List Shape
@@ -48,12 +48,12 @@ named_denotes n w p before k l last token (Some (a_variable t)) o table alike e 
 named_denotes n w p before k l last token (Some (a_procedure fs)) o table alike e = absurd (cc)
 
 -- holds if an array or a record denotes a shape within the limits
-pub record MadeDenotes (n : ℕ) (p : KnownDeclarations) (before : List Shape) (k l : ℕ) (s : Shape) (u : TypeWithState) : Type 0 where
+pub record MadeDenotes (n : ℕ) (p : KnownDeclarations) (before : List Shape) (k l : ℕ) (s : Shape) (u : TypeWithFollowingDeclarations) : Type 0 where
   pub limited : type_within_limits s ≡ Some s
   pub denotes : Denotes n p before k l (Some s) u
 
 made_denotes : (n : ℕ) (p q : KnownDeclarations) (before mid : List Shape) (k l word ordinal : ℕ) (parts : PartTypes) (size : Size) (s : Shape) → ordinal ≡ k → ordinal_of_shape s ≡ Some k → Apart (suc k) l before mid → Later n p q before mid → PartsAgreeWithShape (shape_of_type_in mid) k parts s → SizeAgrees size s → shape_of_type_in (mid ++ s ∷ []) (type_at_index parts (length q.made)) ≡ Some s
-    → (make_type q word ordinal parts size).faults ≡ [] → MadeDenotes n p before k l s (make_type q word ordinal parts size).known
+    → (make_composite_type q word ordinal parts size).faults ≡ [] → MadeDenotes n p before k l s (make_composite_type q word ordinal parts size).known
 made_denotes n p q before mid k l word ordinal parts size s here number own later agrees sized last none =
     by_size (is_within_limits size) refl none
   where
@@ -79,7 +79,7 @@ made_denotes n p q before mid k l word ordinal parts size s here number own late
     }
 
 -- An array denotes a shape if the type of its elements denotes one and no fault is reported for the array.
-array_denotes : (n : ℕ) (p : KnownDeclarations) (before : List Shape) (k l ordinal count : ℕ) (o : Operand TypeId) (given : Option Shape) (u : TypeWithState) → ordinal ≡ k → Denotes n p before (suc k) l given u → (made_array_type ordinal o (Some count) u).faults ≡ []
+array_denotes : (n : ℕ) (p : KnownDeclarations) (before : List Shape) (k l ordinal count : ℕ) (o : Operand TypeId) (given : Option Shape) (u : TypeWithFollowingDeclarations) → ordinal ≡ k → Denotes n p before (suc k) l given u → (made_array_type ordinal o (Some count) u).faults ≡ []
     → Denotes n p before k l (option_and_then (λ s. type_within_limits (array_shape k count s)) given) (made_array_type ordinal o (Some count) u).known
 array_denotes n p before k l ordinal count o given u here d none =
     let s : Shape = array_shape k count d.shape in
@@ -94,7 +94,7 @@ array_denotes n p before k l ordinal count o given u here d none =
       known = m.denotes.known;
     }
 
-sized_array : (n : ℕ) (p : KnownDeclarations) (before : List Shape) (k l ordinal : ℕ) (o : Operand TypeId) (reported : Option ℕ) (count : ℕ) (given : Option Shape) (u : TypeWithState) → reported ≡ Some count → ordinal ≡ k → Denotes n p before (suc k) l given u → (made_array_type ordinal o reported u).faults ≡ []
+sized_array : (n : ℕ) (p : KnownDeclarations) (before : List Shape) (k l ordinal : ℕ) (o : Operand TypeId) (reported : Option ℕ) (count : ℕ) (given : Option Shape) (u : TypeWithFollowingDeclarations) → reported ≡ Some count → ordinal ≡ k → Denotes n p before (suc k) l given u → (made_array_type ordinal o reported u).faults ≡ []
     → Denotes n p before k l (option_and_then (λ s. type_within_limits (array_shape k count s)) given) (made_array_type ordinal o reported u).known
 sized_array n p before k l ordinal o reported count given u e here d none =
     subst (λ z. (made_array_type ordinal o z u).faults ≡ [] → Denotes n p before k l (option_and_then (λ s. type_within_limits (array_shape k count s)) given) (made_array_type ordinal o z u).known) (sym e) (array_denotes n p before k l ordinal count o given u here d) none
@@ -121,7 +121,7 @@ names_following t g [] = refl
 names_following t g (x ∷ xs) = names_following t (with_known_field t g x) xs
 
 -- Fields of one type have shapes if their type denotes one.
-names_gather : (n : ℕ) (w : Numbering) (g : KnownFields) (before : List Shape) (k l : ℕ) (first : FieldShapes) (xs : List ℕ) (ys : List Name) (given : Option Shape) (u : TypeWithState) → g.following.source ≡ w.source → ys ≡ map (token_text_at w.source) xs → GatheredAgrees before g first → Denotes n g.following before k l given u
+names_gather : (n : ℕ) (w : Numbering) (g : KnownFields) (before : List Shape) (k l : ℕ) (first : FieldShapes) (xs : List ℕ) (ys : List Name) (given : Option Shape) (u : TypeWithFollowingDeclarations) → g.following.source ≡ w.source → ys ≡ map (token_text_at w.source) xs → GatheredAgrees before g first → Denotes n g.following before k l given u
     → GroupGathers n g.following before k l first (λ later. option_and_then (λ s. Some (prepend_fields ys s later)) given) (with_field_group g xs u)
 names_gather n w g before k l first xs ys given u source texts h d =
     let own : FieldShapes = prepend_fields ys d.shape no_field_shape in
@@ -211,8 +211,8 @@ module _ (w : Numbering) (fit : PartsFit) (n : ℕ) (scope : Scope Name) (env : 
     type_denotes around k (array_type e u) p before at st seen h =
         let parts = each_part (IsSeen w scope) (occurrences e) (occurrences u) seen in
         let o : Operand TypeId = (report_on_expression (facts_at p true) e).known in
-        let l : Reported (Option ℕ) = length_by_operand (facts_at p false) o in
-        let el : Reported TypeWithState = report_on_written_type (suc around) p u in
+        let l : ResultWithFaults (Option ℕ) = length_by_operand (facts_at p false) o in
+        let el : ResultWithFaults TypeWithFollowingDeclarations = report_on_written_type (suc around) p u in
         let ordinal : ℕ = next_type_ordinal around p in
         let here : ordinal ≡ k = omega (arith, table_long p.made before st.table, at) in
         let a = none-reported (report_on_expression (facts_at p true) e).faults (l.faults ++ (el.faults ++ (made_array_type ordinal o l.known el.known).faults)) h in
@@ -229,8 +229,8 @@ module _ (w : Numbering) (fit : PartsFit) (n : ℕ) (scope : Scope Name) (env : 
         let word : ℕ = token_before_group g (record_keyword_token rest) in
         let ordinal : ℕ = next_type_ordinal around p in
         let here : ordinal ≡ k = omega (arith, table_long p.made before st.table, at) in
-        let first : Reported KnownFields = report_on_field_group (suc around) (no_known_fields p) g in
-        let all : Reported KnownFields = report_on_further_field_groups (suc around) first.known rest in
+        let first : ResultWithFaults KnownFields = report_on_field_group (suc around) (no_known_fields p) g in
+        let all : ResultWithFaults KnownFields = report_on_further_field_groups (suc around) first.known rest in
         let a = none-reported first.faults (all.faults ++ (made_record_type word ordinal all.known).faults) h in
         let b = none-reported all.faults (made_record_type word ordinal all.known).faults a.1 in
         let one = group_gathers (suc around) (suc k) g (no_known_fields p) before no_field_shape (omega (arith, at)) st parts.0 (nothing_agrees before p) a.0 in
@@ -246,7 +246,7 @@ module _ (w : Numbering) (fit : PartsFit) (n : ℕ) (scope : Scope Name) (env : 
         → GroupGathers n g.following before k (k + group_constructor_count (tree_with_names w.source t)) first (λ ys. denoted_group_fields (meanings naming_by_spelling env) k ys (tree_with_names w.source t)) (report_on_field_group around g t).known
     group_gathers around k no_fields g before first at st seen agrees h = record { own = no_field_shape; given_is = λ ys. refl; gathers = nothing_more n g before k (k + 0) (omega arith) first st.table agrees }
     group_gathers around k (some_fields ns t) g before first at st seen agrees h =
-        let u : Reported TypeWithState = report_on_written_type around g.following t in
+        let u : ResultWithFaults TypeWithFollowingDeclarations = report_on_written_type around g.following t in
         let d = type_denotes around k t g.following before at st seen (none-reported u.faults [] h).0 in
         names_gather n w g before k (k + constructor_count (tree_with_names w.source t)) first (names_in_list ns) (map (λ x. x) (names_in_list (tree_with_names w.source ns))) (denoted_type (meanings naming_by_spelling env) k (tree_with_names w.source t)) u.known st.source
         (map-same (names_in_list (tree_with_names w.source ns)) ∙ names_in_list-mapped_tree (token_text_at w.source) (token_value_at w.source) ns) agrees d
@@ -256,8 +256,8 @@ module _ (w : Numbering) (fit : PartsFit) (n : ℕ) (scope : Scope Name) (env : 
     groups_gather around k end g before first at st seen agrees h = record { own = no_field_shape; given_is = refl; gathers = nothing_more n g before k (k + 0) (omega arith) first st.table agrees }
     groups_gather around k (more (then_fields f) rest) g before first at st seen agrees h =
         let parts = each_part (IsSeen w scope) (occurrences f) (occurrences rest) seen in
-        let next : Reported KnownFields = report_on_field_group around g f in
-        let all : Reported KnownFields = report_on_further_field_groups around next.known rest in
+        let next : ResultWithFaults KnownFields = report_on_field_group around g f in
+        let all : ResultWithFaults KnownFields = report_on_further_field_groups around next.known rest in
         let a = none-reported next.faults all.faults h in
         let one = group_gathers around k f g before first at st parts.0 agrees a.0 in
         let later = holds_later w n n n g.following next.known.following before one.gathers.after scope env (le_refl n) (le_refl n) st one.gathers.later in

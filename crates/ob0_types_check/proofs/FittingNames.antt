@@ -35,8 +35,8 @@ module _ {T : Type 0} (facts : Facts T) (shape : T → Option Shape) (types : Ty
   constant-fits x (members k ms) h = absurd (cc)
 
   variable-fits : {P : Type 0} (x : ℕ) (t : T) (s : Shape) → shape t ≡ Some s → (b : Bool)
-      → (if b then record { known = typed_name_operand facts.types.unknown x; faults = fault_at_token facts code.NotConstant x } else without_fault (typed_name_operand t x)).faults ≡ []
-      → RunObjectAgrees {P = P} shape (if b then record { known = typed_name_operand facts.types.unknown x; faults = fault_at_token facts code.NotConstant x } else without_fault (typed_name_operand t x)).known (Some (meant.a_variable s))
+      → (if b then record { known = typed_name_operand facts.types.unknown x; faults = fault_at_token code.NotConstant x } else without_fault (typed_name_operand t x)).faults ≡ []
+      → RunObjectAgrees {P = P} shape (if b then record { known = typed_name_operand facts.types.unknown x; faults = fault_at_token code.NotConstant x } else without_fault (typed_name_operand t x)).known (Some (meant.a_variable s))
   variable-fits x t s known true h = absurd (cc)
   variable-fits x t s known false h = record { fits = record { of = s; known = known; typed = refl; value_agrees = refl; scalar = none-of s }; placed = λ e. refl }
 
@@ -51,7 +51,7 @@ module _ {T : Type 0} (facts : Facts T) (shape : T → Option Shape) (types : Ty
 
   -- The operand of a name in a constant expression, in which names may only refer to constants, has the type and value
   -- of its object.
-  no-variable : (x : ℕ) (t : T) (b : Bool) → b ≡ true → (if b then record { known = typed_name_operand facts.types.unknown x; faults = fault_at_token facts code.NotConstant x } else without_fault (typed_name_operand t x)).faults ≡ [] → ⊥
+  no-variable : (x : ℕ) (t : T) (b : Bool) → b ≡ true → (if b then record { known = typed_name_operand facts.types.unknown x; faults = fault_at_token code.NotConstant x } else without_fault (typed_name_operand t x)).faults ≡ [] → ⊥
   no-variable x t true only h = cc
   no-variable x t false only h = true≢false (sym only)
 

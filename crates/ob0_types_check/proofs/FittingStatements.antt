@@ -2,7 +2,7 @@
 use Rattle.std.proofs.Common.{◌≡◌, ℕ, Bool, true, false, ◌&&◌, not, nat_eq, List, [], ◌∷◌, ◌++◌, length, map, Option, Some, None, if◌then◌else◌, refl, sym, ap, ◌∙◌, arith, eqb-true}
 use Rattle.std.proofs.lemmas.Bool.{and_from}
 use Rattle.ob0_scan.specs.declared.fault.FaultCode.TheVariants as code
-use Rattle.ob0_types_table.specs.Tables.{mode_of}
+use Rattle.ob0_types_table.specs.DeclarationTableView.{mode_from_flag}
 use Rattle.ob0_types_table.proofs.SameShapes.{same_shape-refl}
 use Rattle.ob0_tree.specs.declared.tree.Role.{Role}
 use Rattle.ob0_tree.specs.declared.tree.Role.TheVariants as role
@@ -15,7 +15,7 @@ use Rattle.ob0_language_types.specs.Typing.{lone_designator, type_of}
 use Rattle.ob0_language_types.specs.WellTyped.{FormalParameter, Signature, TypeMeanings, same_known_shape, argument_matches, arguments_match, by_place, by_value, call_is_well_typed, condition_is_boolean, else_is_well_typed, elsifs_are_well_typed, sequence_is_well_typed, signature_of, statement_is_well_typed, further_statements_are_well_typed, variable_type}
 use Rattle.ob0_language_values.specs.Values.{Shape, boolean_shape}
 use Rattle.ob0_types_check.specs.ExpressionFaults.{report_on_expression}
-use Rattle.ob0_types_check.specs.Known.{Facts, Meaning, Operand, Reported, a_constant, a_procedure, a_type, a_variable}
+use Rattle.ob0_types_check.specs.Known.{Facts, Meaning, Operand, ResultWithFaults, a_constant, a_procedure, a_type, a_variable}
 use Rattle.ob0_types_check.specs.Known as known
 use Rattle.ob0_types_check.specs.Operations.{typed_name_operand, required_type, fault_at_operand}
 use Rattle.ob0_types_check.specs.KnownDeclarations.{facts_at}
@@ -72,7 +72,7 @@ module _ {T N : Type 0} (facts : Facts T) (shape : T → Option Shape) (types : 
 
   -- holds if the name that is assigned to is a variable of the reported type
 
-  pub record IsAssigned (reported : Reported T) (o : Option (Object Shape Signature)) : Type 0 where
+  pub record IsAssigned (reported : ResultWithFaults T) (o : Option (Object Shape Signature)) : Type 0 where
     pub of : Shape
     pub known : shape reported.known ≡ Some of
     pub holds : o ≡ Some (meant.a_variable of)
@@ -99,11 +99,11 @@ module _ {T N : Type 0} (facts : Facts T) (shape : T → Option Shape) (types : 
 
   -- Arguments and calls fit if no fault is reported for them.
 
-  required_type_of_argument-fits : (b : Bool) (of : T) (g : FormalParameter) (e : Tree ℕ expression) (o : Operand T) → OperandAgreesWithExpression shape meaning o (here e) → g.mode ≡ mode_of b → shape of ≡ Some g.shape
-      → (if b && not o.may_be_variable then record { known = facts.types.unknown; faults = fault_at_operand facts code.NotVariable o } else required_type facts of o).faults ≡ [] → argument_matches meaning g (here e) ≡ true
+  required_type_of_argument-fits : (b : Bool) (of : T) (g : FormalParameter) (e : Tree ℕ expression) (o : Operand T) → OperandAgreesWithExpression shape meaning o (here e) → g.mode ≡ mode_from_flag b → shape of ≡ Some g.shape
+      → (if b && not o.may_be_variable then record { known = facts.types.unknown; faults = fault_at_operand code.NotVariable o } else required_type facts of o).faults ≡ [] → argument_matches meaning g (here e) ≡ true
   unfolding argument_matches
   required_type_of_argument-fits true of g e o fe mode wanted h =
-      let parts = second-reported (not o.may_be_variable) (record { known = facts.types.unknown; faults = fault_at_operand facts code.NotVariable o }) (required_type facts of o) _ refl h in
+      let parts = second-reported (not o.may_be_variable) (record { known = facts.types.unknown; faults = fault_at_operand code.NotVariable o }) (required_type facts of o) _ refl h in
       let (given, same) = requested-fits facts shape types of o fe.of g.shape fe.known wanted parts.1 in
       (λ i. same_known_shape (Some g.shape) (elim (mode i) [ by_value ↦ type_of meaning (here e) | by_place ↦ variable_type meaning (lone_designator (here e)) ]))
       ∙ same_known_shape-same g.shape (Some g.shape) (variable_type meaning (lone_designator (here e))) refl (fe.placed (not-false o.may_be_variable parts.0) ∙ ap (λ s. Some s) same)
@@ -112,7 +112,7 @@ module _ {T N : Type 0} (facts : Facts T) (shape : T → Option Shape) (types : 
       (λ i. same_known_shape (Some g.shape) (elim (mode i) [ by_value ↦ type_of meaning (here e) | by_place ↦ variable_type meaning (lone_designator (here e)) ]))
       ∙ same_known_shape-same g.shape (Some g.shape) (type_of meaning (here e)) refl (fe.typed ∙ ap (λ s. Some s) same)
 
-  argument-fits : (f : known.KnownParameter T) (g : FormalParameter) (e : Tree ℕ expression) → g.mode ≡ mode_of f.by_place → shape f.of ≡ Some g.shape → Agreed e → faults_of_argument facts f e ≡ [] → argument_matches meaning g (here e) ≡ true
+  argument-fits : (f : known.KnownParameter T) (g : FormalParameter) (e : Tree ℕ expression) → g.mode ≡ mode_from_flag f.by_place → shape f.of ≡ Some g.shape → Agreed e → faults_of_argument facts f e ≡ [] → argument_matches meaning g (here e) ≡ true
   unfolding faults_of_argument
   argument-fits f g e mode wanted k h =
       let parts = none-reported (report_on_expression facts e).faults _ h in

@@ -4,14 +4,14 @@
 -- with the size capped at this limit.
 use Rattle.std.proofs.Common.{◌≡◌, ℕ, ◌+◌, ◌-◌, ◌^◌, ◌<◌, ◌≤◌, min, max, List, [], ◌∷◌, ◌++◌, length, get_or, drop, refl, sym, ap, ◌∙◌, subst, arith}
 use Rattle.std.proofs.lemmas.List.{drop_all, drop_more}
-use Rattle.ob0_scan.specs.declared.fault.Fault.{Fault}
+use Rattle.ob0_scope_table.specs.declared.faults.FaultAtTokens.{FaultAtTokens}
 use Rattle.ob0_types_table.specs.declared.types.TypeId.{TypeId}
 use Rattle.ob0_tree.specs.Places.{token_text_at}
 use Rattle.ob0_tree.specs.View.{optional_field_group_of, further_field_group_of}
 use Rattle.ob0_tree.specs.declared.tree.OptionalFieldGroup.{OptionalFieldGroup}
 use Rattle.ob0_types_check.specs.declared.reporting.checker_state.CheckerState.{CheckerState}
 use Rattle.ob0_types_check.specs.declared.reporting.written_types.KnownFields as gathering
-use Rattle.ob0_types_check.specs.Known.{Reported}
+use Rattle.ob0_types_check.specs.Known.{ResultWithFaults}
 use Rattle.ob0_types_check.specs.Operations.{ReturnsAndReports}
 use Rattle.ob0_types_check.specs.KnownDeclarations.{Size, zero_size, size_of_type_so_far}
 use Rattle.ob0_types_check.specs.CheckerViews.{AddsKnownFields, HasKnownFields, capped_size, known_fields_of, size_of, declarations_in_state}
@@ -56,19 +56,19 @@ names_end {t = t} {s = s} {xs = xs} {done = done} {now = now} n over =
     subst (λ g. HasKnownFields g s now) (sym (ap (with_known_fields t n.out) (drop_all done xs over)) ∙ n.left) n.is
 
 -- holds if the groups gathered so far and the remaining groups are all groups
-pub record GroupsGathered (around : ℕ) (start : KnownFields) (before : List Fault) (xs : List OptionalFieldGroup) (done : ℕ) (now : List Fault) (s : CheckerState) (gathered : gathering.KnownFields) : Type 0 where
+pub record GroupsGathered (around : ℕ) (start : KnownFields) (before : List FaultAtTokens) (xs : List OptionalFieldGroup) (done : ℕ) (now : List FaultAtTokens) (s : CheckerState) (gathered : gathering.KnownFields) : Type 0 where
   pub out : KnownFields
   pub is : HasKnownFields out s gathered
   pub reported : Chained (report_on_further_field_groups around) further_field_group_of before start xs done now out
 
-pub gathers : {before after : List Fault} {s : CheckerState} {gathered : gathering.KnownFields} {x : KnownFields} {t : Reported KnownFields} → ReturnsAndReports before after x t → HasKnownFields x s gathered → AddsKnownFields before after s gathered t
+pub gathers : {before after : List FaultAtTokens} {s : CheckerState} {gathered : gathering.KnownFields} {x : KnownFields} {t : ResultWithFaults KnownFields} → ReturnsAndReports before after x t → HasKnownFields x s gathered → AddsKnownFields before after s gathered t
 gathers {s = s} {gathered = gathered} reports is = record { reported = reports.reported; now = subst (λ z. HasKnownFields z s gathered) reports.known is }
 
-pub groups_begin : {around : ℕ} {before : List Fault} {xs : List OptionalFieldGroup} (s : CheckerState) (gathered : gathering.KnownFields) → known_fields_of gathered.fields.items ≡ [] → size_of gathered.size ≡ zero_size
+pub groups_begin : {around : ℕ} {before : List FaultAtTokens} {xs : List OptionalFieldGroup} (s : CheckerState) (gathered : gathering.KnownFields) → known_fields_of gathered.fields.items ≡ [] → size_of gathered.size ≡ zero_size
     → GroupsGathered around (no_known_fields (declarations_in_state s)) before xs 0 before s gathered
 groups_begin s gathered fields size = record { out = no_known_fields (declarations_in_state s); is = record { fields = fields; size = size; following = refl }; reported = record { so_far = refl } }
 
-pub groups_go_on : {around : ℕ} {start : KnownFields} {before : List Fault} {xs : List OptionalFieldGroup} {done : ℕ} {now next : List Fault} {s s2 : CheckerState} {gathered gathered2 : gathering.KnownFields} (x : OptionalFieldGroup)
+pub groups_go_on : {around : ℕ} {start : KnownFields} {before : List FaultAtTokens} {xs : List OptionalFieldGroup} {done : ℕ} {now next : List FaultAtTokens} {s s2 : CheckerState} {gathered gathered2 : gathering.KnownFields} (x : OptionalFieldGroup)
     → GroupsGathered around start before xs done now s gathered → done < length xs → x ≡ get_or xs done x
     → ((g : KnownFields) → HasKnownFields g s gathered → AddsKnownFields now next s2 gathered2 (report_on_field_group around g (optional_field_group_of x))) → GroupsGathered around start before xs (done + 1) next s2 gathered2
 groups_go_on {around = around} {now = now} {next = next} x n less here step =

@@ -28,8 +28,7 @@ pub mod BlocksBound
 pub mod BlocksFit
 pub mod BlocksKnown
 pub mod TableKnown
-pub mod Reported
-pub mod ReportedWith
+pub mod ResultWithFaults
 pub mod TypedOperands
 pub mod TypedExpressions
 pub mod TypedNames

@@ -12,11 +12,11 @@ use Rattle.ob0_tree.specs.declared.tree.Relation.TheVariants as relation
 use Rattle.ob0_tree.specs.declared.tree.Sign.{Sign}
 use Rattle.ob0_tree.specs.declared.tree.Sign.TheVariants as sign
 use Rattle.ob0_tree.specs.Places.{token_text_at}
-use Rattle.ob0_language_types.specs.Selected.{apply_to_both}
+use Rattle.ob0_language_types.specs.Selected.{apply_to_both_options}
 use Rattle.ob0_language_types.specs.Typing.{addition_type, negation_type, element_type, field_type, outcome_value, multiplication_type, relation_type, shape_of_field, sign_type, value_type}
 use Rattle.ob0_language_values.specs.Values.{Overflow, Shape, Value, add, add_short_circuits, boolean_shape, checked_division, division_outcome, ends_run_with, succeeds_with, checked_number, integer_shape, multiply, multiply_short_circuits, negate, number, quotient, apply_relation, remainder, truth}
 use Rattle.ob0_language_values.specs.Values as values
-use Rattle.ob0_types_check.specs.Known.{Facts, TypeForm, Operand, Reported, a_record, a_scalar, an_array, unknown_form}
+use Rattle.ob0_types_check.specs.Known.{Facts, TypeForm, Operand, ResultWithFaults, a_record, a_scalar, an_array, unknown_form}
 use Rattle.ob0_types_check.specs.Operations.{add_operands, required_type, required_type_of_both, fault_at_operand, negated_operand, element_type_in_form, element_operand, field_type_in_form, field_operand, may_be_same_type, field_type_or_fault, multiply_operands, relate_operands, signed_operand, comparison_type, operand_type_of_addition, operand_type_of_equality, operand_type_of_multiplication, operand_type_of_relation}
 use Rattle.ob0_types_check.specs.Agreement.{FormAgreesWithShape, TypesAgreeWithShapes}
 use Rattle.ob0_types_check.proofs.Unreported.{first-of, first-reported, none-if, none-reported, not-true, some-none, some-same}
@@ -100,7 +100,7 @@ product-of o a b s same h =
     (λ x e. settled-of (shape_multiplied o) (multiply_short_circuits o x) x (option_and_then (λ y. outcome_value (multiply o x y)) b) (h x e ∙ ap (λ u. Some u) same)
     (then-of (shape_multiplied o) (λ y. outcome_value (multiply o x y)) b (λ y f. multiply-of o x y)))
 
-pub relation-of : (r : Relation) (a b : Option Value) → IsOf boolean_shape (apply_to_both (λ x y. outcome_value (apply_relation r x y)) a b)
+pub relation-of : (r : Relation) (a b : Option Value) → IsOf boolean_shape (apply_to_both_options (λ x y. outcome_value (apply_relation r x y)) a b)
 relation-of r a b =
     then-of boolean_shape (λ x. option_and_then (λ y. outcome_value (apply_relation r x y)) b) a (λ x e. then-of boolean_shape (λ y. outcome_value (apply_relation r x y)) b (λ y f. apply_relation-of r x y))
 
@@ -141,11 +141,11 @@ module _ {T : Type 0} (facts : Facts T) (shape : T → Option Shape) (types : Ty
       let same : facts.types.same o.of wanted ≡ true = same-where-fits o.of wanted s w hs hw (none-if (may_be_same_type facts.types o.of wanted) _ h) in
       (ap (λ b. if b then wanted else facts.types.unknown) same, same-shape o.of wanted s w hs hw same)
 
-  apply_to_both-requested : (wanted : T) (a b : Operand T) (s t w : Shape) → shape a.of ≡ Some s → shape b.of ≡ Some t → shape wanted ≡ Some w → (required_type_of_both facts wanted a b).faults ≡ []
+  apply_to_both_options-requested : (wanted : T) (a b : Operand T) (s t w : Shape) → shape a.of ≡ Some s → shape b.of ≡ Some t → shape wanted ≡ Some w → (required_type_of_both facts wanted a b).faults ≡ []
       → ((required_type_of_both facts wanted a b).known ≡ wanted) × (s ≡ w) × (t ≡ w)
-  apply_to_both-requested wanted a b s t w hs ht hw h =
-      let left : Reported T = record { known = if facts.types.same a.of wanted then (required_type facts wanted b).known else facts.types.unknown; faults = (required_type facts wanted b).faults } in
-      let wrong : Reported T = record { known = facts.types.unknown; faults = fault_at_operand facts code.TypeMismatch a } in
+  apply_to_both_options-requested wanted a b s t w hs ht hw h =
+      let left : ResultWithFaults T = record { known = if facts.types.same a.of wanted then (required_type facts wanted b).known else facts.types.unknown; faults = (required_type facts wanted b).faults } in
+      let wrong : ResultWithFaults T = record { known = facts.types.unknown; faults = fault_at_operand code.TypeMismatch a } in
       let (fit, none) = first-reported (may_be_same_type facts.types a.of wanted) left wrong _ refl h in
       let same : facts.types.same a.of wanted ≡ true = same-where-fits a.of wanted s w hs hw fit in
       let (known, right) = requested-fits wanted b t w ht hw none in
@@ -166,11 +166,11 @@ module _ {T : Type 0} (facts : Facts T) (shape : T → Option Shape) (types : Ty
 
   equality-wanted : (r : Relation) → relation_type r boolean_shape boolean_shape ≡ Some boolean_shape → (t : T) (s : Shape) → shape t ≡ Some s
       → (w : Shape) × (shape (operand_type_of_equality facts.types t) ≡ Some w) × (relation_type r w w ≡ Some boolean_shape)
-  equality-wanted r apply_to_both t s h =
+  equality-wanted r apply_to_both_options t s h =
       elim (facts.types.same t facts.types.integer)
       as (λ b. (w : Shape) × (shape (if b then facts.types.integer else if facts.types.same t facts.types.unknown then facts.types.unknown else facts.types.boolean) ≡ Some w) × (relation_type r w w ≡ Some boolean_shape)) [
         | true ↦ (integer_shape, types.integer, refl)
-        | false ↦ (boolean_shape, ap (λ b. shape (if b then facts.types.unknown else facts.types.boolean)) (not-true (facts.types.same t facts.types.unknown) (is-known t s h)) ∙ types.boolean, apply_to_both)
+        | false ↦ (boolean_shape, ap (λ b. shape (if b then facts.types.unknown else facts.types.boolean)) (not-true (facts.types.same t facts.types.unknown) (is-known t s h)) ∙ types.boolean, apply_to_both_options)
       ]
 
   relation-wanted : (r : Relation) (t : T) (s : Shape) → shape t ≡ Some s → (w : Shape) × (shape (operand_type_of_relation facts.types r t) ≡ Some w) × (relation_type r w w ≡ Some boolean_shape)
@@ -189,20 +189,20 @@ module _ {T : Type 0} (facts : Facts T) (shape : T → Option Shape) (types : Ty
   pub added-fits : (o : AddOperator) (a b : Operand T) (s t : Shape) → shape a.of ≡ Some s → shape b.of ≡ Some t → (add_operands facts o a b).faults ≡ []
       → (w : Shape) × (shape (add_operands facts o a b).known.of ≡ Some w) × (addition_type o s t ≡ Some w) × (IsOf s a.value → IsOf w (add_operands facts o a b).known.value)
   added-fits o a b s t hs ht h =
-      let (known, left, right) = apply_to_both-requested (operand_type_of_addition facts.types o) a b s t (shape_added o) hs ht (add-wanted o) (none-reported _ _ h).0 in
+      let (known, left, right) = apply_to_both_options-requested (operand_type_of_addition facts.types o) a b s t (shape_added o) hs ht (add-wanted o) (none-reported _ _ h).0 in
       (shape_added o, ap shape known ∙ add-wanted o, (λ i. addition_type o (left i) (right i)) ∙ add-typed o, sum-of o a.value b.value s left)
 
   pub multiplied-fits : (o : MultiplyOperator) (a b : Operand T) (s t : Shape) → shape a.of ≡ Some s → shape b.of ≡ Some t → (multiply_operands facts o a b).faults ≡ []
       → (w : Shape) × (shape (multiply_operands facts o a b).known.of ≡ Some w) × (multiplication_type o s t ≡ Some w) × (IsOf s a.value → IsOf w (multiply_operands facts o a b).known.value)
   multiplied-fits o a b s t hs ht h =
-      let (known, left, right) = apply_to_both-requested (operand_type_of_multiplication facts.types o) a b s t (shape_multiplied o) hs ht (multiply-wanted o) (none-reported _ _ h).0 in
+      let (known, left, right) = apply_to_both_options-requested (operand_type_of_multiplication facts.types o) a b s t (shape_multiplied o) hs ht (multiply-wanted o) (none-reported _ _ h).0 in
       (shape_multiplied o, ap shape known ∙ multiply-wanted o, (λ i. multiplication_type o (left i) (right i)) ∙ multiply-typed o, product-of o a.value b.value s left)
 
   pub related-fits : (r : Relation) (a b : Operand T) (s t : Shape) → shape a.of ≡ Some s → shape b.of ≡ Some t → (relate_operands facts r a b).faults ≡ []
       → (shape (relate_operands facts r a b).known.of ≡ Some boolean_shape) × (relation_type r s t ≡ Some boolean_shape)
   related-fits r a b s t hs ht h =
       let (w, hw, typed) = relation-wanted r a.of s hs in
-      let (known, left, right) = apply_to_both-requested (operand_type_of_relation facts.types r a.of) a b s t w hs ht hw (none-reported _ _ h).0 in
+      let (known, left, right) = apply_to_both_options-requested (operand_type_of_relation facts.types r a.of) a b s t w hs ht hw (none-reported _ _ h).0 in
       (ap (λ u. shape (comparison_type facts.types u)) known ∙ truth-known (operand_type_of_relation facts.types r a.of) w hw, (λ i. relation_type r (left i) (right i)) ∙ typed)
 
   pub apply_sign-fits : (g : Option Sign) (o : Operand T) (s : Shape) → shape o.of ≡ Some s → (signed_operand facts g o).faults ≡ []

@@ -12,7 +12,7 @@ use Rattle.ob0_types_check.specs.Known.{Facts, Operand}
 use Rattle.ob0_types_check.specs.Operations.{required_type, without_fault}
 use Rattle.ob0_types_check.specs.KnownDeclarations.{facts_at}
 use Rattle.ob0_types_check.specs.TypeFaults.{operand_value, length_or_fault, length_by_value, length_by_operand, report_on_constant_expression, value_or_fault}
-use Rattle.ob0_types_check.specs.Agreement.{TypesAndMeaningsAgree, TypesAgreeWithShapes, shape_of_type_in}
+use Rattle.ob0_types_check.specs.Agreement.{FactsAgreeWithShapesAndLabels, TypesAgreeWithShapes, shape_of_type_in}
 use Rattle.ob0_types_check.specs.ReportLaws.{FaultlessConstantsHaveCorrectValues, FaultlessExpressionsHaveCorrectTypesAndValues, FaultlessLengthsHaveCorrectValues, OperandAgreesWithExpression, allowed_meanings}
 use Rattle.ob0_types_check.proofs.FittingExpressions.{FitsExpression, expression-fits}
 use Rattle.ob0_types_check.proofs.FittingNames.{only-tokens, tokens-fit}
@@ -26,7 +26,7 @@ only-once o = elim (constant_of o) as (λ c. option_map {U = Object Place (Unit 
 pub constants-again : {N V P : Type 0} (meaning : Meanings N V P) → constant_meanings {W = Place} {Q = Unit {0}} (constant_meanings {W = Shape} {Q = Unit {0}} meaning) ≡ constant_meanings meaning
 constants-again meaning = λ i. record { object_for = λ x. only-once (meaning.object_for x) i; written = meaning.written }
 
-module _ {T N : Type 0} (facts : Facts T) (shape : T → Option Shape) (label : ℕ → N) (meaning : TypeMeanings N) (e : Tree ℕ expression) (agrees : TypesAndMeaningsAgree facts shape label meaning e) where
+module _ {T N : Type 0} (facts : Facts T) (shape : T → Option Shape) (label : ℕ → N) (meaning : TypeMeanings N) (e : Tree ℕ expression) (agrees : FactsAgreeWithShapesAndLabels facts shape label meaning e) where
   pub here-fits : (b : Bool) → facts.only_constants ≡ b → (report_on_expression facts e).faults ≡ [] → OperandAgreesWithExpression shape (allowed_meanings b meaning) (report_on_expression facts e).known (mapped_tree label (token_value_at facts.source) e)
   here-fits true only h = operand-fits facts shape agrees.types label (constant_meanings meaning) e (only-tokens facts shape agrees.types label meaning _ only (identifiers role.Declaring e) agrees.tokens) h
   here-fits false only h = operand-fits facts shape agrees.types label meaning e (tokens-fit facts shape agrees.types label meaning (identifiers role.Declaring e) agrees.tokens) h
@@ -57,14 +57,14 @@ pub record HasReportedValue {T : Type 0} (o : Operand T) (reported : Option Valu
   pub known : reported ≡ Some value
   pub there : o.value ≡ Some value
 
-value-there : {T : Type 0} (facts : Facts T) (o : Operand T) (c : Option Value) → o.value ≡ c → (value_or_fault facts o c).faults ≡ [] → HasReportedValue o (value_or_fault facts o c).known
-value-there facts o None e h = absurd (cc)
-value-there facts o (Some v) e h = record { value = v; known = refl; there = e }
+value-there : {T : Type 0} (o : Operand T) (c : Option Value) → o.value ≡ c → (value_or_fault o c).faults ≡ [] → HasReportedValue o (value_or_fault o c).known
+value-there o None e h = absurd (cc)
+value-there o (Some v) e h = record { value = v; known = refl; there = e }
 
 pub operand_value-there : {T : Type 0} (facts : Facts T) (o : Operand T) → facts.types.same o.of facts.types.unknown ≡ false → (operand_value facts o).faults ≡ [] → HasReportedValue o (operand_value facts o).known
 operand_value-there facts o known h =
-    let w = value-there facts o o.value refl (sym (ap (λ b. (if b then without_fault None else value_or_fault facts o o.value).faults) known) ∙ h) in
-    record { value = w.value; known = ap (λ b. (if b then without_fault None else value_or_fault facts o o.value).known) known ∙ w.known; there = w.there }
+    let w = value-there o o.value refl (sym (ap (λ b. (if b then without_fault None else value_or_fault o o.value).faults) known) ∙ h) in
+    record { value = w.value; known = ap (λ b. (if b then without_fault None else value_or_fault o o.value).known) known ∙ w.known; there = w.there }
 
 pub faultless_constants_have_correct_values-holds : {N : Type 0} → FaultlessConstantsHaveCorrectValues N
 unfolding report_on_constant_expression
@@ -87,24 +87,24 @@ pub record IsLong {T : Type 0} (o : Operand T) (reported : Option ℕ) : Type 0 
   pub there : o.value ≡ Some value
   pub counted : array_length value ≡ Some length
 
-bounded : {T : Type 0} (facts : Facts T) (o : Operand T) (v : Value) (n : Option ℕ) → o.value ≡ Some v → array_length v ≡ n → (length_or_fault facts o n).faults ≡ [] → IsLong o (length_or_fault facts o n).known
-bounded facts o v None there e h = absurd (cc)
-bounded facts o v (Some n) there e h = record { value = v; length = n; known = refl; there = there; counted = e }
+bounded : {T : Type 0} (o : Operand T) (v : Value) (n : Option ℕ) → o.value ≡ Some v → array_length v ≡ n → (length_or_fault o n).faults ≡ [] → IsLong o (length_or_fault o n).known
+bounded o v None there e h = absurd (cc)
+bounded o v (Some n) there e h = record { value = v; length = n; known = refl; there = there; counted = e }
 
-length-given : {T : Type 0} (facts : Facts T) (o : Operand T) (c : Option Value) → o.value ≡ c → (length_by_value facts o c).faults ≡ [] → IsLong o (length_by_value facts o c).known
-length-given facts o None e h = absurd (cc)
-length-given facts o (Some v) e h = bounded facts o v (array_length v) e refl h
+length-given : {T : Type 0} (o : Operand T) (c : Option Value) → o.value ≡ c → (length_by_value o c).faults ≡ [] → IsLong o (length_by_value o c).known
+length-given o None e h = absurd (cc)
+length-given o (Some v) e h = bounded o v (array_length v) e refl h
 
 pub length-there : {T : Type 0} (facts : Facts T) (shape : T → Option Shape) (types : TypesAgreeWithShapes facts.types shape) (o : Operand T) (s : Shape) → shape o.of ≡ Some s → (length_by_operand facts o).faults ≡ [] → IsLong o (length_by_operand facts o).known
 length-there facts shape types o s hs h =
     let parts = none-reported (required_type facts facts.types.integer o).faults _ h in
     let (given, same) = requested-fits facts shape types facts.types.integer o s integer_shape hs types.integer parts.0 in
     let alone : facts.types.same (required_type facts facts.types.integer o).known facts.types.integer ≡ true = ap (λ t. facts.types.same t facts.types.integer) given ∙ types.integer_same in
-    let long : IsLong o (length_by_value facts o o.value).known = length-given facts o o.value refl (sym (ap (λ b. (if b then length_by_value facts o o.value else without_fault None).faults) alone) ∙ parts.1) in
+    let long : IsLong o (length_by_value o o.value).known = length-given o o.value refl (sym (ap (λ b. (if b then length_by_value o o.value else without_fault None).faults) alone) ∙ parts.1) in
     record {
       value = long.value;
       length = long.length;
-      known = ap (λ b. (if b then length_by_value facts o o.value else without_fault None).known) alone ∙ long.known;
+      known = ap (λ b. (if b then length_by_value o o.value else without_fault None).known) alone ∙ long.known;
       there = long.there;
       counted = long.counted;
     }

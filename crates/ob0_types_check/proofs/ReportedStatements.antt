@@ -119,11 +119,11 @@ module _ (facts : Facts TypeId) where
   pub count_is_right : (p : ℕ) (fs : List formal.FormalParameter) (es : List Expression) → length fs ≡ length es
       → call_faults_by_meaning facts p (Some (a_procedure (map formal_of fs))) (map expression_of es) ≡ faults_of_arguments facts (map formal_of fs) (map expression_of es)
   count_is_right p fs es e =
-      ap (λ b. if b then faults_of_arguments facts (map formal_of fs) (map expression_of es) else fault_at_token facts code.ArgumentCount p)
+      ap (λ b. if b then faults_of_arguments facts (map formal_of fs) (map expression_of es) else fault_at_token code.ArgumentCount p)
       (eq-eqb (length (map formal_of fs)) (length (map expression_of es)) (length-map fs formal_of ∙ e ∙ sym (length-map es expression_of)))
 
   pub count_differs : (p : ℕ) (fs : List formal.FormalParameter) (es : List Expression) → length fs ≢ length es
-      → call_faults_by_meaning facts p (Some (a_procedure (map formal_of fs))) (map expression_of es) ≡ fault_at_token facts code.ArgumentCount p
+      → call_faults_by_meaning facts p (Some (a_procedure (map formal_of fs))) (map expression_of es) ≡ fault_at_token code.ArgumentCount p
   count_differs p fs es d =
-      ap (λ b. if b then faults_of_arguments facts (map formal_of fs) (map expression_of es) else fault_at_token facts code.ArgumentCount p)
+      ap (λ b. if b then faults_of_arguments facts (map formal_of fs) (map expression_of es) else fault_at_token code.ArgumentCount p)
       (ne_eqb (length (map formal_of fs)) (length (map expression_of es)) (λ e. d (sym (length-map fs formal_of) ∙ e ∙ length-map es expression_of)))

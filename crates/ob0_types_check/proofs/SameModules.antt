@@ -1,35 +1,34 @@
--- If the tokens of a part are alike in two texts, its faults of types are at the same tokens in both. The parts are
--- written types, declarations and bodies.
-use Rattle.std.proofs.Common.{◌≡◌, ℕ, suc, Bool, true, false, List, [], ◌∷◌, ◌++◌, Option, Some, None, length, map, slice_index_or, refl, sym, ap, ◌∙◌, subst, if◌then◌else◌}
-use Rattle.ob0_scan.specs.declared.fault.FaultCode.TheVariants as code
-use Rattle.ob0_scan.specs.declared.fault.Fault.{Fault}
+-- If the tokens of a part are alike in two texts, it has the same faults of types in both. The parts are written types,
+-- declarations and bodies.
+use Rattle.std.proofs.Common.{◌≡◌, ℕ, suc, Bool, true, false, List, [], ◌∷◌, ◌++◌, Option, Some, None, map, slice_index_or, refl, sym, ap, ◌∙◌, subst, if◌then◌else◌}
+use Rattle.std.specs.List.{filter}
+use Rattle.ob0_scan.specs.Reused.{words_of_tokens}
 use Rattle.ob0_scan.specs.TextWithTokens.{TextWithTokens}
 use Rattle.ob0_language_names.specs.Parts.{formal_sections, further_names, module_block, names_in_list, section_constants, section_types, section_variables}
 use Rattle.ob0_tree.specs.ParsedModule.{parsed_module, tree_of}
 use Rattle.ob0_tree.specs.Tree.{Sort, Tree, no_formals, some_formals, listed, then_name, further_name, constants, type_definitions, variables, formals, declares_constants, declares_types, declares_variables, array_type, begins, block, body, constant, declares, declares_constant, declares_procedure, declares_type, declares_variable, end, fields, further_fields, further_section, forms_block, item, items, maybe, more, named_type, names, no_fields, none, one, procedure, record_type, some_fields, then_fields, then_section, type_definition, value_section, variable, variable_section, written_type}
 use Rattle.ob0_tree.specs.declared.tree.ModuleTree.{ModuleTree}
-use Rattle.std.proofs.lemmas.List.{length-map}
-use Rattle.ob0_scan.specs.TextWithTokens.{word_of_token}
+use Rattle.ob0_scope_table.specs.Bindings.{resolution_with}
 use Rattle.ob0_scope_table.specs.TokenProperty.{EachTokenHas}
-use Rattle.ob0_scope_table.specs.FaultTokens.{AreFaultsAtSameTokens, HaveSameKindsAndSpellings}
 use Rattle.ob0_scope_table.specs.Resolution.{is_undeclared_fault, ordinal_in}
+use Rattle.ob0_scope_table.specs.declared.resolved.Bindings.{Bindings}
 use Rattle.ob0_scope_table.proofs.Placed.{each_token}
-use Rattle.ob0_scope_table.proofs.FaultTokens.{both_same, filter_same, none_same, texts_stay, values_stay}
+use Rattle.ob0_scope_table.proofs.SameWords.{same_count, same_texts, same_values}
 use Rattle.ob0_types_table.specs.declared.types.TypeId.{TypeId}
 use Rattle.ob0_types_table.specs.declared.types.TypeId.TheVariants as type
-use Rattle.ob0_types_check.specs.DeclarationFaults.{KnownHeading, declarations_after_heading, report_on_constant_declaration, report_on_block, report_on_body, report_on_constant_declarations, undeclared_name_and_type_faults, report_on_parameters, report_on_procedure, report_on_procedures, report_on_parameter_section, report_on_parameter_sections, report_on_type_declarations, report_on_variable_declarations, report_on_type_declaration, report_on_variable_group, with_parameters}
-use Rattle.ob0_types_check.specs.Known.{Meaning, Operand, Reported, a_constant, a_procedure, a_type, a_variable}
+use Rattle.ob0_types_check.specs.DeclarationFaults.{KnownHeading, WalkProgress, body_faults, every_body, undeclared_name_and_type_faults, report_body_if_wanted, report_on_block, report_on_constant_declaration, report_on_constant_declarations, report_on_parameters, report_on_procedure, report_on_procedures, report_on_parameter_section, report_on_parameter_sections, report_on_type_declaration, report_on_type_declarations, report_on_variable_group, report_on_variable_declarations, declarations_after_heading, with_body_if_faulty, with_declarations, with_parameters}
+use Rattle.ob0_types_check.specs.Known.{Meaning, Operand, ResultWithFaults, a_constant, a_procedure, a_type, a_variable}
 use Rattle.ob0_types_check.specs.Operations.{without_fault, token_before, ◌>>=◌}
-use Rattle.ob0_types_check.specs.KnownDeclarations.{PartTypes, Size, KnownDeclarations, TypeWithState, state_at_start, define, define_all, facts_at, is_within_limits, append_composite, make_type, of_elements, of_fields, size_of_type_so_far, report_on_too_large_type, types_so_far, with_meaning}
+use Rattle.ob0_types_check.specs.KnownDeclarations.{PartTypes, Size, KnownDeclarations, TypeWithFollowingDeclarations, known_declarations_at_start, define_name_at_token, define_names_at_tokens, facts_at, is_within_limits, append_composite, make_composite_type, of_elements, of_fields, size_of_type_so_far, report_on_too_large_type, types_so_far, with_meaning}
 use Rattle.ob0_types_check.specs.TypeFaults.{length_by_operand}
 use Rattle.ob0_types_check.specs.WrittenTypeFaults.{KnownFields, made_array_type, array_size, with_field_group, no_known_fields, next_type_ordinal, made_record_type, record_size, record_keyword_token, report_on_field_group, report_on_further_field_groups, report_on_written_type, with_known_fields, with_known_field, token_before_group}
-use Rattle.ob0_types_check.proofs.SameFaults.{Alike, Alikeness, at_same, constant_same, expression_same, goes_on, length_same, rightly, sequence_same, type_named_same}
+use Rattle.ob0_types_check.proofs.SameFaults.{Alike, Alikeness, constant_same, expression_same, goes_on, goes_on_equally, rightly, sequence_same, type_named_same}
 
 -- returns the state, or the type and the state after it, with another text
 abbrev pub so_over : TextWithTokens → List (Option ℕ) → KnownDeclarations → KnownDeclarations
 so_over source ordinals p = record { source = source; ordinals = ordinals; declared = p.declared; made = p.made }
 
-abbrev pub typed_over : TextWithTokens → List (Option ℕ) → TypeWithState → TypeWithState
+abbrev pub typed_over : TextWithTokens → List (Option ℕ) → TypeWithFollowingDeclarations → TypeWithFollowingDeclarations
 typed_over source ordinals t = record { of = t.of; following = so_over source ordinals t.following }
 
 abbrev pub gathered_over : TextWithTokens → List (Option ℕ) → KnownFields → KnownFields
@@ -37,6 +36,15 @@ gathered_over source ordinals g = record { fields = g.fields; size = g.size; fol
 
 abbrev pub heading_over : TextWithTokens → List (Option ℕ) → KnownHeading → KnownHeading
 heading_over source ordinals h = record { formals = h.formals; following = so_over source ordinals h.following }
+
+-- the walk through both texts: the declarations so far, without a text, and the bodies with faults in each text
+pub record Both : Type 0 where
+  pub so : KnownDeclarations
+  pub in_old : List ℕ
+  pub in_new : List ℕ
+
+abbrev pub further : Both → KnownDeclarations → Both
+further z p = record { so = p; in_old = z.in_old; in_new = z.in_new }
 
 -- returns the meaning of the declaration with this ordinal
 abbrev pub declared_at : KnownDeclarations → ℕ → Option (Meaning TypeId)
@@ -53,10 +61,10 @@ module _ (old new : TextWithTokens) (os ns : List (Option ℕ)) (P : ℕ → Typ
   abbrev pub so_new : KnownDeclarations → KnownDeclarations
   so_new p = so_over new ns p
 
-  abbrev typed_old : TypeWithState → TypeWithState
+  abbrev typed_old : TypeWithFollowingDeclarations → TypeWithFollowingDeclarations
   typed_old t = typed_over old os t
 
-  abbrev typed_new : TypeWithState → TypeWithState
+  abbrev typed_new : TypeWithFollowingDeclarations → TypeWithFollowingDeclarations
   typed_new t = typed_over new ns t
 
   abbrev gathered_old : KnownFields → KnownFields
@@ -71,17 +79,17 @@ module _ (old new : TextWithTokens) (os ns : List (Option ℕ)) (P : ℕ → Typ
   abbrev pub heading_new : KnownHeading → KnownHeading
   heading_new h = heading_over new ns h
 
-  abbrev pub So : Reported KnownDeclarations → Reported KnownDeclarations → Type 0
-  So r s = Alike old new so_old so_new r s
+  abbrev pub So : ResultWithFaults KnownDeclarations → ResultWithFaults KnownDeclarations → Type 0
+  So r s = Alike so_old so_new r s
 
-  abbrev Typed : Reported TypeWithState → Reported TypeWithState → Type 0
-  Typed r s = Alike old new typed_old typed_new r s
+  abbrev Typed : ResultWithFaults TypeWithFollowingDeclarations → ResultWithFaults TypeWithFollowingDeclarations → Type 0
+  Typed r s = Alike typed_old typed_new r s
 
-  abbrev AddsKnownFields : Reported KnownFields → Reported KnownFields → Type 0
-  AddsKnownFields r s = Alike old new gathered_old gathered_new r s
+  abbrev AddsKnownFields : ResultWithFaults KnownFields → ResultWithFaults KnownFields → Type 0
+  AddsKnownFields r s = Alike gathered_old gathered_new r s
 
-  abbrev pub Heads : Reported KnownHeading → Reported KnownHeading → Type 0
-  Heads r s = Alike old new heading_old heading_new r s
+  abbrev pub Heads : ResultWithFaults KnownHeading → ResultWithFaults KnownHeading → Type 0
+  Heads r s = Alike heading_old heading_new r s
 
   abbrev Each : {s : Sort} → Tree ℕ s → Type 0
   Each t = EachTokenHas P t
@@ -92,26 +100,26 @@ module _ (old new : TextWithTokens) (os ns : List (Option ℕ)) (P : ℕ → Typ
   AllOf (x ∷ xs) = P x × AllOf xs
 
   so : (z a b : KnownDeclarations) → a ≡ so_old z → b ≡ so_new z → So (without_fault a) (without_fault b)
-  so z a b e f = record { value = z; before = e; after = f; faults = none_same old new }
+  so z a b e f = record { value = z; before = e; after = f; faults = refl }
 
   -- Declaring a name in both texts sets the declaration with the same ordinal.
-  define_before : (p : KnownDeclarations) (m : Meaning TypeId) (x : ℕ) → define (so_old p) m x ≡ so_old (define (so_old p) m x)
+  define_before : (p : KnownDeclarations) (m : Meaning TypeId) (x : ℕ) → define_name_at_token (so_old p) m x ≡ so_old (define_name_at_token (so_old p) m x)
   define_before p m x = declared_over old os (so_old p) m (ordinal_in os x)
 
-  define_after : (p : KnownDeclarations) (m : Meaning TypeId) (x : ℕ) → P x → define (so_new p) m x ≡ so_new (define (so_old p) m x)
+  define_after : (p : KnownDeclarations) (m : Meaning TypeId) (x : ℕ) → P x → define_name_at_token (so_new p) m x ≡ so_new (define_name_at_token (so_old p) m x)
   define_after p m x h = ap (with_meaning (so_new p) m) (w.bound x h) ∙ declared_over new ns (so_old p) m (ordinal_in os x)
 
-  all_before : (p : KnownDeclarations) (m : Meaning TypeId) (xs : List ℕ) → define_all (so_old p) m xs ≡ so_old (define_all (so_old p) m xs)
+  all_before : (p : KnownDeclarations) (m : Meaning TypeId) (xs : List ℕ) → define_names_at_tokens (so_old p) m xs ≡ so_old (define_names_at_tokens (so_old p) m xs)
   all_before p m [] = refl
   all_before p m (x ∷ xs) =
-      let q : KnownDeclarations = define (so_old p) m x in
-      ap (λ r. define_all r m xs) (define_before p m x) ∙ (all_before q m xs ∙ ap (λ r. so_old (define_all r m xs)) (sym (define_before p m x)))
+      let q : KnownDeclarations = define_name_at_token (so_old p) m x in
+      ap (λ r. define_names_at_tokens r m xs) (define_before p m x) ∙ (all_before q m xs ∙ ap (λ r. so_old (define_names_at_tokens r m xs)) (sym (define_before p m x)))
 
-  all_after : (p : KnownDeclarations) (m : Meaning TypeId) (xs : List ℕ) → AllOf xs → define_all (so_new p) m xs ≡ so_new (define_all (so_old p) m xs)
+  all_after : (p : KnownDeclarations) (m : Meaning TypeId) (xs : List ℕ) → AllOf xs → define_names_at_tokens (so_new p) m xs ≡ so_new (define_names_at_tokens (so_old p) m xs)
   all_after p m [] h = refl
   all_after p m (x ∷ xs) h =
-      let q : KnownDeclarations = define (so_old p) m x in
-      ap (λ r. define_all r m xs) (define_after p m x h.0) ∙ (all_after q m xs h.1 ∙ ap (λ r. so_new (define_all r m xs)) (sym (define_before p m x)))
+      let q : KnownDeclarations = define_name_at_token (so_old p) m x in
+      ap (λ r. define_names_at_tokens r m xs) (define_after p m x h.0) ∙ (all_after q m xs h.1 ∙ ap (λ r. so_new (define_names_at_tokens r m xs)) (sym (define_before p m x)))
 
   further_each : (ns : Tree ℕ (items further_name)) → Each ns → AllOf (further_names ns)
   further_each end h = tt
@@ -124,19 +132,19 @@ module _ (old new : TextWithTokens) (os ns : List (Option ℕ)) (P : ℕ → Typ
 
   made_within : (b : Bool) (p : KnownDeclarations) (word ordinal : ℕ) (parts : PartTypes) (size : Size)
       → Typed (if b then without_fault (append_composite (so_old p) ordinal parts size) else report_on_too_large_type (so_old p) word) (if b then without_fault (append_composite (so_new p) ordinal parts size) else report_on_too_large_type (so_new p) word)
-  made_within true p word ordinal parts size = rightly old new typed_old typed_new (append_composite p ordinal parts size)
+  made_within true p word ordinal parts size = rightly typed_old typed_new (append_composite p ordinal parts size)
   made_within false p word ordinal parts size = record {
     value = record { of = type.Unknown; following = p };
     before = refl;
     after = refl;
-    faults = at_same old new os ns P w (types_so_far p.made) (declared_at p) false code.TypeTooLarge word word;
+    faults = refl;
   }
 
-  made_same : (p : KnownDeclarations) (word ordinal : ℕ) (parts : PartTypes) (size : Size) → Typed (make_type (so_old p) word ordinal parts size) (make_type (so_new p) word ordinal parts size)
+  made_same : (p : KnownDeclarations) (word ordinal : ℕ) (parts : PartTypes) (size : Size) → Typed (make_composite_type (so_old p) word ordinal parts size) (make_composite_type (so_new p) word ordinal parts size)
   made_same p word ordinal parts size = made_within (is_within_limits size) p word ordinal parts size
 
-  array_same : (ordinal : ℕ) (o : Operand TypeId) (n : Option ℕ) (t : TypeWithState) → Typed (made_array_type ordinal o n (typed_old t)) (made_array_type ordinal o n (typed_new t))
-  array_same ordinal o None t = rightly old new typed_old typed_new (record { of = type.Unknown; following = t.following })
+  array_same : (ordinal : ℕ) (o : Operand TypeId) (n : Option ℕ) (t : TypeWithFollowingDeclarations) → Typed (made_array_type ordinal o n (typed_old t)) (made_array_type ordinal o n (typed_new t))
+  array_same ordinal o None t = rightly typed_old typed_new (record { of = type.Unknown; following = t.following })
   array_same ordinal o (Some n) t = made_same t.following (token_before o.first) ordinal (of_elements n t.of) (array_size n (size_of_type_so_far t.following.made t.of))
 
   name_over : (t : TypeId) (g : KnownFields) (x : ℕ) → P x → with_known_field t (gathered_new g) x ≡ gathered_new (with_known_field t (gathered_old g) x)
@@ -152,103 +160,103 @@ module _ (old new : TextWithTokens) (os ns : List (Option ℕ)) (P : ℕ → Typ
   names_new t g [] each = refl
   names_new t g (x ∷ xs) each = ap (λ h. with_known_fields t h xs) (name_over t g x each.0) ∙ names_new t (with_known_field t (gathered_old g) x) xs each.1
 
-  gathered_same : (g : KnownFields) (xs : List ℕ) (t : TypeWithState) → AllOf xs → AddsKnownFields (without_fault (with_field_group (gathered_old g) xs (typed_old t))) (without_fault (with_field_group (gathered_new g) xs (typed_new t)))
+  gathered_same : (g : KnownFields) (xs : List ℕ) (t : TypeWithFollowingDeclarations) → AllOf xs → AddsKnownFields (without_fault (with_field_group (gathered_old g) xs (typed_old t))) (without_fault (with_field_group (gathered_new g) xs (typed_new t)))
   gathered_same g xs t each =
       let h : KnownFields = record { fields = g.fields; size = g.size; following = t.following } in
-      record { value = with_known_fields t.of (gathered_old h) xs; before = names_old t.of h xs; after = names_new t.of h xs each; faults = none_same old new }
+      record { value = with_known_fields t.of (gathered_old h) xs; before = names_old t.of h xs; after = names_new t.of h xs each; faults = refl }
 
   mutual
     unfolding report_on_written_type
 
     written_same : (around : ℕ) (p : KnownDeclarations) (t : Tree ℕ written_type) → Each t → Typed (report_on_written_type around (so_old p) t) (report_on_written_type around (so_new p) t)
     written_same around p (named_type x) h =
-        goes_on old new (λ t. without_fault (record { of = t; following = so_old p })) (λ t. without_fault (record { of = t; following = so_new p })) (type_named_same old new os ns P w (types_so_far p.made) (declared_at p) false x h)
-        (λ t. rightly old new typed_old typed_new (record { of = t; following = p }))
+        goes_on_equally (λ t. without_fault (record { of = t; following = so_old p })) (λ t. without_fault (record { of = t; following = so_new p })) (type_named_same old new os ns P w (types_so_far p.made) (declared_at p) false x h)
+        (λ t. rightly typed_old typed_new (record { of = t; following = p }))
     written_same around p (array_type e u) h =
-        goes_on old new (λ o. length_by_operand (facts_at (so_old p) false) o >>= (λ n. report_on_written_type (suc around) (so_old p) u >>= made_array_type (next_type_ordinal around p) o n))
+        goes_on_equally (λ o. length_by_operand (facts_at (so_old p) false) o >>= (λ n. report_on_written_type (suc around) (so_old p) u >>= made_array_type (next_type_ordinal around p) o n))
         (λ o. length_by_operand (facts_at (so_new p) false) o >>= (λ n. report_on_written_type (suc around) (so_new p) u >>= made_array_type (next_type_ordinal around p) o n))
         (expression_same old new os ns P w (types_so_far p.made) (declared_at p) true e h.0)
         (λ o.
-        goes_on old new (λ n. report_on_written_type (suc around) (so_old p) u >>= made_array_type (next_type_ordinal around p) o n) (λ n. report_on_written_type (suc around) (so_new p) u >>= made_array_type (next_type_ordinal around p) o n)
-        (length_same old new os ns P w (types_so_far p.made) (declared_at p) false o)
-        (λ n. goes_on old new (made_array_type (next_type_ordinal around p) o n) (made_array_type (next_type_ordinal around p) o n) (written_same (suc around) p u h.1) (λ t. array_same (next_type_ordinal around p) o n t)))
+        let lengths : length_by_operand (facts_at (so_old p) false) o ≡ length_by_operand (facts_at (so_new p) false) o = refl in
+        goes_on_equally (λ n. report_on_written_type (suc around) (so_old p) u >>= made_array_type (next_type_ordinal around p) o n) (λ n. report_on_written_type (suc around) (so_new p) u >>= made_array_type (next_type_ordinal around p) o n) lengths
+        (λ n. goes_on (made_array_type (next_type_ordinal around p) o n) (made_array_type (next_type_ordinal around p) o n) (written_same (suc around) p u h.1) (λ t. array_same (next_type_ordinal around p) o n t)))
     written_same around p (record_type g rest) h =
-        goes_on old new (λ first. report_on_further_field_groups (suc around) first rest >>= made_record_type (token_before_group g (record_keyword_token rest)) (next_type_ordinal around p))
+        goes_on (λ first. report_on_further_field_groups (suc around) first rest >>= made_record_type (token_before_group g (record_keyword_token rest)) (next_type_ordinal around p))
         (λ first. report_on_further_field_groups (suc around) first rest >>= made_record_type (token_before_group g (record_keyword_token rest)) (next_type_ordinal around p))
         (group_same (suc around) (no_known_fields p) g h.0)
         (λ first.
-        goes_on old new (made_record_type (token_before_group g (record_keyword_token rest)) (next_type_ordinal around p)) (made_record_type (token_before_group g (record_keyword_token rest)) (next_type_ordinal around p)) (groups_same (suc around) first rest h.1)
+        goes_on (made_record_type (token_before_group g (record_keyword_token rest)) (next_type_ordinal around p)) (made_record_type (token_before_group g (record_keyword_token rest)) (next_type_ordinal around p)) (groups_same (suc around) first rest h.1)
         (λ all. made_same all.following (token_before_group g (record_keyword_token rest)) (next_type_ordinal around p) (of_fields all.fields) (record_size all.size)))
 
     group_same : (around : ℕ) (so_far : KnownFields) (g : Tree ℕ fields) → Each g → AddsKnownFields (report_on_field_group around (gathered_old so_far) g) (report_on_field_group around (gathered_new so_far) g)
-    group_same around so_far no_fields h = rightly old new gathered_old gathered_new so_far
+    group_same around so_far no_fields h = rightly gathered_old gathered_new so_far
     group_same around so_far (some_fields ns t) h =
-        goes_on old new (λ u. without_fault (with_field_group (gathered_old so_far) (names_in_list ns) u)) (λ u. without_fault (with_field_group (gathered_new so_far) (names_in_list ns) u)) (written_same around so_far.following t h.1)
+        goes_on (λ u. without_fault (with_field_group (gathered_old so_far) (names_in_list ns) u)) (λ u. without_fault (with_field_group (gathered_new so_far) (names_in_list ns) u)) (written_same around so_far.following t h.1)
         (λ u. gathered_same so_far (names_in_list ns) u (names_each ns h.0))
 
     groups_same : (around : ℕ) (so_far : KnownFields) (gs : Tree ℕ (items further_fields)) → Each gs → AddsKnownFields (report_on_further_field_groups around (gathered_old so_far) gs) (report_on_further_field_groups around (gathered_new so_far) gs)
-    groups_same around so_far end h = rightly old new gathered_old gathered_new so_far
+    groups_same around so_far end h = rightly gathered_old gathered_new so_far
     groups_same around so_far (more (then_fields g) rest) h =
-        goes_on old new (λ next. report_on_further_field_groups around next rest) (λ next. report_on_further_field_groups around next rest) (group_same around so_far g h.0) (λ next. groups_same around next rest h.1)
+        goes_on (λ next. report_on_further_field_groups around next rest) (λ next. report_on_further_field_groups around next rest) (group_same around so_far g h.0) (λ next. groups_same around next rest h.1)
 
   -- ---- declarations
 
   -- Declaring one or several names keeps the states of both texts alike.
-  defined : (p : KnownDeclarations) (m : Meaning TypeId) (x : ℕ) → P x → So (without_fault (define (so_old p) m x)) (without_fault (define (so_new p) m x))
-  defined p m x h = so (define (so_old p) m x) (define (so_old p) m x) (define (so_new p) m x) (define_before p m x) (define_after p m x h)
+  defined : (p : KnownDeclarations) (m : Meaning TypeId) (x : ℕ) → P x → So (without_fault (define_name_at_token (so_old p) m x)) (without_fault (define_name_at_token (so_new p) m x))
+  defined p m x h = so (define_name_at_token (so_old p) m x) (define_name_at_token (so_old p) m x) (define_name_at_token (so_new p) m x) (define_before p m x) (define_after p m x h)
 
-  all_defined : (p : KnownDeclarations) (m : Meaning TypeId) (xs : List ℕ) → AllOf xs → So (without_fault (define_all (so_old p) m xs)) (without_fault (define_all (so_new p) m xs))
-  all_defined p m xs h = so (define_all (so_old p) m xs) (define_all (so_old p) m xs) (define_all (so_new p) m xs) (all_before p m xs) (all_after p m xs h)
+  all_defined : (p : KnownDeclarations) (m : Meaning TypeId) (xs : List ℕ) → AllOf xs → So (without_fault (define_names_at_tokens (so_old p) m xs)) (without_fault (define_names_at_tokens (so_new p) m xs))
+  all_defined p m xs h = so (define_names_at_tokens (so_old p) m xs) (define_names_at_tokens (so_old p) m xs) (define_names_at_tokens (so_new p) m xs) (all_before p m xs) (all_after p m xs h)
 
   constant_after : (p : KnownDeclarations) (c : Tree ℕ (item constant)) → Each c → So (report_on_constant_declaration (so_old p) c) (report_on_constant_declaration (so_new p) c)
   unfolding report_on_constant_declaration
   constant_after p (declares_constant x e) h =
-      goes_on old new (λ v. without_fault (define (so_old p) (a_constant v) x)) (λ v. without_fault (define (so_new p) (a_constant v) x)) (constant_same old new os ns P w (types_so_far p.made) (declared_at p) true e h.1)
+      goes_on_equally (λ v. without_fault (define_name_at_token (so_old p) (a_constant v) x)) (λ v. without_fault (define_name_at_token (so_new p) (a_constant v) x)) (constant_same old new os ns P w (types_so_far p.made) (declared_at p) true e h.1)
       (λ v. defined p (a_constant v) x h.0)
 
   pub constants_same : (p : KnownDeclarations) (cs : Tree ℕ (items constant)) → Each cs → So (report_on_constant_declarations (so_old p) cs) (report_on_constant_declarations (so_new p) cs)
   unfolding report_on_constant_declarations
-  constants_same p end h = rightly old new so_old so_new p
-  constants_same p (more c rest) h = goes_on old new (λ q. report_on_constant_declarations q rest) (λ q. report_on_constant_declarations q rest) (constant_after p c h.0) (λ q. constants_same q rest h.1)
+  constants_same p end h = rightly so_old so_new p
+  constants_same p (more c rest) h = goes_on (λ q. report_on_constant_declarations q rest) (λ q. report_on_constant_declarations q rest) (constant_after p c h.0) (λ q. constants_same q rest h.1)
 
   select_type : (p : KnownDeclarations) (d : Tree ℕ (item type_definition)) → Each d → So (report_on_type_declaration (so_old p) d) (report_on_type_declaration (so_new p) d)
   unfolding report_on_type_declaration
   select_type p (declares_type x t) h =
-      goes_on old new (λ u. without_fault (define u.following (a_type u.of) x)) (λ u. without_fault (define u.following (a_type u.of) x)) (written_same 0 p t h.1)
+      goes_on (λ u. without_fault (define_name_at_token u.following (a_type u.of) x)) (λ u. without_fault (define_name_at_token u.following (a_type u.of) x)) (written_same 0 p t h.1)
       (λ u. defined u.following (a_type u.of) x h.0)
 
   pub types_same : (p : KnownDeclarations) (ds : Tree ℕ (items type_definition)) → Each ds → So (report_on_type_declarations (so_old p) ds) (report_on_type_declarations (so_new p) ds)
   unfolding report_on_type_declarations
-  types_same p end h = rightly old new so_old so_new p
-  types_same p (more d rest) h = goes_on old new (λ q. report_on_type_declarations q rest) (λ q. report_on_type_declarations q rest) (select_type p d h.0) (λ q. types_same q rest h.1)
+  types_same p end h = rightly so_old so_new p
+  types_same p (more d rest) h = goes_on (λ q. report_on_type_declarations q rest) (λ q. report_on_type_declarations q rest) (select_type p d h.0) (λ q. types_same q rest h.1)
 
   variables_after : (p : KnownDeclarations) (g : Tree ℕ (item variable)) → Each g → So (report_on_variable_group (so_old p) g) (report_on_variable_group (so_new p) g)
   unfolding report_on_variable_group
   variables_after p (declares_variable ns t) h =
-      goes_on old new (λ u. without_fault (define_all u.following (a_variable u.of) (names_in_list ns))) (λ u. without_fault (define_all u.following (a_variable u.of) (names_in_list ns))) (written_same 0 p t h.1)
+      goes_on (λ u. without_fault (define_names_at_tokens u.following (a_variable u.of) (names_in_list ns))) (λ u. without_fault (define_names_at_tokens u.following (a_variable u.of) (names_in_list ns))) (written_same 0 p t h.1)
       (λ u. all_defined u.following (a_variable u.of) (names_in_list ns) (names_each ns h.0))
 
   pub variables_same : (p : KnownDeclarations) (gs : Tree ℕ (items variable)) → Each gs → So (report_on_variable_declarations (so_old p) gs) (report_on_variable_declarations (so_new p) gs)
   unfolding report_on_variable_declarations
-  variables_same p end h = rightly old new so_old so_new p
-  variables_same p (more g rest) h = goes_on old new (λ q. report_on_variable_declarations q rest) (λ q. report_on_variable_declarations q rest) (variables_after p g h.0) (λ q. variables_same q rest h.1)
+  variables_same p end h = rightly so_old so_new p
+  variables_same p (more g rest) h = goes_on (λ q. report_on_variable_declarations q rest) (λ q. report_on_variable_declarations q rest) (variables_after p g h.0) (λ q. variables_same q rest h.1)
 
   -- ---- headings
 
-  parameters_after : (h : KnownHeading) (by_place : Bool) (xs : List ℕ) (t : TypeWithState) → AllOf xs → Heads (without_fault (with_parameters (heading_old h) by_place xs (typed_old t))) (without_fault (with_parameters (heading_new h) by_place xs (typed_new t)))
+  parameters_after : (h : KnownHeading) (by_place : Bool) (xs : List ℕ) (t : TypeWithFollowingDeclarations) → AllOf xs → Heads (without_fault (with_parameters (heading_old h) by_place xs (typed_old t))) (without_fault (with_parameters (heading_new h) by_place xs (typed_new t)))
   parameters_after h by_place xs t each =
       let more_formals : KnownDeclarations → KnownHeading = λ p. record { formals = h.formals ++ map (λ x. record { by_place = by_place; of = t.of }) xs; following = p } in
       record {
         value = with_parameters (heading_old h) by_place xs (typed_old t);
         before = ap more_formals (all_before t.following (a_variable t.of) xs);
         after = ap more_formals (all_after t.following (a_variable t.of) xs each);
-        faults = none_same old new;
+        faults = refl;
       }
 
   parameters_same : (h : KnownHeading) (by_place : Bool) (ns : Tree ℕ names) (t : Tree ℕ written_type) → Each ns → Each t → Heads (report_on_parameters (heading_old h) by_place ns t) (report_on_parameters (heading_new h) by_place ns t)
   unfolding report_on_parameters
   parameters_same h by_place ns t of_names of_type =
-      goes_on old new (λ u. without_fault (with_parameters (heading_old h) by_place (names_in_list ns) u)) (λ u. without_fault (with_parameters (heading_new h) by_place (names_in_list ns) u)) (written_same 0 h.following t of_type)
+      goes_on (λ u. without_fault (with_parameters (heading_old h) by_place (names_in_list ns) u)) (λ u. without_fault (with_parameters (heading_new h) by_place (names_in_list ns) u)) (written_same 0 h.following t of_type)
       (λ u. parameters_after h by_place (names_in_list ns) u (names_each ns of_names))
 
   section_same : (h : KnownHeading) (s : Tree ℕ (item further_section)) → Each s → Heads (report_on_parameter_section (heading_old h) s) (report_on_parameter_section (heading_new h) s)
@@ -258,8 +266,8 @@ module _ (old new : TextWithTokens) (os ns : List (Option ℕ)) (P : ℕ → Typ
 
   pub sections_same : (h : KnownHeading) (ss : Tree ℕ (items further_section)) → Each ss → Heads (report_on_parameter_sections (heading_old h) ss) (report_on_parameter_sections (heading_new h) ss)
   unfolding report_on_parameter_sections
-  sections_same h end each = rightly old new heading_old heading_new h
-  sections_same h (more s rest) each = goes_on old new (λ g. report_on_parameter_sections g rest) (λ g. report_on_parameter_sections g rest) (section_same h s each.0) (λ g. sections_same g rest each.1)
+  sections_same h end each = rightly heading_old heading_new h
+  sections_same h (more s rest) each = goes_on (λ g. report_on_parameter_sections g rest) (λ g. report_on_parameter_sections g rest) (section_same h s each.0) (λ g. sections_same g rest each.1)
 
   -- The states within a procedure, after its heading, are alike in both texts.
   pub heading_after : (x : ℕ) (h : KnownHeading) → P x → So (without_fault (declarations_after_heading x (heading_old h))) (without_fault (declarations_after_heading x (heading_new h)))
@@ -288,57 +296,73 @@ module _ (old new : TextWithTokens) (os ns : List (Option ℕ)) (P : ℕ → Typ
 
   pub body_same : (p : KnownDeclarations) (b : Tree ℕ (maybe body)) → Each b → So (report_on_body (so_old p) b) (report_on_body (so_new p) b)
   unfolding report_on_body
-  body_same p none h = rightly old new so_old so_new p
+  body_same p none h = rightly so_old so_new p
   body_same p (one (begins statements)) h = record { value = p; before = refl; after = refl; faults = sequence_same old new os ns P w (types_so_far p.made) (declared_at p) false statements h }
 
   -- ---- blocks and procedures
 
+  abbrev pub walked_old : Both → WalkProgress
+  walked_old z = record { so_far = so_old z.so; bodies_with_faults = z.in_old }
+
+  abbrev pub walked_new : Both → WalkProgress
+  walked_new z = record { so_far = so_new z.so; bodies_with_faults = z.in_new }
+
+  -- returns both states at the end of a body that is walked
+  abbrev pub after_body : ℕ → Both → Tree ℕ (maybe body) → Both
+  after_body own z b = record {
+    so = z.so;
+    in_old = with_body_if_faulty (body_faults (so_old z.so) b) own z.in_old;
+    in_new = with_body_if_faulty (body_faults (so_new z.so) b) own z.in_new;
+  }
+
+  abbrev Walks : ResultWithFaults WalkProgress → ResultWithFaults WalkProgress → Type 0
+  Walks r s = Alike old new walked_old walked_new r s
+
+  body_walked : (own : ℕ) (z : Both) (b : Tree ℕ (maybe body)) → Each b → Walks (report_body_if_wanted true own (walked_old z) b) (report_body_if_wanted true own (walked_new z) b)
+  body_walked own z b h = record { value = after_body own z b; before = refl; after = refl; faults = body_same z.so b h }
+
   -- If a block has the same report in both texts from alike states, it also has after a heading.
-  block_after : (b : Tree ℕ block) → ((q : KnownDeclarations) → So (report_on_block (so_old q) b) (report_on_block (so_new q) b)) → (h : KnownHeading) (x : ℕ) → P x → So (report_on_block (declarations_after_heading x (heading_old h)) b) (report_on_block (declarations_after_heading x (heading_new h)) b)
-  block_after b each h x at =
+  block_after : (own : ℕ) (z : Both) (b : Tree ℕ block) → ((y : Both) → Walks (report_on_block every_body own (walked_old y) b) (report_on_block every_body own (walked_new y) b)) → (h : KnownHeading) (x : ℕ) → P x
+      → Walks (report_on_block every_body own (with_declarations (walked_old z) (declarations_after_heading x (heading_old h))) b) (report_on_block every_body own (with_declarations (walked_new z) (declarations_after_heading x (heading_new h))) b)
+  block_after own z b each h x at =
       let a = heading_after x h at in
-      subst (λ q. So (report_on_block q b) (report_on_block (declarations_after_heading x (heading_new h)) b)) (sym a.before) (subst (λ q. So (report_on_block (so_old a.value) b) (report_on_block q b)) (sym a.after) (each a.value))
+      subst (λ q. Walks (report_on_block every_body own (with_declarations (walked_old z) q) b) (report_on_block every_body own (with_declarations (walked_new z) (declarations_after_heading x (heading_new h))) b)) (sym a.before)
+      (subst (λ q. Walks (report_on_block every_body own (with_declarations (walked_old z) (so_old a.value)) b) (report_on_block every_body own (with_declarations (walked_new z) q) b)) (sym a.after) (each (further z a.value)))
 
   mutual
     unfolding report_on_block
 
     pub block_same : (p : KnownDeclarations) (b : Tree ℕ block) → Each b → So (report_on_block (so_old p) b) (report_on_block (so_new p) b)
     block_same p (forms_block (declares cs ts vs ps) statements) h =
-        goes_on old new (λ q. report_on_type_declarations q (section_types ts) >>= (λ r. report_on_variable_declarations r (section_variables vs) >>= (λ s. report_on_procedures s ps >>= (λ t. report_on_body t statements))))
+        goes_on (λ q. report_on_type_declarations q (section_types ts) >>= (λ r. report_on_variable_declarations r (section_variables vs) >>= (λ s. report_on_procedures s ps >>= (λ t. report_on_body t statements))))
         (λ q. report_on_type_declarations q (section_types ts) >>= (λ r. report_on_variable_declarations r (section_variables vs) >>= (λ s. report_on_procedures s ps >>= (λ t. report_on_body t statements))))
         (constants_same p (section_constants cs) (constants_each cs h.0.0))
         (λ q.
-        goes_on old new (λ r. report_on_variable_declarations r (section_variables vs) >>= (λ s. report_on_procedures s ps >>= (λ t. report_on_body t statements)))
+        goes_on (λ r. report_on_variable_declarations r (section_variables vs) >>= (λ s. report_on_procedures s ps >>= (λ t. report_on_body t statements)))
         (λ r. report_on_variable_declarations r (section_variables vs) >>= (λ s. report_on_procedures s ps >>= (λ t. report_on_body t statements)))
         (types_same q (section_types ts) (types_each ts h.0.1))
         (λ r.
-        goes_on old new (λ s. report_on_procedures s ps >>= (λ t. report_on_body t statements)) (λ s. report_on_procedures s ps >>= (λ t. report_on_body t statements))
+        goes_on (λ s. report_on_procedures s ps >>= (λ t. report_on_body t statements)) (λ s. report_on_procedures s ps >>= (λ t. report_on_body t statements))
         (variables_same r (section_variables vs) (variables_each vs h.0.2))
-        (λ s. goes_on old new (λ t. report_on_body t statements) (λ t. report_on_body t statements) (procedures_same s ps h.0.3) (λ t. body_same t statements h.1))))
+        (λ s. goes_on (λ t. report_on_body t statements) (λ t. report_on_body t statements) (procedures_same s ps h.0.3) (λ t. body_same t statements h.1))))
 
     procedures_same : (p : KnownDeclarations) (ps : Tree ℕ (items procedure)) → Each ps → So (report_on_procedures (so_old p) ps) (report_on_procedures (so_new p) ps)
-    procedures_same p end h = rightly old new so_old so_new p
-    procedures_same p (more d rest) h = goes_on old new (λ q. report_on_procedures q rest) (λ q. report_on_procedures q rest) (procedure_same p d h.0) (λ q. procedures_same q rest h.1)
+    procedures_same p end h = rightly so_old so_new p
+    procedures_same p (more d rest) h = goes_on (λ q. report_on_procedures q rest) (λ q. report_on_procedures q rest) (procedure_same p d h.0) (λ q. procedures_same q rest h.1)
 
     procedure_same : (p : KnownDeclarations) (d : Tree ℕ (item procedure)) → Each d → So (report_on_procedure (so_old p) d) (report_on_procedure (so_new p) d)
     procedure_same p (declares_procedure x fs b closing) h =
-        goes_on old new (λ g. report_on_block (declarations_after_heading x g) b) (λ g. report_on_block (declarations_after_heading x g) b) (sections_same (record { formals = []; following = p }) (formal_sections fs) (formals_each fs h.1))
+        goes_on (λ g. report_on_block (declarations_after_heading x g) b) (λ g. report_on_block (declarations_after_heading x g) b) (sections_same (record { formals = []; following = p }) (formal_sections fs) (formals_each fs h.1))
         (λ g. block_after b (λ q. block_same q b h.2) g x h.0)
 
 -- ---- a module
 
-same_count : (old new : TextWithTokens) → HaveSameKindsAndSpellings old new → length new.tokens ≡ length old.tokens
-same_count old new w = sym (length-map new.tokens (word_of_token new.text)) ∙ (ap length w.same_words ∙ length-map old.tokens (word_of_token old.text))
-
--- If all tokens of two texts have the same spellings, the undeclared names and the faults of types are at the same
--- tokens.
-pub module_same : (old new : TextWithTokens) (w : HaveSameKindsAndSpellings old new) (tree : ModuleTree) (ordinals : List (Option ℕ)) (declaration_tokens uses : List ℕ) (before after : List Fault) → AreFaultsAtSameTokens old new before after
-    → AreFaultsAtSameTokens old new (undeclared_name_and_type_faults (record { module_read = parsed_module old tree; ordinals = ordinals; declaration_tokens = declaration_tokens; uses = uses; faults = before }))
-    (undeclared_name_and_type_faults (record { module_read = parsed_module new tree; ordinals = ordinals; declaration_tokens = declaration_tokens; uses = uses; faults = after }))
+-- If all tokens of two texts have the same spellings, both modules have the same undeclared names and faults of types.
+pub module_same : (old new : TextWithTokens) → words_of_tokens new.text new.tokens ≡ words_of_tokens old.text old.tokens → (tree : ModuleTree) (b : Bindings)
+    → undeclared_name_and_type_faults (resolution_with (parsed_module old tree) b) ≡ undeclared_name_and_type_faults (resolution_with (parsed_module new tree) b)
 unfolding undeclared_name_and_type_faults
-module_same old new w tree ordinals declaration_tokens uses before after h =
-    let first : KnownDeclarations = state_at_start (record { module_read = parsed_module old tree; ordinals = ordinals; declaration_tokens = declaration_tokens; uses = uses; faults = before }) in
+module_same old new same tree b =
     let P : ℕ → Type 0 = λ k. Unit {0} in
-    let likeness : Alikeness old new ordinals ordinals P = record { count = same_count old new w; written = λ k u. λ j. texts_stay old new w j k; value = λ k u. λ j. values_stay old new w j k; bound = λ k u. refl } in
-    let b : Tree ℕ block = module_block (tree_of (parsed_module old tree)) in
-    both_same old new (filter_same old new is_undeclared_fault (λ f. refl) h) (block_same old new ordinals ordinals P likeness first b (each_token P (λ k. tt) b)).faults
+    let likeness : Alikeness old new b.ordinals.items b.ordinals.items P = record { count = same_count old new same; written = λ k u. λ j. same_texts old new same j k; value = λ k u. λ j. same_values old new same j k; bound = λ k u. refl } in
+    let whole : Tree ℕ block = module_block (tree_of (parsed_module old tree)) in
+    ap (λ fs. filter is_undeclared_fault b.faults.items ++ fs) (block_same old new b.ordinals.items b.ordinals.items P likeness (known_declarations_at_start (resolution_with (parsed_module old tree) b)) whole (each_token P (λ k. tt) whole)).faults

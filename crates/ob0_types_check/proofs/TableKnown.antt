@@ -12,7 +12,7 @@ use Rattle.ob0_language_types.specs.Expressions as meant
 use Rattle.ob0_language_types.specs.Typing.{depth, scalars}
 use Rattle.ob0_language_types.specs.WellTyped.{Signature, signature_of}
 use Rattle.ob0_types_table.specs.KnownTables.{declared_object_in, shapes_of}
-use Rattle.ob0_types_table.specs.Tables.{AreEntriesInOrder, IsValidEntry, RefersOnlyToFirstEntries, field_shapes, formal_view, entry_shape, faulty_shape, object_view, array_or_faulty, record_or_faulty, extended_shapes, type_shape}
+use Rattle.ob0_types_table.specs.DeclarationTableView.{AreEntriesInOrder, IsValidEntry, RefersOnlyToFirstEntries, field_shapes, formal_view, entry_shape, faulty_shape, object_view, array_or_faulty, record_or_faulty, extended_shapes, type_shape}
 use Rattle.ob0_types_table.specs.declared.known.Field.{Field}
 use Rattle.ob0_types_table.specs.declared.known.FormalParameter as formal
 use Rattle.ob0_types_table.specs.declared.known.Object as object
@@ -23,7 +23,7 @@ use Rattle.ob0_types_table.specs.declared.known.TypeEntry.TheVariants as made
 use Rattle.ob0_types_table.specs.declared.types.TypeId.{TypeId}
 use Rattle.ob0_types_table.specs.declared.types.TypeId.TheVariants as type
 use Rattle.ob0_language_values.specs.Values.{FieldShapes, Shape, array_shape, boolean_shape, integer_shape, next_field_shape, no_field_shape, record_shape}
-use Rattle.ob0_types_check.specs.Agreement.{DeclarationAgreesWithObject, EntriesAgreeWithShapes, FieldsAgreeWithShapes, FormalsAgreeWithSignature, CompositeAgreesWithShape, MeaningAgreesWithObject, as_array, as_record, is_standard_procedure, shape_of_type_in}
+use Rattle.ob0_types_check.specs.Agreement.{DeclarationAgreesWithObject, EntriesAgreeWithShapes, FieldsAgreeWithShapes, FormalsAgreeWithSignature, CompositeAgreesWithShape, MeaningAgreesWithObject, shape_if_array, shape_if_record, is_standard_procedure, shape_of_type_in}
 use Rattle.ob0_types_check.specs.ModuleLaws.{KnowsDeclarations}
 use Rattle.ob0_types_check.specs.CheckerViews.{known_fields_of, formal_of, composite_type_of, meaning_view, table_object, declarations_in_state, table_in_state, with_standard_procedures}
 use Rattle.ob0_types_check.specs.declared.reporting.checker_state.Meaning.{Meaning}
@@ -32,13 +32,13 @@ use Rattle.ob0_types_check.specs.declared.reporting.checker_state.CheckerState.{
 use Rattle.ob0_types_check.proofs.Unreported.{some-same}
 
 -- A type that has a shape in the law has the same shape in the table.
-array_only : (x u : Shape) → as_array x ≡ Some u → array_or_faulty x ≡ u
+array_only : (x u : Shape) → shape_if_array x ≡ Some u → array_or_faulty x ≡ u
 array_only integer_shape u e = absurd (cc)
 array_only boolean_shape u e = absurd (cc)
 array_only (array_shape k n s) u e = some-same (array_shape k n s) u e
 array_only (record_shape k fs) u e = absurd (cc)
 
-record_only : (x u : Shape) → as_record x ≡ Some u → record_or_faulty x ≡ u
+record_only : (x u : Shape) → shape_if_record x ≡ Some u → record_or_faulty x ≡ u
 record_only integer_shape u e = absurd (cc)
 record_only boolean_shape u e = absurd (cc)
 record_only (array_shape k n s) u e = absurd (cc)
@@ -57,15 +57,15 @@ place_there f (x ∷ known) (suc i) u e = omega (arith, place_there f known i u 
 type_there : (known : List Shape) (t : TypeId) (u : Shape) → shape_of_type_in known t ≡ Some u → type_shape known t ≡ u
 type_there known type.Integer u e = some-same integer_shape u e
 type_there known type.Boolean u e = some-same boolean_shape u e
-type_there known (type.Array i) u e = shape_there as_array array_or_faulty array_only known i u e
-type_there known (type.Record i) u e = shape_there as_record record_or_faulty record_only known i u e
+type_there known (type.Array i) u e = shape_there shape_if_array array_or_faulty array_only known i u e
+type_there known (type.Record i) u e = shape_there shape_if_record record_or_faulty record_only known i u e
 type_there known type.Unknown u e = absurd (cc)
 
 made_there : (known : List Shape) (t : TypeId) (u : Shape) → shape_of_type_in known t ≡ Some u → RefersOnlyToFirstEntries (length known) t
 made_there known type.Integer u e = tt
 made_there known type.Boolean u e = tt
-made_there known (type.Array i) u e = place_there as_array known i u e
-made_there known (type.Record i) u e = place_there as_record known i u e
+made_there known (type.Array i) u e = place_there shape_if_array known i u e
+made_there known (type.Record i) u e = place_there shape_if_record known i u e
 made_there known type.Unknown u e = absurd (cc)
 
 fields_there : (known : List Shape) (fs : List Field) (gs : FieldShapes) → FieldsAgreeWithShapes (shape_of_type_in known) (known_fields_of fs) gs → (field_shapes known fs ≡ gs) × All (λ f. RefersOnlyToFirstEntries (length known) f.of) fs

@@ -12,7 +12,7 @@ use Rattle.ob0_language_values.specs.Values.{FieldShapes, Shape, array_shape, ne
 use Rattle.ob0_types_check.proofs.DeclaredShapes.{longer_more, made_kept}
 use Rattle.ob0_types_check.specs.Known.{a_record, an_array}
 use Rattle.ob0_types_check.specs.KnownDeclarations.{CompositeType, PartTypes, KnownField, element_type_of_composite, element_type_of_parts, field_type_of_composite, field_type_of_parts, type_of_field_named, form_of_type_so_far, of_elements, of_fields, same_type}
-use Rattle.ob0_types_check.specs.Agreement.{EntriesAgreeWithShapes, FieldsAgreeWithShapes, FormAgreesWithShape, CompositeAgreesWithShape, PartsAgreeWithShape, TableAgreesWithShapes, as_array, as_record, shape_of_type_in}
+use Rattle.ob0_types_check.specs.Agreement.{EntriesAgreeWithShapes, FieldsAgreeWithShapes, FormAgreesWithShape, CompositeAgreesWithShape, PartsAgreeWithShape, TableAgreesWithShapes, shape_if_array, shape_if_record, shape_of_type_in}
 use Rattle.ob0_types_check.specs.ReportLaws.{TypesAgreeWithShapesIfTableDoes}
 use Rattle.ob0_types_check.proofs.Unreported.{some-none, some-same}
 
@@ -34,9 +34,9 @@ entry-found known (m ∷ ms) (u ∷ us) (suc i) s each h =
 pub found : (made : List CompositeType) (shapes : List Shape) (i : ℕ) (s : Shape) → TableAgreesWithShapes made shapes → slice_get shapes i ≡ Some s → Found (shape_of_type_in shapes) made i s
 found made shapes i s each h = entry-found [] made shapes i s each h
 
-array-formed : (shape : TypeId → Option Shape) (k : ℕ) (p : PartTypes) (r s : Shape) → PartsAgreeWithShape shape k p r → as_array r ≡ Some s → FormAgreesWithShape shape (an_array (element_type_of_parts p)) s
-array-formed shape k (of_elements n t) r s (u, e, known) h = (k, n, u, some-same s (array_shape k n u) (sym h ∙ ap as_array e), known)
-array-formed shape k (of_fields fields) r s (fs, e, each) h = absurd (some-none s (sym h ∙ ap as_array e))
+array-formed : (shape : TypeId → Option Shape) (k : ℕ) (p : PartTypes) (r s : Shape) → PartsAgreeWithShape shape k p r → shape_if_array r ≡ Some s → FormAgreesWithShape shape (an_array (element_type_of_parts p)) s
+array-formed shape k (of_elements n t) r s (u, e, known) h = (k, n, u, some-same s (array_shape k n u) (sym h ∙ ap shape_if_array e), known)
+array-formed shape k (of_fields fields) r s (fs, e, each) h = absurd (some-none s (sym h ∙ ap shape_if_array e))
 
 -- If fields agree with a record's shape, looking up a field by name gives the type of the shape's field.
 field-there : (shape : TypeId → Option Shape) (fields : List KnownField) (fs : FieldShapes) → FieldsAgreeWithShapes shape fields fs → (x : Name) → option_map shape (type_of_field_named fields x) ≡ option_map Some (shape_of_field fs x)
@@ -47,20 +47,20 @@ field-there shape (f ∷ fields) (next_field_shape y s fs) h x =
     ap (λ z. option_map shape (if same_name x z then Some f.of else type_of_field_named fields x)) h.0
     ∙ (elim (same_name x y) as (λ b. option_map shape (if b then Some f.of else type_of_field_named fields x) ≡ option_map Some (if b then Some s else shape_of_field fs x)) [ true ↦ ap Some h.1 | false ↦ field-there shape fields fs h.2 x ])
 
-record-formed : (shape : TypeId → Option Shape) (k : ℕ) (p : PartTypes) (r s : Shape) → PartsAgreeWithShape shape k p r → as_record r ≡ Some s → FormAgreesWithShape shape (a_record (field_type_of_parts p)) s
-record-formed shape k (of_elements n t) r s (u, e, known) h = absurd (some-none s (sym h ∙ ap as_record e))
-record-formed shape k (of_fields fields) r s (fs, e, each) h = (k, fs, some-same s (record_shape k fs) (sym h ∙ ap as_record e), field-there shape fields fs each)
+record-formed : (shape : TypeId → Option Shape) (k : ℕ) (p : PartTypes) (r s : Shape) → PartsAgreeWithShape shape k p r → shape_if_record r ≡ Some s → FormAgreesWithShape shape (a_record (field_type_of_parts p)) s
+record-formed shape k (of_elements n t) r s (u, e, known) h = absurd (some-none s (sym h ∙ ap shape_if_record e))
+record-formed shape k (of_fields fields) r s (fs, e, each) h = (k, fs, some-same s (record_shape k fs) (sym h ∙ ap shape_if_record e), field-there shape fields fs each)
 
 formed-there : (made : List CompositeType) (shapes : List Shape) → TableAgreesWithShapes made shapes → (t : TypeId) (s : Shape) → shape_of_type_in shapes t ≡ Some s → FormAgreesWithShape (shape_of_type_in shapes) (form_of_type_so_far made t) s
 formed-there made shapes each type.Integer s h = tt
 formed-there made shapes each type.Boolean s h = tt
 formed-there made shapes each type.Unknown s h = absurd (cc)
 formed-there made shapes each (type.Array i) s h =
-    option_and_then_some as_array (slice_get shapes i) s h
+    option_and_then_some shape_if_array (slice_get shapes i) s h
     (λ r at is. let f = found made shapes i r each at in
     subst (λ o. FormAgreesWithShape (shape_of_type_in shapes) (an_array (element_type_of_composite o)) s) (sym f.there) (array-formed (shape_of_type_in shapes) f.entry.ordinal f.entry.parts r s f.agrees.parts is))
 formed-there made shapes each (type.Record i) s h =
-    option_and_then_some as_record (slice_get shapes i) s h
+    option_and_then_some shape_if_record (slice_get shapes i) s h
     (λ r at is. let f = found made shapes i r each at in
     subst (λ o. FormAgreesWithShape (shape_of_type_in shapes) (a_record (field_type_of_composite o)) s) (sym f.there) (record-formed (shape_of_type_in shapes) f.entry.ordinal f.entry.parts r s f.agrees.parts is))
 
@@ -68,8 +68,8 @@ same-there : (shapes : List Shape) (s t : TypeId) → same_type s t ≡ true →
 same-there shapes type.Integer type.Integer h = refl
 same-there shapes type.Boolean type.Boolean h = refl
 same-there shapes type.Unknown type.Unknown h = refl
-same-there shapes (type.Array i) (type.Array j) h = ap (λ k. option_and_then as_array (slice_get shapes k)) (eqb-true i j h)
-same-there shapes (type.Record i) (type.Record j) h = ap (λ k. option_and_then as_record (slice_get shapes k)) (eqb-true i j h)
+same-there shapes (type.Array i) (type.Array j) h = ap (λ k. option_and_then shape_if_array (slice_get shapes k)) (eqb-true i j h)
+same-there shapes (type.Record i) (type.Record j) h = ap (λ k. option_and_then shape_if_record (slice_get shapes k)) (eqb-true i j h)
 same-there shapes _ _ h = absurd (cc)
 
 pub types_agree_with_shapes_if_table_does-holds : TypesAgreeWithShapesIfTableDoes

@@ -12,7 +12,7 @@ use Rattle.ob0_types_check.specs.Known.{Facts, Operand}
 use Rattle.ob0_types_check.specs.Operations.{required_type, without_fault}
 use Rattle.ob0_types_check.specs.KnownDeclarations.{facts_at}
 use Rattle.ob0_types_check.specs.TypeFaults.{operand_value, length_or_fault, length_by_value, length_by_operand, report_on_constant_expression, value_or_fault}
-use Rattle.ob0_types_check.specs.Agreement.{TypesAndMeaningsAgree, shape_of_type_in}
+use Rattle.ob0_types_check.specs.Agreement.{FactsAgreeWithShapesAndLabels, shape_of_type_in}
 use Rattle.ob0_types_check.specs.WellTypedLaws.{ConstantsWithValuesHaveNoFault, TypedExpressionsHaveNoFault, ValidLengthsHaveNoFault}
 use Rattle.ob0_types_check.proofs.FittingExpressions.{FitsExpression, expression-fits}
 use Rattle.ob0_types_check.proofs.FittingNames.{only-tokens, tokens-fit}
@@ -26,7 +26,7 @@ pub is-there : {A : Type 0} (o : Option A) → is_some o ≡ true → (a : A) ×
 is-there None h = absurd (cc)
 is-there (Some a) h = (a, refl)
 
-module _ {T N : Type 0} (facts : Facts T) (shape : T → Option Shape) (apart : TypesApart facts.types shape) (label : ℕ → N) (meaning : TypeMeanings N) (e : Tree ℕ expression) (agrees : TypesAndMeaningsAgree facts shape label meaning e) where
+module _ {T N : Type 0} (facts : Facts T) (shape : T → Option Shape) (apart : TypesApart facts.types shape) (label : ℕ → N) (meaning : TypeMeanings N) (e : Tree ℕ expression) (agrees : FactsAgreeWithShapesAndLabels facts shape label meaning e) where
   abbrev here : Tree N expression
   here = mapped_tree label (token_value_at facts.source) e
 
@@ -59,13 +59,13 @@ module _ {T N : Type 0} (facts : Facts T) (shape : T → Option Shape) (apart : 
       let value : (report_on_expression facts e).known.value ≡ Some v = fe.value_agrees ∙ (ap (λ m. outcome_value (evaluate {P = Unit {0}} m [] here)) (constants-again meaning) ∙ given) in
       record { none = none; of = fe.of; known = fe.known; value = value; scalar = fe.scalar v value }
 
-operand_value-right : {T : Type 0} (facts : Facts T) (o : Operand T) (b : Bool) (c : Option Value) (v : Value) → c ≡ Some v → (if b then without_fault None else value_or_fault facts o c).faults ≡ []
-operand_value-right facts o true c v h = refl
-operand_value-right facts o false c v h = ap (λ c. (value_or_fault facts o c).faults) h
+operand_value-right : {T : Type 0} (o : Operand T) (b : Bool) (c : Option Value) (v : Value) → c ≡ Some v → (if b then without_fault None else value_or_fault o c).faults ≡ []
+operand_value-right o true c v h = refl
+operand_value-right o false c v h = ap (λ c. (value_or_fault o c).faults) h
 
-bounds-right : {T : Type 0} (facts : Facts T) (o : Operand T) (b : Bool) (c : Option Value) (v : Value) (n : ℕ) → c ≡ Some v → array_length v ≡ Some n → (if b then length_by_value facts o c else without_fault None).faults ≡ []
-bounds-right facts o true c v n h k = ap (λ c. (length_by_value facts o c).faults) h ∙ ap (λ m. (length_or_fault facts o m).faults) k
-bounds-right facts o false c v n h k = refl
+bounds-right : {T : Type 0} (o : Operand T) (b : Bool) (c : Option Value) (v : Value) (n : ℕ) → c ≡ Some v → array_length v ≡ Some n → (if b then length_by_value o c else without_fault None).faults ≡ []
+bounds-right o true c v n h k = ap (λ c. (length_by_value o c).faults) h ∙ ap (λ m. (length_or_fault o m).faults) k
+bounds-right o false c v n h k = refl
 
 length-integer : (v : Value) (n : ℕ) (s : Shape) → array_length v ≡ Some n → value_type v ≡ Some s → s ≡ integer_shape
 length-integer (number (pos (suc m))) n s h k = some-same s integer_shape (sym k)
@@ -90,7 +90,7 @@ constants_with_values_have_no_fault-holds p shapes label meaning e agrees h =
     let (v, hv) = is-there (constant_value meaning (mapped_tree label (token_value_at p.source) e)) h in
     let c = value-known facts (shape_of_type_in shapes) (types-apart p.made shapes) label meaning e agrees refl v hv in
     let o : Operand _ = (report_on_expression facts e).known in
-    none-of-both (report_on_expression facts e).faults (operand_value facts o).faults c.none (operand_value-right facts o (facts.types.same o.of facts.types.unknown) o.value v c.value)
+    none-of-both (report_on_expression facts e).faults (operand_value facts o).faults c.none (operand_value-right o (facts.types.same o.of facts.types.unknown) o.value v c.value)
 
 pub valid_lengths_have_no_fault-holds : {N : Type 0} → ValidLengthsHaveNoFault N
 valid_lengths_have_no_fault-holds p shapes label meaning e agrees h =
@@ -105,4 +105,4 @@ valid_lengths_have_no_fault-holds p shapes label meaning e agrees h =
     let t = (required_type after after.types.integer o).known in
     none-of-both (report_on_expression facts e).faults (length_by_operand after o).faults c.none
     (none-of-both (required_type after after.types.integer o).faults _ (required_type-right after (shape_of_type_in shapes) agrees.types apart after.types.integer o integer)
-    (bounds-right after o (after.types.same t after.types.integer) o.value v n c.value counted))
+    (bounds-right o (after.types.same t after.types.integer) o.value v n c.value counted))

@@ -11,9 +11,9 @@ use Rattle.ob0_language_types.specs.Expressions as meant
 use Rattle.ob0_language_types.specs.Typing.{constant_value, constructor_count, denoted_type}
 use Rattle.ob0_language_types.specs.WellTyped.{Mode, TypeEnvironment, TypedParameter, bind_names, body_is_well_typed, by_place, by_value, declare_typed_variables, sequence_is_well_typed, typed_parameters}
 use Rattle.ob0_language_values.specs.Values.{Shape, Value}
-use Rattle.ob0_types_check.specs.DeclarationFaults.{KnownHeading, report_on_constant_declarations, report_on_body, report_on_parameter_sections, report_on_type_declarations, report_on_variable_declarations, report_on_constant_declaration, report_on_parameters, report_on_parameter_section, report_on_type_declaration, report_on_variable_group, with_parameters}
-use Rattle.ob0_types_check.specs.Known.{Reported, a_constant, a_type, a_variable}
-use Rattle.ob0_types_check.specs.KnownDeclarations.{KnownDeclarations, TypeWithState, define, define_all, facts_at}
+use Rattle.ob0_types_check.specs.DeclarationFaults.{KnownHeading, body_faults, report_on_constant_declarations, report_on_parameter_sections, report_on_type_declarations, report_on_variable_declarations, report_on_constant_declaration, report_on_parameters, report_on_parameter_section, report_on_type_declaration, report_on_variable_group, with_parameters}
+use Rattle.ob0_types_check.specs.Known.{ResultWithFaults, a_constant, a_type, a_variable}
+use Rattle.ob0_types_check.specs.KnownDeclarations.{KnownDeclarations, TypeWithFollowingDeclarations, define_name_at_token, define_names_at_tokens, facts_at}
 use Rattle.ob0_types_check.specs.TypeFaults.{report_on_constant_expression}
 use Rattle.ob0_types_check.specs.WrittenTypeFaults.{report_on_written_type}
 use Rattle.ob0_types_check.specs.WellTypedLaws.{HaveDistinctOrdinals}
@@ -38,8 +38,8 @@ module _ (w : Numbering) (fit : PartsFit) (fine : PartsRight) where
       let there : is_some (constant_value (meanings naming_by_spelling env) (mapped_tree (token_text_at w.source) (token_value_at p.source) e)) ≡ true =
       some-there (constant_value (meanings naming_by_spelling env) (mapped_tree (token_text_at w.source) (token_value_at p.source) e)) v (ap (λ s. constant_value (meanings naming_by_spelling env) (mapped_tree (token_text_at w.source) (token_value_at s) e)) st.source ∙ hv) in
       let unreported = fine.constants p before (token_text_at w.source) (meanings naming_by_spelling env) e agrees there in
-      let t : Reported (Option Value) = report_on_constant_expression (facts_at p true) e in
-      let q : KnownDeclarations = define p (a_constant t.known) x in
+      let t : ResultWithFaults (Option Value) = report_on_constant_expression (facts_at p true) e in
+      let q : KnownDeclarations = define_name_at_token p (a_constant t.known) x in
       let c = fit.constants p before (token_text_at w.source) (meanings naming_by_spelling env) e agrees unreported in
       let given : value ≡ Some c.value = ap (λ s. constant_value (meanings naming_by_spelling env) (mapped_tree (token_text_at w.source) (token_value_at s) e)) (sym st.source) ∙ c.given in
       let d = defined w p before n (a_constant t.known) x st.ordinals st.room st.table placed.0 in
@@ -55,8 +55,8 @@ module _ (w : Numbering) (fit : PartsFit) (fine : PartsRight) where
       let next : Shape → Option (TypeEnvironment Name) = λ s. declare_types naming_by_spelling ((token_text_at w.source x, meant.a_type s) ∷ env) (k + constructor_count (tree_with_names w.source t)) (tree_with_names w.source ds) in
       let given : Option Shape = denoted_type (meanings naming_by_spelling env) k (tree_with_names w.source t) in
       let (r, hr, later) = and-then next given after h in
-      let u : Reported TypeWithState = report_on_written_type 0 p t in
-      let q : KnownDeclarations = define u.known.following (a_type u.known.of) x in
+      let u : ResultWithFaults TypeWithFollowingDeclarations = report_on_written_type 0 p t in
+      let q : KnownDeclarations = define_name_at_token u.known.following (a_type u.known.of) x in
       let unreported = type_right w fit fine n scope env 0 k t p before (omega (arith, at)) st placed.1 r hr in
       let s = type_denotes w fit n scope env 0 k t p before (omega (arith, at)) st placed.1 unreported in
       let following = holds_later w n n n p u.known.following before s.after scope env (le_refl n) (le_refl n) st s.later in
@@ -74,8 +74,8 @@ module _ (w : Numbering) (fit : PartsFit) (fine : PartsRight) where
       let rest : List Name → Shape → Option (TypeEnvironment Name) = λ ys s. declare_typed_variables naming_by_spelling (k + constructor_count (tree_with_names w.source t)) (tree_with_names w.source gs) (bind_names ys (meant.a_variable s) env) in
       let given : Option Shape = denoted_type (meanings naming_by_spelling env) k (tree_with_names w.source t) in
       let (r, hr, later) = and-then (rest (names_in_list (tree_with_names w.source ns))) given after h in
-      let u : Reported TypeWithState = report_on_written_type 0 p t in
-      let q : KnownDeclarations = define_all u.known.following (a_variable u.known.of) xs in
+      let u : ResultWithFaults TypeWithFollowingDeclarations = report_on_written_type 0 p t in
+      let q : KnownDeclarations = define_names_at_tokens u.known.following (a_variable u.known.of) xs in
       let unreported = type_right w fit fine n scope env 0 k t p before (omega (arith, at)) st placed.1 r hr in
       let s = type_denotes w fit n scope env 0 k t p before (omega (arith, at)) st placed.1 unreported in
       let following = holds_later w n n n p u.known.following before s.after scope env (le_refl n) (le_refl n) st s.later in
@@ -98,7 +98,7 @@ module _ (w : Numbering) (fit : PartsFit) (fine : PartsRight) where
       let j : ℕ = k + constructor_count (tree_with_names w.source t) in
       let given : Option Shape = denoted_type (meanings naming_by_spelling env) k (tree_with_names w.source t) in
       let (r, hr, later) = and-then (after_section by_value (names_in_list (tree_with_names w.source ns)) env j (tree_with_names w.source fs)) given ps e in
-      let u : Reported TypeWithState = report_on_written_type 0 h.following t in
+      let u : ResultWithFaults TypeWithFollowingDeclarations = report_on_written_type 0 h.following t in
       let g : KnownHeading = with_parameters h false xs u.known in
       let unreported = type_right w fit fine n scope env 0 k t h.following before (omega (arith, at)) st placed.1 r hr in
       let one = one_type w fit false xs t k n h before scope env at st placed.0 placed.1 unreported in
@@ -113,7 +113,7 @@ module _ (w : Numbering) (fit : PartsFit) (fine : PartsRight) where
       let j : ℕ = k + constructor_count (tree_with_names w.source t) in
       let given : Option Shape = denoted_type (meanings naming_by_spelling env) k (tree_with_names w.source t) in
       let (r, hr, later) = and-then (after_section by_place (names_in_list (tree_with_names w.source ns)) env j (tree_with_names w.source fs)) given ps e in
-      let u : Reported TypeWithState = report_on_written_type 0 h.following t in
+      let u : ResultWithFaults TypeWithFollowingDeclarations = report_on_written_type 0 h.following t in
       let g : KnownHeading = with_parameters h true xs u.known in
       let unreported = type_right w fit fine n scope env 0 k t h.following before (omega (arith, at)) st placed.1 r hr in
       let one = one_type w fit true xs t k n h before scope env at st placed.0 placed.1 unreported in
@@ -125,8 +125,8 @@ module _ (w : Numbering) (fit : PartsFit) (fine : PartsRight) where
       (sections_right fs j (ordinal_after_names n xs) g one.after (scope_following w n xs scope) (bind_names (map (token_text_at w.source) xs) (meant.a_variable one.shape) env) (omega (arith, at, one.apart.counted)) one.holds placed.2 rest hrest)
 
   pub body_right : (statements : Tree ℕ (maybe body)) (n : ℕ) (p : KnownDeclarations) (before : List Shape) (scope : Scope Name) (env : TypeEnvironment Name) → IsKnownAt w p before n scope env → HaveDistinctOrdinals before → AreSeen w scope statements
-      → body_is_well_typed naming_by_spelling env (tree_with_names w.source statements) ≡ true → (report_on_body p statements).faults ≡ []
-  unfolding report_on_body body_is_well_typed
+      → body_is_well_typed naming_by_spelling env (tree_with_names w.source statements) ≡ true → body_faults p statements ≡ []
+  unfolding body_faults body_is_well_typed
   body_right none n p before scope env st once seen h = refl
   body_right (one (begins s)) n p before scope env st once seen h =
       fine.statements p before (token_text_at w.source) (meanings naming_by_spelling env) s once (agrees_where_seen w p false before n scope env st fit s seen)

@@ -12,7 +12,7 @@ use Rattle.ob0_types_table.specs.declared.types.TypeId.TheVariants as type
 use Rattle.ob0_language_values.specs.Values.{Shape, array_shape, boolean_shape, integer_shape, record_shape}
 use Rattle.ob0_types_check.specs.Known.{Facts, Meaning, a_constant, a_procedure, a_scalar, a_type, a_variable}
 use Rattle.ob0_types_check.specs.Operations.{typed_name_operand, fault_at_token, operand_by_meaning, without_fault}
-use Rattle.ob0_types_check.specs.Agreement.{IsKnownAndAgreesWithObject, TokenAgreesWithLabel, TokensAgreeWithLabels, as_array, as_record, shape_of_type_in}
+use Rattle.ob0_types_check.specs.Agreement.{IsKnownAndAgreesWithObject, TokenAgreesWithLabel, TokensAgreeWithLabels, shape_if_array, shape_if_record, shape_of_type_in}
 use Rattle.ob0_types_check.specs.KnownDeclarations.{CompositeType, form_of_type_so_far, types_so_far}
 use Rattle.ob0_types_check.proofs.TypedExpressions.{NameTyped, NamesTyped}
 use Rattle.ob0_types_check.proofs.TypedOperands.{TypesApart, and-then}
@@ -20,20 +20,20 @@ use Rattle.ob0_types_check.proofs.Unreported.{some-none, some-same}
 
 -- The types of a table are distinguished by their shapes (`TypesApart`).
 
-no-array-of : (shapes : List Shape) (i : ℕ) (s : Shape) → option_and_then as_array (slice_get shapes i) ≡ Some s → as_array s ≡ Some s
-no-array-of shapes i s h = let (r, at, is) = and-then as_array (slice_get shapes i) s h in of-array r s is
+no-array-of : (shapes : List Shape) (i : ℕ) (s : Shape) → option_and_then shape_if_array (slice_get shapes i) ≡ Some s → shape_if_array s ≡ Some s
+no-array-of shapes i s h = let (r, at, is) = and-then shape_if_array (slice_get shapes i) s h in of-array r s is
   where
-    of-array : (r s : Shape) → as_array r ≡ Some s → as_array s ≡ Some s
-    of-array (array_shape k n u) s e = ap as_array (sym (some-same (array_shape k n u) s e)) ∙ e
+    of-array : (r s : Shape) → shape_if_array r ≡ Some s → shape_if_array s ≡ Some s
+    of-array (array_shape k n u) s e = ap shape_if_array (sym (some-same (array_shape k n u) s e)) ∙ e
     of-array integer_shape s e = absurd (cc)
     of-array boolean_shape s e = absurd (cc)
     of-array (record_shape k fs) s e = absurd (cc)
 
-no-record-of : (shapes : List Shape) (i : ℕ) (s : Shape) → option_and_then as_record (slice_get shapes i) ≡ Some s → as_record s ≡ Some s
-no-record-of shapes i s h = let (r, at, is) = and-then as_record (slice_get shapes i) s h in of-record r s is
+no-record-of : (shapes : List Shape) (i : ℕ) (s : Shape) → option_and_then shape_if_record (slice_get shapes i) ≡ Some s → shape_if_record s ≡ Some s
+no-record-of shapes i s h = let (r, at, is) = and-then shape_if_record (slice_get shapes i) s h in of-record r s is
   where
-    of-record : (r s : Shape) → as_record r ≡ Some s → as_record s ≡ Some s
-    of-record (record_shape k fs) s e = ap as_record (sym (some-same (record_shape k fs) s e)) ∙ e
+    of-record : (r s : Shape) → shape_if_record r ≡ Some s → shape_if_record s ≡ Some s
+    of-record (record_shape k fs) s e = ap shape_if_record (sym (some-same (record_shape k fs) s e)) ∙ e
     of-record integer_shape s e = absurd (cc)
     of-record boolean_shape s e = absurd (cc)
     of-record (array_shape k n u) s e = absurd (cc)
@@ -52,9 +52,9 @@ boolean-alone made shapes type.Unknown h = absurd (cc)
 boolean-alone made shapes (type.Array i) h = absurd (some-none boolean_shape (sym (no-array-of shapes i boolean_shape h)))
 boolean-alone made shapes (type.Record i) h = absurd (some-none boolean_shape (sym (no-record-of shapes i boolean_shape h)))
 
-scalar-alone : (made : List CompositeType) (shapes : List Shape) (t : TypeId) (s : Shape) → shape_of_type_in shapes t ≡ Some s → form_of_type_so_far made t ≡ a_scalar → (as_array s ≡ None) × (as_record s ≡ None)
-scalar-alone made shapes type.Integer s h e = let is = some-same integer_shape s h in (sym (ap as_array is), sym (ap as_record is))
-scalar-alone made shapes type.Boolean s h e = let is = some-same boolean_shape s h in (sym (ap as_array is), sym (ap as_record is))
+scalar-alone : (made : List CompositeType) (shapes : List Shape) (t : TypeId) (s : Shape) → shape_of_type_in shapes t ≡ Some s → form_of_type_so_far made t ≡ a_scalar → (shape_if_array s ≡ None) × (shape_if_record s ≡ None)
+scalar-alone made shapes type.Integer s h e = let is = some-same integer_shape s h in (sym (ap shape_if_array is), sym (ap shape_if_record is))
+scalar-alone made shapes type.Boolean s h e = let is = some-same boolean_shape s h in (sym (ap shape_if_array is), sym (ap shape_if_record is))
 scalar-alone made shapes type.Unknown s h e = absurd (cc)
 scalar-alone made shapes (type.Array i) s h e = absurd (cc)
 scalar-alone made shapes (type.Record i) s h e = absurd (cc)
@@ -73,7 +73,7 @@ module _ {T : Type 0} (facts : Facts T) (shape : T → Option Shape) where
   no-procedure (Some (meant.a_procedure p)) signature s e h = some-none s (sym h)
   no-procedure (Some (meant.a_standard p)) signature s e h = some-none s (sym h)
 
-  variable-named : (x : ℕ) (t : T) (b : Bool) → b ≡ false → (if b then record { known = typed_name_operand facts.types.unknown x; faults = fault_at_token facts code.NotConstant x } else without_fault (typed_name_operand t x)).faults ≡ []
+  variable-named : (x : ℕ) (t : T) (b : Bool) → b ≡ false → (if b then record { known = typed_name_operand facts.types.unknown x; faults = fault_at_token code.NotConstant x } else without_fault (typed_name_operand t x)).faults ≡ []
   variable-named x t true e = absurd (true≢false e)
   variable-named x t false e = refl
 

@@ -3,7 +3,6 @@
 -- two steps give a result, each of them does (`and-then`).
 use Rattle.std.proofs.Common.{◌≡◌, ℕ, true, ◌||◌, List, [], ◌++◌, if◌then◌else◌, Option, Some, None, option_map, option_and_then, refl, sym, ap, ◌∙◌}
 use Rattle.ob0_scan.specs.declared.fault.FaultCode.TheVariants as code
-use Rattle.ob0_scan.specs.declared.fault.Fault.{Fault}
 use Rattle.ob0_tree.specs.declared.tree.AddOperator.{AddOperator}
 use Rattle.ob0_tree.specs.declared.tree.AddOperator.TheVariants as add_operator
 use Rattle.ob0_tree.specs.declared.tree.MultiplyOperator.{MultiplyOperator}
@@ -13,15 +12,16 @@ use Rattle.ob0_tree.specs.declared.tree.Relation.TheVariants as relation
 use Rattle.ob0_tree.specs.declared.tree.Sign.{Sign}
 use Rattle.ob0_tree.specs.declared.tree.Sign.TheVariants as sign
 use Rattle.ob0_tree.specs.Places.{token_text_at}
+use Rattle.ob0_scope_table.specs.declared.faults.FaultAtTokens.{FaultAtTokens}
 use Rattle.ob0_language_types.specs.Typing.{addition_type, negation_type, element_type, field_type, multiplication_type, relation_type, shape_of_field, sign_type}
 use Rattle.ob0_language_values.specs.Values.{Shape, array_shape, boolean_shape, integer_shape, record_shape}
-use Rattle.ob0_types_check.specs.Known.{Facts, TypeForm, Operand, Reported, Types, a_record, a_scalar, an_array, unknown_form}
+use Rattle.ob0_types_check.specs.Known.{Facts, TypeForm, Operand, ResultWithFaults, Types, a_record, a_scalar, an_array, unknown_form}
 use Rattle.ob0_types_check.specs.Operations.{add_operands, required_type, required_type_of_both, fault_at_operand, negated_operand, element_type_in_form, element_operand, field_type_in_form, field_operand, may_be_same_type, field_type_or_fault, multiply_operands, relate_operands, signed_operand, operand_type_of_addition, operand_type_of_equality, operand_type_of_multiplication, operand_type_of_relation}
-use Rattle.ob0_types_check.specs.Agreement.{FormAgreesWithShape, TypesAgreeWithShapes, as_array, as_record}
+use Rattle.ob0_types_check.specs.Agreement.{FormAgreesWithShape, TypesAgreeWithShapes, shape_if_array, shape_if_record}
 use Rattle.ob0_types_check.proofs.Unreported.{not-true, some-none}
 
 -- If two lists of faults are empty, the joined list is.
-pub none-of-both : (xs ys : List Fault) → xs ≡ [] → ys ≡ [] → xs ++ ys ≡ []
+pub none-of-both : (xs ys : List FaultAtTokens) → xs ≡ [] → ys ≡ [] → xs ++ ys ≡ []
 none-of-both xs ys p q = λ i. p i ++ q i
 
 -- If two steps give a result, each of them gives one.
@@ -33,19 +33,19 @@ and-then next (Some a) r h = (a, refl, h)
 pub record TypesApart {T : Type 0} (types : Types T) (shape : T → Option Shape) : Type 0 where
   pub integer : (t : T) → shape t ≡ Some integer_shape → types.same t types.integer ≡ true
   pub boolean : (t : T) → shape t ≡ Some boolean_shape → types.same t types.boolean ≡ true
-  pub scalar : (t : T) (s : Shape) → shape t ≡ Some s → types.form t ≡ a_scalar → (as_array s ≡ None) × (as_record s ≡ None)
+  pub scalar : (t : T) (s : Shape) → shape t ≡ Some s → types.form t ≡ a_scalar → (shape_if_array s ≡ None) × (shape_if_record s ≡ None)
 
 module _ {T : Type 0} (facts : Facts T) (shape : T → Option Shape) (types : TypesAgreeWithShapes facts.types shape) (apart : TypesApart facts.types shape) where
   same-fits : (t u : T) → facts.types.same t u ≡ true → may_be_same_type facts.types t u ≡ true
   same-fits t u e = ap (λ b. b || (facts.types.same t facts.types.unknown || facts.types.same u facts.types.unknown)) e
 
   pub required_type-right : (wanted : T) (o : Operand T) → facts.types.same o.of wanted ≡ true → (required_type facts wanted o).faults ≡ []
-  required_type-right wanted o e = ap (λ b. if b then [] else fault_at_operand facts code.TypeMismatch o) (same-fits o.of wanted e)
+  required_type-right wanted o e = ap (λ b. if b then [] else fault_at_operand code.TypeMismatch o) (same-fits o.of wanted e)
 
   both-right : (wanted : T) (a b : Operand T) → facts.types.same a.of wanted ≡ true → facts.types.same b.of wanted ≡ true → (required_type_of_both facts wanted a b).faults ≡ []
   both-right wanted a b p q =
-      let left : Reported T = record { known = if facts.types.same a.of wanted then (required_type facts wanted b).known else facts.types.unknown; faults = (required_type facts wanted b).faults } in
-      let wrong : Reported T = record { known = facts.types.unknown; faults = fault_at_operand facts code.TypeMismatch a } in
+      let left : ResultWithFaults T = record { known = if facts.types.same a.of wanted then (required_type facts wanted b).known else facts.types.unknown; faults = (required_type facts wanted b).faults } in
+      let wrong : ResultWithFaults T = record { known = facts.types.unknown; faults = fault_at_operand code.TypeMismatch a } in
       ap (λ c. (if c then left else wrong).faults) (same-fits a.of wanted p) ∙ required_type-right wanted b q
 
   -- holds if both operands have the required type
@@ -144,20 +144,20 @@ module _ {T : Type 0} (facts : Facts T) (shape : T → Option Shape) (types : Ty
   found-right x None (Some v) u e h = absurd (cc)
   found-right x (Some t) o u e h = refl
 
-  no-array : (s : Shape) → as_array s ≡ None → (t u : Shape) → element_type s t ≡ Some u → ⊥
+  no-array : (s : Shape) → shape_if_array s ≡ None → (t u : Shape) → element_type s t ≡ Some u → ⊥
   no-array (array_shape k n s) e t u h = some-none (array_shape k n s) e
   no-array integer_shape e t u h = cc
   no-array boolean_shape e t u h = cc
   no-array (record_shape k fs) e t u h = cc
 
-  no-record : (s : Shape) → as_record s ≡ None → (x : List ℕ) (u : Shape) → field_type s x ≡ Some u → ⊥
+  no-record : (s : Shape) → shape_if_record s ≡ None → (x : List ℕ) (u : Shape) → field_type s x ≡ Some u → ⊥
   no-record (record_shape k fs) e x u h = some-none (record_shape k fs) e
   no-record integer_shape e x u h = cc
   no-record boolean_shape e x u h = cc
   no-record (array_shape k n s) e x u h = cc
 
   abbrev IsApart : TypeForm T → Shape → Type 0
-  IsApart f s = f ≡ a_scalar → (as_array s ≡ None) × (as_record s ≡ None)
+  IsApart f s = f ≡ a_scalar → (shape_if_array s ≡ None) × (shape_if_record s ≡ None)
 
   field-found : (f : TypeForm T) (s : Shape) → FormAgreesWithShape shape f s → IsApart f s → (x : ℕ) (u : Shape) → field_type s (token_text_at facts.source x) ≡ Some u → (field_type_in_form facts x f).faults ≡ []
   field-found a_scalar s a far x u h = absurd (no-record s (far refl).1 (token_text_at facts.source x) u h)
@@ -184,6 +184,6 @@ module _ {T : Type 0} (facts : Facts T) (shape : T → Option Shape) (types : Ty
   pub element-right : (o i : Operand T) (s t u : Shape) → shape o.of ≡ Some s → shape i.of ≡ Some t → element_type s t ≡ Some u → (element_operand facts o i).faults ≡ []
   element-right o i s t u hs ht e =
       let n : T = (required_type facts facts.types.integer i).known in
-      let inner : List Fault = (element_type_in_form facts i n (facts.types.form o.of)).faults in
+      let inner : List FaultAtTokens = (element_type_in_form facts i n (facts.types.form o.of)).faults in
       none-of-both (required_type facts facts.types.integer i).faults (inner ++ []) (required_type-right facts.types.integer i (apart.integer i.of (ht ∙ ap Some (index-required_type s t u e))))
       (none-of-both inner [] (element-found (facts.types.form o.of) s t (types.form_agrees o.of s hs) (apart.scalar o.of s hs) i n u e) refl)

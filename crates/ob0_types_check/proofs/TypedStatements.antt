@@ -2,7 +2,7 @@
 use Rattle.std.proofs.Common.{◌≡◌, ℕ, Bool, true, false, true≢false, not, suc, List, [], ◌∷◌, ◌++◌, length, map, slice_get, Option, Some, None, option_and_then, if◌then◌else◌, refl, sym, ap, ◌∙◌, eq-eqb}
 use Rattle.std.proofs.lemmas.Bool.{and_parts}
 use Rattle.ob0_scan.specs.declared.fault.FaultCode.TheVariants as code
-use Rattle.ob0_types_table.specs.Tables.{mode_of}
+use Rattle.ob0_types_table.specs.DeclarationTableView.{mode_from_flag}
 use Rattle.ob0_types_table.specs.declared.types.TypeId.{TypeId}
 use Rattle.ob0_types_table.specs.declared.types.TypeId.TheVariants as type
 use Rattle.ob0_tree.specs.declared.tree.Role.{Role}
@@ -22,7 +22,7 @@ use Rattle.ob0_types_check.specs.Known as known
 use Rattle.ob0_types_check.specs.Operations.{typed_name_operand, fault_at_operand, fault_at_token, name_operand, operand_by_meaning, required_type, without_fault}
 use Rattle.ob0_types_check.specs.KnownDeclarations.{CompositeType, facts_at, types_so_far}
 use Rattle.ob0_types_check.specs.StatementFaults.{call_faults_by_meaning, required_type_of_argument, faults_of_argument, faults_of_arguments, typed_expression_faults, assignment_faults, call_faults, condition_faults, else_faults, elsif_faults, sequence_faults, statement_faults, further_statement_faults, report_on_target}
-use Rattle.ob0_types_check.specs.Agreement.{FormalsAgreeWithSignature, IsKnownAndAgreesWithObject, TokensAgreeWithLabels, TypesAgreeWithShapes, as_array, as_record, shape_of_type_in}
+use Rattle.ob0_types_check.specs.Agreement.{FormalsAgreeWithSignature, IsKnownAndAgreesWithObject, TokensAgreeWithLabels, TypesAgreeWithShapes, shape_if_array, shape_if_record, shape_of_type_in}
 use Rattle.ob0_types_check.specs.WellTypedLaws.{HaveDistinctOrdinals, ordinal_of_shape, WellTypedStatementsHaveNoFault}
 use Rattle.ob0_types_check.proofs.FittingExpressions.{parts-placed}
 use Rattle.ob0_types_check.proofs.FittingStatements.{EachAgreed, arguments-agreed, arguments-mapped_tree, split}
@@ -67,7 +67,7 @@ module _ {T N : Type 0} (facts : Facts T) (shape : T → Option Shape) (types : 
 
   -- No fault is reported for a well-typed call.
 
-  variable-place : (x : ℕ) (t : T) (b : Bool) → (if b then record { known = typed_name_operand facts.types.unknown x; faults = fault_at_token facts code.NotConstant x } else without_fault (typed_name_operand t x)).known.may_be_variable ≡ true
+  variable-place : (x : ℕ) (t : T) (b : Bool) → (if b then record { known = typed_name_operand facts.types.unknown x; faults = fault_at_token code.NotConstant x } else without_fault (typed_name_operand t x)).known.may_be_variable ≡ true
   variable-place x t true = refl
   variable-place x t false = refl
 
@@ -104,7 +104,7 @@ module _ {T N : Type 0} (facts : Facts T) (shape : T → Option Shape) (types : 
         placed = parts-placed facts (name_operand facts x).known path ∙ named-place x (facts.object_for x) (meaning.object_for (label x)) v k.0 holds;
       }
 
-  required_type_of_argument-right : (b : Bool) (of : T) (g : FormalParameter) (e : Tree ℕ expression) → g.mode ≡ mode_of b → shape of ≡ Some g.shape → Named e → argument_matches meaning g (here e) ≡ true
+  required_type_of_argument-right : (b : Bool) (of : T) (g : FormalParameter) (e : Tree ℕ expression) → g.mode ≡ mode_from_flag b → shape of ≡ Some g.shape → Named e → argument_matches meaning g (here e) ≡ true
       → (report_on_expression facts e).faults ++ (required_type_of_argument facts (record { by_place = b; of = of }) (report_on_expression facts e).known).faults ≡ []
   unfolding argument_matches
   required_type_of_argument-right true of g e mode wanted k h =
@@ -112,7 +112,7 @@ module _ {T N : Type 0} (facts : Facts T) (shape : T → Option Shape) (types : 
       let (s, own, given) = same_known_shape-true (Some g.shape) (variable_type meaning (lone_designator (here e))) (sym (λ i. same_known_shape (Some g.shape) (elim (mode i) [ by_value ↦ type_of meaning (here e) | by_place ↦ variable_type meaning (lone_designator (here e)) ])) ∙ h) in
       let p : CanCountFrom e g.shape = place-known e k g.shape (given ∙ sym own) in
       none-of-both (report_on_expression facts e).faults _ (expression-typed facts shape types apart only label meaning e k g.shape p.typed)
-      (ap (λ b. (if not b then record { known = facts.types.unknown; faults = fault_at_operand facts code.NotVariable o } else required_type facts of o).faults) p.placed
+      (ap (λ b. (if not b then record { known = facts.types.unknown; faults = fault_at_operand code.NotVariable o } else required_type facts of o).faults) p.placed
       ∙ required_type-right facts shape types apart of o (alike o.of of g.shape (operand-typed facts shape types apart only label meaning e k g.shape p.typed) wanted))
   required_type_of_argument-right false of g e mode wanted k h =
       let o : Operand T = (report_on_expression facts e).known in
@@ -121,7 +121,7 @@ module _ {T N : Type 0} (facts : Facts T) (shape : T → Option Shape) (types : 
       none-of-both (report_on_expression facts e).faults _ (expression-typed facts shape types apart only label meaning e k g.shape typed)
       (required_type-right facts shape types apart of o (alike o.of of g.shape (operand-typed facts shape types apart only label meaning e k g.shape typed) wanted))
 
-  argument-right : (f : known.KnownParameter T) (g : FormalParameter) (e : Tree ℕ expression) → g.mode ≡ mode_of f.by_place → shape f.of ≡ Some g.shape → Named e → argument_matches meaning g (here e) ≡ true → faults_of_argument facts f e ≡ []
+  argument-right : (f : known.KnownParameter T) (g : FormalParameter) (e : Tree ℕ expression) → g.mode ≡ mode_from_flag f.by_place → shape f.of ≡ Some g.shape → Named e → argument_matches meaning g (here e) ≡ true → faults_of_argument facts f e ≡ []
   unfolding faults_of_argument
   argument-right f g e mode wanted k h = required_type_of_argument-right f.by_place f.of g e mode wanted k h
 
@@ -150,7 +150,7 @@ module _ {T N : Type 0} (facts : Facts T) (shape : T → Option Shape) (types : 
   called-right x (Some (a_variable t)) o es (s, reported, holds) k h = not-called o (Some (meant.a_variable s)) es holds refl h
   called-right x (Some (a_procedure fs)) o es (signature, holds, formals) k h =
       let parts = arguments-right fs signature es formals k (sym (ap (λ s. call_is_well_typed meaning s (map here es)) holds) ∙ h) in
-      ap (λ b. if b then faults_of_arguments facts fs es else fault_at_token facts code.ArgumentCount x) (eq-eqb (length fs) (length es) parts.0) ∙ parts.1
+      ap (λ b. if b then faults_of_arguments facts fs es else fault_at_token code.ArgumentCount x) (eq-eqb (length fs) (length es) parts.0) ∙ parts.1
 
   call-right : (x : ℕ) (es : Tree ℕ (maybe arguments)) → Named (calls x es) → statement_is_well_typed meaning (here (calls x es)) ≡ true → call_faults facts x (call_arguments es) ≡ []
   unfolding statement_is_well_typed
@@ -212,13 +212,13 @@ module _ {T N : Type 0} (facts : Facts T) (shape : T → Option Shape) (types : 
 
 -- If two arrays or records of a table have the same shape, they are at the same index.
 
-array-equal : (r s : Shape) → as_array r ≡ Some s → r ≡ s
+array-equal : (r s : Shape) → shape_if_array r ≡ Some s → r ≡ s
 array-equal (array_shape k n u) s e = some-same (array_shape k n u) s e
 array-equal integer_shape s e = absurd (cc)
 array-equal boolean_shape s e = absurd (cc)
 array-equal (record_shape k fs) s e = absurd (cc)
 
-record-equal : (r s : Shape) → as_record r ≡ Some s → r ≡ s
+record-equal : (r s : Shape) → shape_if_record r ≡ Some s → r ≡ s
 record-equal (record_shape k fs) s e = some-same (record_shape k fs) s e
 record-equal integer_shape s e = absurd (cc)
 record-equal boolean_shape s e = absurd (cc)
@@ -229,37 +229,37 @@ found-at f shapes i s equal h =
     let (r, at, is) = and-then f (slice_get shapes i) s h in
     (at ∙ ap Some (equal r is), sym (ap f (equal r is)) ∙ is)
 
-no-both : {A : Type 0} (s : Shape) → as_array s ≡ Some s → as_record s ≡ Some s → A
+no-both : {A : Type 0} (s : Shape) → shape_if_array s ≡ Some s → shape_if_record s ≡ Some s → A
 no-both integer_shape e h = absurd (cc)
 no-both boolean_shape e h = absurd (cc)
 no-both (array_shape k n u) e h = absurd (cc)
 no-both (record_shape k fs) e h = absurd (cc)
 
-array-at : (shapes : List Shape) (i : ℕ) (s : Shape) → option_and_then as_array (slice_get shapes i) ≡ Some s → (slice_get shapes i ≡ Some s) × (as_array s ≡ Some s)
-array-at shapes i s h = found-at as_array shapes i s (λ r e. array-equal r s e) h
+array-at : (shapes : List Shape) (i : ℕ) (s : Shape) → option_and_then shape_if_array (slice_get shapes i) ≡ Some s → (slice_get shapes i ≡ Some s) × (shape_if_array s ≡ Some s)
+array-at shapes i s h = found-at shape_if_array shapes i s (λ r e. array-equal r s e) h
 
-record-at : (shapes : List Shape) (i : ℕ) (s : Shape) → option_and_then as_record (slice_get shapes i) ≡ Some s → (slice_get shapes i ≡ Some s) × (as_record s ≡ Some s)
-record-at shapes i s h = found-at as_record shapes i s (λ r e. record-equal r s e) h
+record-at : (shapes : List Shape) (i : ℕ) (s : Shape) → option_and_then shape_if_record (slice_get shapes i) ≡ Some s → (slice_get shapes i ≡ Some s) × (shape_if_record s ≡ Some s)
+record-at shapes i s h = found-at shape_if_record shapes i s (λ r e. record-equal r s e) h
 
-array-number : (s : Shape) → as_array s ≡ Some s → (k : ℕ) × (ordinal_of_shape s ≡ Some k)
+array-number : (s : Shape) → shape_if_array s ≡ Some s → (k : ℕ) × (ordinal_of_shape s ≡ Some k)
 array-number (array_shape k n u) e = (k, refl)
 array-number integer_shape e = absurd (cc)
 array-number boolean_shape e = absurd (cc)
 array-number (record_shape k fs) e = absurd (cc)
 
-record-number : (s : Shape) → as_record s ≡ Some s → (k : ℕ) × (ordinal_of_shape s ≡ Some k)
+record-number : (s : Shape) → shape_if_record s ≡ Some s → (k : ℕ) × (ordinal_of_shape s ≡ Some k)
 record-number (record_shape k fs) e = (k, refl)
 record-number integer_shape e = absurd (cc)
 record-number boolean_shape e = absurd (cc)
 record-number (array_shape k n u) e = absurd (cc)
 
-arrays-once : (shapes : List Shape) → HaveDistinctOrdinals shapes → (i j : ℕ) (s : Shape) → option_and_then as_array (slice_get shapes i) ≡ Some s → option_and_then as_array (slice_get shapes j) ≡ Some s → i ≡ j
+arrays-once : (shapes : List Shape) → HaveDistinctOrdinals shapes → (i j : ℕ) (s : Shape) → option_and_then shape_if_array (slice_get shapes i) ≡ Some s → option_and_then shape_if_array (slice_get shapes j) ≡ Some s → i ≡ j
 arrays-once shapes once i j s p q =
     let left = array-at shapes i s p in
     let (k, number) = array-number s left.1 in
     once i j k s s left.0 (array-at shapes j s q).0 number number
 
-records-once : (shapes : List Shape) → HaveDistinctOrdinals shapes → (i j : ℕ) (s : Shape) → option_and_then as_record (slice_get shapes i) ≡ Some s → option_and_then as_record (slice_get shapes j) ≡ Some s → i ≡ j
+records-once : (shapes : List Shape) → HaveDistinctOrdinals shapes → (i j : ℕ) (s : Shape) → option_and_then shape_if_record (slice_get shapes i) ≡ Some s → option_and_then shape_if_record (slice_get shapes j) ≡ Some s → i ≡ j
 records-once shapes once i j s p q =
     let left = record-at shapes i s p in
     let (k, number) = record-number s left.1 in

@@ -13,9 +13,9 @@ use Rattle.ob0_language_types.specs.Typing.{array_length, constant_value, denote
 use Rattle.ob0_language_types.specs.WellTyped.{Signature, TypeEnvironment, TypeMeanings, signature_of}
 use Rattle.ob0_language_values.specs.Values.{FieldShapes, Shape, Value, array_shape, no_field_shape, record_shape}
 use Rattle.ob0_types_check.specs.ExpressionFaults.{report_on_expression}
-use Rattle.ob0_types_check.specs.Known.{Meaning, Operand, Reported, a_constant, a_procedure, a_type, a_variable}
+use Rattle.ob0_types_check.specs.Known.{Meaning, Operand, ResultWithFaults, a_constant, a_procedure, a_type, a_variable}
 use Rattle.ob0_types_check.specs.Operations.{without_fault}
-use Rattle.ob0_types_check.specs.KnownDeclarations.{PartTypes, Size, KnownDeclarations, facts_at, is_within_limits, append_composite, make_type, of_elements, size_of_type_so_far, report_on_too_large_type}
+use Rattle.ob0_types_check.specs.KnownDeclarations.{PartTypes, Size, KnownDeclarations, facts_at, is_within_limits, append_composite, make_composite_type, of_elements, size_of_type_so_far, report_on_too_large_type}
 use Rattle.ob0_types_check.specs.KnownDeclarations as so_far
 use Rattle.ob0_types_check.specs.TypeFaults.{length_by_operand, type_by_meaning}
 use Rattle.ob0_types_check.specs.WrittenTypeFaults.{KnownFields, made_array_type, array_size, no_known_fields, made_record_type, record_size, record_keyword_token, report_on_field_group, report_on_further_field_groups, next_type_ordinal, report_on_written_type, token_before_group}
@@ -57,8 +57,8 @@ is-within : (z : Size) (s t : Shape) → SizeAgrees z s → type_within_limits s
 is-within z s t h e =
     (λ i. nat_le (h.scalars_are i) 65536 && nat_le (h.depth_is i) 100) ∙ within (nat_le (scalars s) 65536 && nat_le (depth s) 100) s t e
 
-make_type-right : (p : KnownDeclarations) (word ordinal : ℕ) (parts : PartTypes) (size : Size) → is_within_limits size ≡ true → (make_type p word ordinal parts size).faults ≡ []
-make_type-right p word ordinal parts size e = ap (λ b. (if b then without_fault (append_composite p ordinal parts size) else report_on_too_large_type p word).faults) e
+make_composite_type-right : (p : KnownDeclarations) (word ordinal : ℕ) (parts : PartTypes) (size : Size) → is_within_limits size ≡ true → (make_composite_type p word ordinal parts size).faults ≡ []
+make_composite_type-right p word ordinal parts size e = ap (λ b. (if b then without_fault (append_composite p ordinal parts size) else report_on_too_large_type p word).faults) e
 
 no-type : {A : Type 0} (o : Option (meant.Object Shape Signature)) (signature : Signature) (s : Shape) → signature_of o ≡ Some signature → type_of_type_object o ≡ Some s → A
 no-type None signature s e h = absurd (some-none s (sym h))
@@ -77,8 +77,8 @@ meant-right p before x (Some (a_variable t)) o (u, reported, holds) s h = absurd
 meant-right p before x (Some (a_procedure fs)) o (signature, holds, formals) s h = no-type o signature s holds h
 
 -- No fault is reported for an array with a known length that isn't too large.
-array-right : (ordinal : ℕ) (o : Operand TypeId) (reported : Option ℕ) (count : ℕ) (u : so_far.TypeWithState) → reported ≡ Some count → is_within_limits (array_size count (size_of_type_so_far u.following.made u.of)) ≡ true → (made_array_type ordinal o reported u).faults ≡ []
-array-right ordinal o reported count u e h = ap (λ c. (made_array_type ordinal o c u).faults) e ∙ make_type-right u.following _ ordinal (of_elements count u.of) (array_size count (size_of_type_so_far u.following.made u.of)) h
+array-right : (ordinal : ℕ) (o : Operand TypeId) (reported : Option ℕ) (count : ℕ) (u : so_far.TypeWithFollowingDeclarations) → reported ≡ Some count → is_within_limits (array_size count (size_of_type_so_far u.following.made u.of)) ≡ true → (made_array_type ordinal o reported u).faults ≡ []
+array-right ordinal o reported count u e h = ap (λ c. (made_array_type ordinal o c u).faults) e ∙ make_composite_type-right u.following _ ordinal (of_elements count u.of) (array_size count (size_of_type_so_far u.following.made u.of)) h
 
 module _ (w : Numbering) (fit : PartsFit) (fine : PartsRight) (n : ℕ) (scope : Scope Name) (env : TypeEnvironment Name) where
   abbrev here : TypeMeanings Name
@@ -98,8 +98,8 @@ module _ (w : Numbering) (fit : PartsFit) (fine : PartsRight) (n : ℕ) (scope :
         let (v, hv, later) = and-then (λ v. option_and_then (λ c. of_limits k c given) (array_length v)) value s h in
         let (c, hc, last) = and-then (λ c. of_limits k c given) (array_length v) s later in
         let o : Operand TypeId = (report_on_expression (facts_at p true) e).known in
-        let l : Reported (Option ℕ) = length_by_operand (facts_at p false) o in
-        let el : Reported so_far.TypeWithState = report_on_written_type (suc around) p u in
+        let l : ResultWithFaults (Option ℕ) = length_by_operand (facts_at p false) o in
+        let el : ResultWithFaults so_far.TypeWithFollowingDeclarations = report_on_written_type (suc around) p u in
         let agrees = agrees_where_seen w p true before n scope env st fit e parts.0 in
         let there : is_some (option_and_then array_length (constant_value here (mapped_tree (token_text_at w.source) (token_value_at p.source) e))) ≡ true =
         some-there (option_and_then array_length (constant_value here (mapped_tree (token_text_at w.source) (token_value_at p.source) e))) c
@@ -125,8 +125,8 @@ module _ (w : Numbering) (fit : PartsFit) (fine : PartsRight) (n : ℕ) (scope :
         let (ys, hy, later) = and-then (λ ys. option_and_then (λ fs. type_within_limits (record_shape k fs)) (own ys)) others s h in
         let (fs, hf, last) = and-then (λ fs. type_within_limits (record_shape k fs)) (own ys) s later in
         let word : ℕ = token_before_group g (record_keyword_token rest) in
-        let first : Reported KnownFields = report_on_field_group (suc around) (no_known_fields p) g in
-        let all : Reported KnownFields = report_on_further_field_groups (suc around) first.known rest in
+        let first : ResultWithFaults KnownFields = report_on_field_group (suc around) (no_known_fields p) g in
+        let all : ResultWithFaults KnownFields = report_on_further_field_groups (suc around) first.known rest in
         let none = group_right (suc around) (suc k) g (no_known_fields p) before (omega (arith, at)) st parts.0 ys fs hf in
         let one = group_gathers w fit n scope env (suc around) (suc k) g (no_known_fields p) before no_field_shape (omega (arith, at)) st parts.0 (nothing_agrees before p) none in
         let following = holds_later w n n n p first.known.following before one.gathers.after scope env (le_refl n) (le_refl n) st one.gathers.later in
@@ -135,7 +135,7 @@ module _ (w : Numbering) (fit : PartsFit) (fine : PartsRight) (n : ℕ) (scope :
         let whole = both_gather n p before (suc k) (suc k + c) (suc k + c + d) no_field_shape own first.known all.known others one other in
         let limited : type_within_limits (record_shape k whole.own) ≡ Some s = given-again (λ fs. type_within_limits (record_shape k fs)) (option_and_then own others) whole.own (Some s) whole.given_is (grouped others own (λ fs. type_within_limits (record_shape k fs)) ∙ h) in
         let small = is-within (record_size all.known.size) (record_shape k whole.own) s (record_sized whole.gathers.after all.known k whole.own whole.gathers.agrees) limited in
-        none-of-both first.faults _ none (none-of-both all.faults (made_record_type word (next_type_ordinal around p) all.known).faults rests (make_type-right all.known.following word (next_type_ordinal around p) (so_far.of_fields all.known.fields) (record_size all.known.size) small))
+        none-of-both first.faults _ none (none-of-both all.faults (made_record_type word (next_type_ordinal around p) all.known).faults rests (make_composite_type-right all.known.following word (next_type_ordinal around p) (so_far.of_fields all.known.fields) (record_size all.known.size) small))
 
     group_right : (around k : ℕ) (t : Tree ℕ fields) (g : KnownFields) (before : List Shape) → length before + around ≡ k → IsKnownAt w g.following before n scope env → AreSeen w scope t → (later fs : FieldShapes) → denoted_group_fields (meanings naming_by_spelling env) k later (tree_with_names w.source t) ≡ Some fs → (report_on_field_group around g t).faults ≡ []
     group_right around k no_fields g before at st seen later fs h = refl
@@ -149,7 +149,7 @@ module _ (w : Numbering) (fit : PartsFit) (fine : PartsRight) (n : ℕ) (scope :
     groups_right around k (more (then_fields f) rest) g before first at st seen agrees fs h =
         let parts = each_part (IsSeen w scope) (occurrences f) (occurrences rest) seen in
         let c : ℕ = group_constructor_count (tree_with_names w.source f) in
-        let next : Reported KnownFields = report_on_field_group around g f in
+        let next : ResultWithFaults KnownFields = report_on_field_group around g f in
         let (ys, hy, hf) = and-then (λ ys. denoted_group_fields here k ys (tree_with_names w.source f)) (denoted_further_fields here (k + c) (tree_with_names w.source rest)) fs h in
         let none = group_right around k f g before at st parts.0 ys fs hf in
         let one = group_gathers w fit n scope env around k f g before first at st parts.0 agrees none in

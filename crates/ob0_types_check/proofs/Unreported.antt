@@ -1,8 +1,8 @@
 -- If no fault is reported for a whole, no fault is reported for its parts. If a definition decides by a condition, the
 -- lemma is about any Bool instead of the condition (`first-reported`, `second-reported`).
 use Rattle.std.proofs.Common.{◌≡◌, Bool, true, false, ◌||◌, List, [], ◌∷◌, ◌++◌, if◌then◌else◌, Option, Some, None, option_and_then, refl, ap, ◌∙◌}
-use Rattle.ob0_scan.specs.declared.fault.Fault.{Fault}
-use Rattle.ob0_types_check.specs.Known.{Reported}
+use Rattle.ob0_scope_table.specs.declared.faults.FaultAtTokens.{FaultAtTokens}
+use Rattle.ob0_types_check.specs.Known.{ResultWithFaults}
 
 pub none-reported : {A : Type 0} (xs ys : List A) → xs ++ ys ≡ [] → (xs ≡ []) × (ys ≡ [])
 none-reported [] ys h = (refl, h)
@@ -13,12 +13,12 @@ none-if true x h = refl
 none-if false x h = absurd (cc)
 
 -- If no fault is reported for a choice and the second alternative has one, the first alternative applies.
-pub first-reported : {A : Type 0} (b : Bool) (one other : Reported A) (x : Fault) → other.faults ≡ x ∷ [] → (if b then one else other).faults ≡ [] → (b ≡ true) × (one.faults ≡ [])
+pub first-reported : {A : Type 0} (b : Bool) (one other : ResultWithFaults A) (x : FaultAtTokens) → other.faults ≡ x ∷ [] → (if b then one else other).faults ≡ [] → (b ≡ true) × (one.faults ≡ [])
 first-reported true one other x e h = (refl, h)
 first-reported false one other x e h = absurd (cc)
 
 -- If no fault is reported for a choice and the first alternative has one, the second alternative applies.
-pub second-reported : {A : Type 0} (b : Bool) (one other : Reported A) (x : Fault) → one.faults ≡ x ∷ [] → (if b then one else other).faults ≡ [] → (b ≡ false) × (other.faults ≡ [])
+pub second-reported : {A : Type 0} (b : Bool) (one other : ResultWithFaults A) (x : FaultAtTokens) → one.faults ≡ x ∷ [] → (if b then one else other).faults ≡ [] → (b ≡ false) × (other.faults ≡ [])
 second-reported true one other x e h = absurd (cc)
 second-reported false one other x e h = (refl, h)
 

@@ -10,7 +10,7 @@ use Rattle.ob0_tree.specs.declared.tree.Sign.{Sign}
 use Rattle.ob0_tree.specs.Tree.{Tree, addend, adds, compares, designator, end, factor, field, index, item, items, more, multiplier, multiplies, negation, one, product, relates, selector, simple, sum, term}
 use Rattle.ob0_types_table.specs.Operators.{product_value, sum_value}
 use Rattle.ob0_language_types.specs.Expressions.{Meanings, a_constant, element_step, evaluate, evaluate_addends, evaluate_factor, evaluate_multipliers, evaluate_simple, evaluate_term, evaluate_selectors, object_value}
-use Rattle.ob0_language_types.specs.Selected.{apply_to_both}
+use Rattle.ob0_language_types.specs.Selected.{apply_to_both_options}
 use Rattle.ob0_language_types.specs.Typing.{outcome_value, value_type}
 use Rattle.ob0_language_values.specs.Values.{Outcome, Place, Value, add, add_short_circuits, value_at_path, elements, ends_run_with, succeeds_with, members, multiply, multiply_short_circuits, negate, number, or_stuck, value_at_step, apply_relation, apply_sign, truth, ◌>>=◌}
 
@@ -24,7 +24,7 @@ given_settled false x o operation = given_step o operation
 
 module _ {N : Type 0} (among : Meanings N Place (Unit {0})) where
   pub related-value_agrees : (r : Relation) (a b : Tree N simple)
-      → outcome_value (evaluate among [] (compares a (one (relates r b)))) ≡ apply_to_both (λ x y. outcome_value (apply_relation r x y)) (outcome_value (evaluate_simple among [] a)) (outcome_value (evaluate_simple among [] b))
+      → outcome_value (evaluate among [] (compares a (one (relates r b)))) ≡ apply_to_both_options (λ x y. outcome_value (apply_relation r x y)) (outcome_value (evaluate_simple among [] a)) (outcome_value (evaluate_simple among [] b))
   unfolding evaluate
   related-value_agrees r a b =
       given_step (evaluate_simple among [] a) (λ x. evaluate_simple among [] b >>= apply_relation r x)

@@ -8,10 +8,10 @@ use Rattle.ob0_tree.specs.Tree.{Tree, block, declares, declares_procedure, end, 
 use Rattle.ob0_language_names.specs.Names.{Label, Name, Naming, naming_by_spelling}
 use Rattle.ob0_language_names.specs.Parts.{constant_names, formal_names, formal_sections, module_block, declared_type_names, procedure_name, section_constants, section_types, section_variables, variable_names}
 use Rattle.ob0_language_names.specs.Scopes.{Labelling, Scope, ordinal_after_block, ordinal_after_names, ordinal_after_procedure, ordinal_after_procedures, label_from_ordinal, declare_names, declare_procedure_names, first_procedure_ordinal, first_type_ordinal, first_variable_ordinal, numbered, predeclared_scope, scope_before_procedures, relabel_block, relabel_constant_section, relabel_formals, relabel_procedure, relabel_procedures, relabel_type_section, relabel_uses, relabel_variable_section, relabel_module, scope_before_types, scope_before_variables}
-use Rattle.ob0_language_names.proofs.OccurrencesMapped.{occurrences-mapped_tree}
+use Rattle.ob0_language_names.proofs.OccurrencesMapped.{occurrences-mapped}
 use Rattle.ob0_language_types.proofs.Proved.{numbering_keeps_type_check-holds}
 use Rattle.ob0_scope_table.specs.BodyReplaced.{PathToBody, block_without_body, procedure_without_body, procedures_without_body, module_without_body}
-use Rattle.ob0_scope_table.specs.Resolution.{IsResolution, Resolution, ordinal_and_spelling_at, is_unbound, label_at, ordinal_in, ordinal_and_spelling}
+use Rattle.ob0_scope_table.specs.Resolution.{IsResolution, Resolution, ordinal_and_spelling_at, is_unbound, label_from_table, ordinal_in, ordinal_and_spelling}
 use Rattle.ob0_scope_table.proofs.BodyReplaced.{without_mapped}
 use Rattle.ob0_types_check.specs.NewBody.{PassesTypeCheckWithoutBody}
 use Rattle.ob0_types_check.proofs.BoundModules.{labels-bound}
@@ -97,7 +97,7 @@ module _ (r : Resolution) (closing : ℕ) (is : IsResolution r) (f : PassesTypeC
       ap (relabel_module naming_by_spelling label) (sym (without_mapped text value f.path t))
       ∙ (relabel_module-module_without_body naming_by_spelling label f.path (mapped_tree text value t) ∙ (ap (module_without_body f.path) e ∙ without_mapped at value f.path t))
 
-  has_ordinal : (x : ℕ) → is_unbound (label_at r.module_read.source r.ordinals x) ≡ false → IsBound (numbering_of r) x
+  has_ordinal : (x : ℕ) → is_unbound (label_from_table r.module_read.source r.ordinals x) ≡ false → IsBound (numbering_of r) x
   has_ordinal x h = found (ordinal_in r.ordinals x) refl h
     where
       found : (o : Option ℕ) → ordinal_in r.ordinals x ≡ o → is_unbound (label_from_ordinal naming_by_spelling o (token_text_at r.module_read.source x)) ≡ false → IsBound (numbering_of r) x
@@ -106,8 +106,8 @@ module _ (r : Resolution) (closing : ℕ) (is : IsResolution r) (f : PassesTypeC
 
   left_bound : Each (IsBound (numbering_of r)) (occurrences left)
   left_bound =
-      let label : ℕ → Label = label_at r.module_read.source r.ordinals in
-      let same : occurrences (numbered left_named) ≡ map label (occurrences left) = ap occurrences (left_by (label_from_ordinal naming_by_spelling) label is.numbering) ∙ occurrences-mapped_tree label (token_value_at r.module_read.source) left in
+      let label : ℕ → Label = label_from_table r.module_read.source r.ordinals in
+      let same : occurrences (numbered left_named) ≡ map label (occurrences left) = ap occurrences (left_by (label_from_ordinal naming_by_spelling) label is.numbering) ∙ occurrences-mapped label label (token_value_at r.module_read.source) left in
       let all : Each (λ l. is_unbound l ≡ false) (occurrences (numbered left_named)) = labels-bound (numbered left_named) (sym (numbering_keeps_type_check-holds left_named) ∙ f.fits) in
       each_as (λ x. is_unbound (label x) ≡ false) (IsBound (numbering_of r)) has_ordinal (occurrences left)
       (each_mapped (λ l. is_unbound l ≡ false) label (occurrences left) (subst (Each (λ l. is_unbound l ≡ false)) same all))

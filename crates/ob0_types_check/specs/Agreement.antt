@@ -5,7 +5,7 @@ use Rattle.std.specs.Prelude.{◌≡◌, ℕ, Bool, true, false, List, [], ◌�
 use Rattle.ob0_language_names.specs.Names.{Name}
 use Rattle.ob0_types_table.specs.declared.types.TypeId.{TypeId}
 use Rattle.ob0_types_table.specs.declared.types.TypeId.TheVariants as type
-use Rattle.ob0_types_table.specs.Tables.{mode_of}
+use Rattle.ob0_types_table.specs.DeclarationTableView.{mode_from_flag}
 use Rattle.ob0_tree.specs.declared.tree.Role.{Role}
 use Rattle.ob0_tree.specs.declared.tree.Role.TheVariants as role
 use Rattle.ob0_tree.specs.Places.{token_text_at}
@@ -51,7 +51,7 @@ FormalsAgreeWithSignature shape [] [] = Unit {0}
 FormalsAgreeWithSignature shape [] (g ∷ gs) = ⊥
 FormalsAgreeWithSignature shape (f ∷ fs) [] = ⊥
 FormalsAgreeWithSignature shape (f ∷ fs) (g ∷ gs) =
-    (g.mode ≡ mode_of f.by_place) × (shape f.of ≡ Some g.shape) × FormalsAgreeWithSignature shape fs gs
+    (g.mode ≡ mode_from_flag f.by_place) × (shape f.of ≡ Some g.shape) × FormalsAgreeWithSignature shape fs gs
 
 -- States that the meaning of a name agrees with the object to which the name refers. A type or variable has the
 -- object's shape. A constant has the object's value, which is a scalar. A procedure has the object's parameters.
@@ -128,33 +128,33 @@ TokensAgreeWithLabels facts shape label meaning (x ∷ xs) =
 
 -- states that the types in `facts` agree with their shapes, and that the meaning that `facts` has for each identifier
 -- in the tree `t` agrees with the identifier's label (`TokensAgreeWithLabels`)
-pub record TypesAndMeaningsAgree
+pub record FactsAgreeWithShapesAndLabels
     {T N : Type 0} (facts : Facts T) (shape : T → Option Shape) (label : ℕ → N) (meaning : TypeMeanings N)
     {s : Sort} (t : Tree ℕ s) : Type 0 where
   pub types : TypesAgreeWithShapes facts.types shape
   pub tokens : TokensAgreeWithLabels facts shape label meaning (identifiers role.Declaring t)
 
 -- returns the shape if it is an array's, otherwise None
-abbrev pub as_array : Shape → Option Shape
-as_array integer_shape = None
-as_array boolean_shape = None
-as_array (array_shape k n s) = Some (array_shape k n s)
-as_array (record_shape k fs) = None
+abbrev pub shape_if_array : Shape → Option Shape
+shape_if_array integer_shape = None
+shape_if_array boolean_shape = None
+shape_if_array (array_shape k n s) = Some (array_shape k n s)
+shape_if_array (record_shape k fs) = None
 
 -- returns the shape if it is a record's, otherwise None
-abbrev pub as_record : Shape → Option Shape
-as_record integer_shape = None
-as_record boolean_shape = None
-as_record (array_shape k n s) = None
-as_record (record_shape k fs) = Some (record_shape k fs)
+abbrev pub shape_if_record : Shape → Option Shape
+shape_if_record integer_shape = None
+shape_if_record boolean_shape = None
+shape_if_record (array_shape k n s) = None
+shape_if_record (record_shape k fs) = Some (record_shape k fs)
 
 -- Returns the shape of a type. `shapes` has the shapes of the array and record types found so far, in order. Returns
 -- None for the unknown type, and if `shapes` has no array or record at the type's index.
 abbrev pub shape_of_type_in : List Shape → TypeId → Option Shape
 shape_of_type_in shapes type.Integer = Some integer_shape
 shape_of_type_in shapes type.Boolean = Some boolean_shape
-shape_of_type_in shapes (type.Array i) = option_and_then as_array (slice_get shapes i)
-shape_of_type_in shapes (type.Record i) = option_and_then as_record (slice_get shapes i)
+shape_of_type_in shapes (type.Array i) = option_and_then shape_if_array (slice_get shapes i)
+shape_of_type_in shapes (type.Record i) = option_and_then shape_if_record (slice_get shapes i)
 shape_of_type_in shapes type.Unknown = None
 
 -- states that the fields in the list have, one by one, the names and shapes of a record's fields

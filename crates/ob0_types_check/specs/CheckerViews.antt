@@ -2,15 +2,15 @@
 -- definitions.
 -- Rule: none; used in contracts of the walk that reports faults.
 use Rattle.std.specs.Prelude.{◌≡◌, ℕ, ◌-◌, ◌^◌, Bool, List, map, ◌++◌, min, slice_get, slice_index_or, slice_set, string_bytes, Option, Some, None, option_and_then, option_map}
-use Rattle.ob0_scan.specs.declared.fault.Fault.{Fault}
 use Rattle.ob0_language_names.specs.Names.{Name}
 use Rattle.ob0_scope_table.specs.Resolution.{ordinal_in}
+use Rattle.ob0_scope_table.specs.declared.faults.FaultAtTokens.{FaultAtTokens}
 use Rattle.ob0_types_table.specs.FieldIndex.{type_of_first_field_named}
 use Rattle.ob0_types_table.specs.declared.known.Field.{Field}
 use Rattle.ob0_types_table.specs.declared.known.FormalParameter as formal
 use Rattle.ob0_types_table.specs.declared.known.TypeEntry.{TypeEntry}
 use Rattle.ob0_types_table.specs.declared.known.TypeEntry.TheVariants as made
-use Rattle.ob0_types_table.specs.KnownTables.{Tables}
+use Rattle.ob0_types_table.specs.KnownTables.{DeclarationTableView}
 use Rattle.ob0_types_table.specs.declared.known.Object as object
 use Rattle.ob0_types_table.specs.declared.known.Object.TheVariants as kind
 use Rattle.ob0_types_table.specs.declared.known.StandardProcedure.TheVariants as standards
@@ -23,7 +23,7 @@ use Rattle.ob0_types_check.specs.declared.reporting.checker_state.Meaning.TheVar
 use Rattle.ob0_types_check.specs.declared.reporting.checker_state.Size as code_size
 use Rattle.ob0_types_check.specs.declared.reporting.checker_state.CheckerState.{CheckerState}
 use Rattle.ob0_types_check.specs.declared.reporting.written_types.KnownFields as gathering
-use Rattle.ob0_types_check.specs.Known.{Facts, TypeForm, KnownParameter, Meaning, Operand, Reported, Types, a_constant, a_procedure, a_record, a_scalar, a_type, a_variable, an_array, unknown_form}
+use Rattle.ob0_types_check.specs.Known.{Facts, TypeForm, KnownParameter, Meaning, Operand, ResultWithFaults, Types, a_constant, a_procedure, a_record, a_scalar, a_type, a_variable, an_array, unknown_form}
 use Rattle.ob0_types_check.specs.DeclarationFaults.{KnownHeading}
 use Rattle.ob0_types_check.specs.KnownDeclarations.{CompositeType, Size, KnownDeclarations, KnownField, of_elements, of_fields, same_type}
 use Rattle.ob0_types_check.specs.WrittenTypeFaults.{KnownFields}
@@ -150,8 +150,8 @@ pub record HasKnownFields (g : KnownFields) (s : CheckerState) (now : gathering.
 -- States that the code has found the fields of the result `t` and reported its faults. `gathered` has these fields, and
 -- `s` is the state after them. The list of faults was `before`, and `after` is this list followed by the faults of `t`.
 pub record AddsKnownFields
-    (before after : List Fault) (s : CheckerState) (gathered : gathering.KnownFields)
-    (t : Reported KnownFields) : Type 0 where
+    (before after : List FaultAtTokens) (s : CheckerState) (gathered : gathering.KnownFields)
+    (t : ResultWithFaults KnownFields) : Type 0 where
   pub reported : after ≡ before ++ t.faults
   pub now : HasKnownFields t.known s gathered
 
@@ -173,7 +173,7 @@ with_standard_procedures objects =
     6 (Some (kind.StandardProcedure standards.WriteLn))
 
 -- returns the table of declarations that the code makes from its state `s` at the end of the walk
-abbrev pub table_in_state : CheckerState → Tables
+abbrev pub table_in_state : CheckerState → DeclarationTableView
 table_in_state s =
     record {
       shapes = s.composites.items;

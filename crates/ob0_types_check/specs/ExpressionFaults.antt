@@ -3,13 +3,13 @@
 -- Rule: docs/LANGUAGE.md, Faults of scopes and types 2, 3, 5, 6.
 use Rattle.std.specs.Prelude.{ℕ}
 use Rattle.ob0_tree.specs.Tree.{Tree, addend, adds, compares, designator, end, expression, factor, field, index, integer, item, items, more, multiplier, multiplies, negation, none, one, parenthesised, product, relates, selector, simple, sum, term}
-use Rattle.ob0_types_check.specs.Known.{Facts, Operand, Reported}
+use Rattle.ob0_types_check.specs.Known.{Facts, Operand, ResultWithFaults}
 use Rattle.ob0_types_check.specs.Operations.{number_operand, add_operands, negated_operand, element_operand, operand_in_parentheses, field_operand, multiply_operands, name_operand, relate_operands, without_fault, signed_operand, ◌>>=◌}
 
 unfoldable mutual
   -- returns the faults of an expression, and the resulting operand; the faults of both sides come before the fault of
   -- the relation between them
-  pub report_on_expression : {T : Type 0} → Facts T → Tree ℕ expression → Reported (Operand T)
+  pub report_on_expression : {T : Type 0} → Facts T → Tree ℕ expression → ResultWithFaults (Operand T)
   report_on_expression facts (compares a none) = report_on_simple_expression facts a
   report_on_expression facts (compares a (one (relates r b))) = do
     x ← report_on_simple_expression facts a
@@ -18,7 +18,7 @@ unfoldable mutual
 
   -- returns the faults of a simple expression, and the resulting operand; the faults of the first term come before the
   -- fault of the sign, and then the faults of the other terms follow
-  pub report_on_simple_expression : {T : Type 0} → Facts T → Tree ℕ simple → Reported (Operand T)
+  pub report_on_simple_expression : {T : Type 0} → Facts T → Tree ℕ simple → ResultWithFaults (Operand T)
   report_on_simple_expression facts (sum s t rest) = do
     x ← report_on_term facts t
     y ← signed_operand facts s x
@@ -29,7 +29,7 @@ unfoldable mutual
       → Facts T
       → Operand T
       → Tree ℕ (items addend)
-      → Reported (Operand T)
+      → ResultWithFaults (Operand T)
   report_on_addends facts x end = without_fault x
   report_on_addends facts x (more (adds o t) rest) = do
     y ← report_on_term facts t
@@ -37,7 +37,7 @@ unfoldable mutual
     report_on_addends facts z rest
 
   -- returns the faults of a term, factor by factor from left to right, and the resulting operand
-  pub report_on_term : {T : Type 0} → Facts T → Tree ℕ term → Reported (Operand T)
+  pub report_on_term : {T : Type 0} → Facts T → Tree ℕ term → ResultWithFaults (Operand T)
   report_on_term facts (product f rest) = do
     x ← report_on_factor facts f
     report_on_multipliers facts x rest
@@ -48,7 +48,7 @@ unfoldable mutual
       → Facts T
       → Operand T
       → Tree ℕ (items multiplier)
-      → Reported (Operand T)
+      → ResultWithFaults (Operand T)
   report_on_multipliers facts x end = without_fault x
   report_on_multipliers facts x (more (multiplies o f) rest) = do
     y ← report_on_factor facts f
@@ -57,7 +57,7 @@ unfoldable mutual
 
   -- returns the faults of a factor, which is a designator, an integer, an expression in parentheses or a negation, and
   -- the resulting operand
-  pub report_on_factor : {T : Type 0} → Facts T → Tree ℕ factor → Reported (Operand T)
+  pub report_on_factor : {T : Type 0} → Facts T → Tree ℕ factor → ResultWithFaults (Operand T)
   report_on_factor facts (designator x path) = do
     base ← name_operand facts x
     report_on_selectors facts base path
@@ -75,7 +75,7 @@ unfoldable mutual
       → Facts T
       → Operand T
       → Tree ℕ (items selector)
-      → Reported (Operand T)
+      → ResultWithFaults (Operand T)
   report_on_selectors facts x end = without_fault x
   report_on_selectors facts x (more (field n) rest) = do
     y ← field_operand facts x n
@@ -91,7 +91,7 @@ unfoldable pub report_on_selector : {T : Type 0}
     → Facts T
     → Operand T
     → Tree ℕ (item selector)
-    → Reported (Operand T)
+    → ResultWithFaults (Operand T)
 unfolding report_on_expression
 report_on_selector facts x (field n) = field_operand facts x n
 report_on_selector facts x (index e) = report_on_expression facts e >>= element_operand facts x

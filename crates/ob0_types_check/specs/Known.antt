@@ -2,8 +2,8 @@
 -- type may be unknown, as a whole or in parts.
 -- Rule: docs/LANGUAGE.md, Faults of scopes and types 2.
 use Rattle.std.specs.Prelude.{ℕ, Bool, List, Option}
-use Rattle.ob0_scan.specs.declared.fault.Fault.{Fault}
 use Rattle.ob0_scan.specs.TextWithTokens.{TextWithTokens}
+use Rattle.ob0_scope_table.specs.declared.faults.FaultAtTokens.{FaultAtTokens}
 use Rattle.ob0_language_names.specs.Names.{Name}
 use Rattle.ob0_language_values.specs.Values.{Value}
 
@@ -57,6 +57,6 @@ pub record Operand (T : Type 0) : Type 0 where
   pub last : ℕ
 
 -- a result (`known`), and the faults that are reported while this result is found
-pub record Reported (A : Type 0) : Type 0 where
+pub record ResultWithFaults (A : Type 0) : Type 0 where
   pub known : A
-  pub faults : List Fault
+  pub faults : List FaultAtTokens

@@ -10,7 +10,7 @@ use Rattle.ob0_language_types.specs.Typing.{max_depth, max_scalars}
 use Rattle.ob0_types_table.specs.declared.types.TypeId.{TypeId}
 use Rattle.ob0_types_table.specs.declared.types.TypeId.TheVariants as type
 use Rattle.ob0_language_values.specs.Values.{truth}
-use Rattle.ob0_types_check.specs.Known.{Facts, TypeForm, Meaning, Reported, Types, a_constant, a_procedure, a_record, a_scalar, a_type, an_array, unknown_form}
+use Rattle.ob0_types_check.specs.Known.{Facts, TypeForm, Meaning, ResultWithFaults, Types, a_constant, a_procedure, a_record, a_scalar, a_type, an_array, unknown_form}
 use Rattle.ob0_types_check.specs.Operations.{fault_at_token, without_fault}
 
 -- the size of a type: the number of INTEGER and BOOLEAN values in it (its scalars), and the depth to which its arrays
@@ -131,13 +131,13 @@ with_meaning p m (Some k) =
 
 -- returns the known declarations `p` with the meaning of the name declared at a token set to `m`; if the token has no
 -- ordinal, returns `p` unchanged
-abbrev pub define : KnownDeclarations → Meaning TypeId → ℕ → KnownDeclarations
-define p m token = with_meaning p m (ordinal_in p.ordinals token)
+abbrev pub define_name_at_token : KnownDeclarations → Meaning TypeId → ℕ → KnownDeclarations
+define_name_at_token p m token = with_meaning p m (ordinal_in p.ordinals token)
 
 -- returns the known declarations `p` with the meaning of each name declared at one of these tokens set to `m`
-abbrev pub define_all : KnownDeclarations → Meaning TypeId → List ℕ → KnownDeclarations
-define_all p m [] = p
-define_all p m (x ∷ xs) = define_all (define p m x) m xs
+abbrev pub define_names_at_tokens : KnownDeclarations → Meaning TypeId → List ℕ → KnownDeclarations
+define_names_at_tokens p m [] = p
+define_names_at_tokens p m (x ∷ xs) = define_names_at_tokens (define_name_at_token p m x) m xs
 
 -- returns the size of INTEGER and BOOLEAN: one scalar and depth 0
 abbrev pub scalar_size : Size
@@ -166,7 +166,7 @@ is_within_limits z = nat_le z.scalars max_scalars && nat_le z.depth max_depth
 
 -- the checker's type for a type that is written in the text (`of`), and the declarations known after the written type
 -- (`following`)
-pub record TypeWithState : Type 0 where
+pub record TypeWithFollowingDeclarations : Type 0 where
   pub of : TypeId
   pub following : KnownDeclarations
 
@@ -177,7 +177,7 @@ type_at_index (of_fields fields) k = type.Record k
 
 -- Appends an array or record type with this ordinal, these parts and this size to the known types `p.made`. Returns the
 -- type's `TypeId` (`of`), and `p` with this type appended (`following`).
-abbrev pub append_composite : KnownDeclarations → ℕ → PartTypes → Size → TypeWithState
+abbrev pub append_composite : KnownDeclarations → ℕ → PartTypes → Size → TypeWithFollowingDeclarations
 append_composite p ordinal parts size = record {
   of = type_at_index parts (length p.made);
   following =
@@ -191,17 +191,17 @@ append_composite p ordinal parts size = record {
 
 -- reports `TypeTooLarge` at `word`, the token ARRAY or RECORD of a type; returns the unknown type, with the known
 -- declarations `p` unchanged
-abbrev pub report_on_too_large_type : KnownDeclarations → ℕ → Reported TypeWithState
+abbrev pub report_on_too_large_type : KnownDeclarations → ℕ → ResultWithFaults TypeWithFollowingDeclarations
 report_on_too_large_type p word =
     record {
       known = record { of = type.Unknown; following = p };
-      faults = fault_at_token (facts_at p false) code.TypeTooLarge word;
+      faults = fault_at_token code.TypeTooLarge word;
     }
 
 -- appends an array or record type and returns its `TypeId`; if its size isn't within the limits, reports `TypeTooLarge`
 -- at `word`, its word ARRAY or RECORD, instead
-abbrev pub make_type : KnownDeclarations → ℕ → ℕ → PartTypes → Size → Reported TypeWithState
-make_type p word ordinal parts size =
+abbrev pub make_composite_type : KnownDeclarations → ℕ → ℕ → PartTypes → Size → ResultWithFaults TypeWithFollowingDeclarations
+make_composite_type p word ordinal parts size =
     if is_within_limits size then without_fault (append_composite p ordinal parts size) else report_on_too_large_type p word
 
 -- returns the meanings of the predeclared names, by ordinal: INTEGER, BOOLEAN, TRUE, FALSE, Read,
@@ -215,8 +215,8 @@ predeclared_meanings =
     ∷ Some (a_procedure []) ∷ []
 
 -- returns the known declarations at the beginning of a module, which are only the predeclared names
-abbrev pub state_at_start : Resolution → KnownDeclarations
-state_at_start r =
+abbrev pub known_declarations_at_start : Resolution → KnownDeclarations
+known_declarations_at_start r =
     record {
       source = r.module_read.source;
       ordinals = r.ordinals;

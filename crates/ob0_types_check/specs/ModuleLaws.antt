@@ -3,19 +3,18 @@
 -- Rule: none; states laws about the faults that are reported for a module.
 use Rattle.std.specs.Prelude.{◌≡◌, ℕ, ◌<◌, ◌≤◌, true, false, List, [], None, length, slice_index_or}
 use Rattle.ob0_language_names.specs.Names.{Name, naming_by_label, naming_by_spelling}
-use Rattle.ob0_language_names.specs.Parts.{module_block}
 use Rattle.ob0_language_names.specs.Scopes.{predeclared_count}
 use Rattle.ob0_scope_table.specs.Resolution.{IsResolution, Resolution}
-use Rattle.ob0_tree.specs.ParsedModule.{named_tree_of, tree_of}
+use Rattle.ob0_tree.specs.ParsedModule.{named_tree_of}
 use Rattle.ob0_tree.specs.Tree.{Tree, module_text}
 use Rattle.ob0_language_types.specs.Bindings.{declared_object, object_of_ordinal}
 use Rattle.ob0_language_types.specs.Environments.{outermost_environment}
 use Rattle.ob0_language_types.specs.WellTyped.{passes_type_check}
-use Rattle.ob0_types_table.specs.KnownTables.{Tables, declared_object_in}
+use Rattle.ob0_types_table.specs.KnownTables.{DeclarationTableView, declared_object_in}
 use Rattle.ob0_language_values.specs.Values.{Shape}
 use Rattle.ob0_types_check.specs.Agreement.{DeclarationAgreesWithObject, TableAgreesWithShapes, is_standard_procedure, shape_of_type_in}
-use Rattle.ob0_types_check.specs.DeclarationFaults.{report_on_block, undeclared_name_and_type_faults}
-use Rattle.ob0_types_check.specs.KnownDeclarations.{KnownDeclarations, state_at_start}
+use Rattle.ob0_types_check.specs.DeclarationFaults.{every_body, undeclared_name_and_type_faults, reported_module}
+use Rattle.ob0_types_check.specs.KnownDeclarations.{KnownDeclarations}
 
 -- States that a module passes the type check if no fault of types and no undeclared name is reported for it. The type
 -- check ignores duplicate declarations and wrong closing names.
@@ -40,7 +39,7 @@ pub record KnowsDeclarations (p : KnownDeclarations) (m : Tree Name module_text)
   pub room : predeclared_count ≤ length p.declared
 
 -- states that a table has the object of each declaration of a module
-abbrev pub HasDeclarations : Tree Name module_text → Tables → Type 0
+abbrev pub HasDeclarations : Tree Name module_text → DeclarationTableView → Type 0
 HasDeclarations m t = (k : ℕ) → declared_object_in t k ≡ declared_object m k
 
 -- States that if no fault of types and no undeclared name is reported for a module, the walk over the module has found
@@ -50,5 +49,4 @@ WalkWithoutFaultFindsCorrectMeanings =
     (r : Resolution)
     → IsResolution r
     → undeclared_name_and_type_faults r ≡ []
-    → KnowsDeclarations (report_on_block (state_at_start r) (module_block (tree_of r.module_read))).known
-    (named_tree_of r.module_read)
+    → KnowsDeclarations (reported_module every_body r).known.so_far (named_tree_of r.module_read)

@@ -3,7 +3,6 @@
 use Rattle.std.specs.Prelude.{◌≡◌, ℕ, ◌+◌, ◌-◌, nat_lt, Bool, true, false, ◌||◌, List, [], ◌∷◌, ◌++◌, length, if◌then◌else◌, Option, Some, None, option_and_then, pos}
 use Rattle.ob0_scan.specs.declared.fault.FaultCode.{FaultCode}
 use Rattle.ob0_scan.specs.declared.fault.FaultCode.TheVariants as code
-use Rattle.ob0_scan.specs.declared.fault.Fault.{Fault}
 use Rattle.ob0_scan.specs.TextWithTokens.{TextWithTokens}
 use Rattle.ob0_tree.specs.declared.tree.AddOperator.{AddOperator}
 use Rattle.ob0_tree.specs.declared.tree.AddOperator.TheVariants as add_operator
@@ -13,31 +12,31 @@ use Rattle.ob0_tree.specs.declared.tree.Relation.{Relation}
 use Rattle.ob0_tree.specs.declared.tree.Relation.TheVariants as relation
 use Rattle.ob0_tree.specs.declared.tree.Sign.{Sign}
 use Rattle.ob0_tree.specs.Places.{token_text_at, token_value_at}
-use Rattle.ob0_scope_table.specs.Resolution.{span_at}
+use Rattle.ob0_scope_table.specs.declared.faults.FaultAtTokens.{FaultAtTokens}
 use Rattle.ob0_types_table.specs.Operators.{product_value, sum_value}
-use Rattle.ob0_language_types.specs.Selected.{apply_to_both}
+use Rattle.ob0_language_types.specs.Selected.{apply_to_both_options}
 use Rattle.ob0_language_types.specs.Typing.{outcome_value}
 use Rattle.ob0_language_values.specs.Values.{Value, elements, members, negate, number, apply_relation, truth}
 use Rattle.ob0_language_values.specs.Values.{apply_sign as with_sign}
-use Rattle.ob0_types_check.specs.Known.{Facts, TypeForm, Meaning, Operand, Reported, Types, a_constant, a_procedure, a_record, a_scalar, a_type, a_variable, an_array, unknown_form}
+use Rattle.ob0_types_check.specs.Known.{Facts, TypeForm, Meaning, Operand, ResultWithFaults, Types, a_constant, a_procedure, a_record, a_scalar, a_type, a_variable, an_array, unknown_form}
 
 -- returns the result `t` with the faults `before` put before its own faults
-abbrev pub with_earlier_faults : {A : Type 0} → List Fault → Reported A → Reported A
+abbrev pub with_earlier_faults : {A : Type 0} → List FaultAtTokens → ResultWithFaults A → ResultWithFaults A
 with_earlier_faults before t = record { known = t.known; faults = before ++ t.faults }
 
 -- returns the result `x` with an empty list of faults
-abbrev pub without_fault : {A : Type 0} → A → Reported A
+abbrev pub without_fault : {A : Type 0} → A → ResultWithFaults A
 without_fault x = record { known = x; faults = [] }
 
 infixl 20 ◌>>=◌
 -- Applies `next` to the result of the first step. The faults of the first step come first, then the
 -- faults of `next`.
-abbrev pub ◌>>=◌ : {A B : Type 0} → Reported A → (A → Reported B) → Reported B
+abbrev pub ◌>>=◌ : {A B : Type 0} → ResultWithFaults A → (A → ResultWithFaults B) → ResultWithFaults B
 t >>= next = with_earlier_faults t.faults (next t.known)
 
 -- states that `x` is the result of `t`, and that the list `after` is the list `before` followed by the faults of `t`
 pub record ReturnsAndReports
-    {A : Type 0} (before after : List Fault) (x : A) (t : Reported A) : Type 0 where
+    {A : Type 0} (before after : List FaultAtTokens) (x : A) (t : ResultWithFaults A) : Type 0 where
   pub known : x ≡ t.known
   pub reported : after ≡ before ++ t.faults
 
@@ -49,25 +48,17 @@ token_before token = token - 1
 abbrev pub token_after : TextWithTokens → ℕ → ℕ
 token_after source token = if nat_lt token (length source.tokens) then token + 1 else token
 
--- returns a fault whose span extends from the start of the token `first` to the end of the token `last`
-abbrev pub fault_between : TextWithTokens → FaultCode → ℕ → ℕ → Fault
-fault_between source c first last =
-    record {
-      code = c;
-      span = record { start = (span_at source first).start; end = (span_at source last).end };
-    }
+-- returns a list of one fault, from the token `first` to the token `last`
+abbrev pub fault_at_tokens : FaultCode → ℕ → ℕ → List FaultAtTokens
+fault_at_tokens c first last = record { code = c; first = first; last = last } ∷ []
 
--- returns a list of one fault, whose span extends from the start of the token `first` to the end of the token `last`
-abbrev pub fault_at_tokens : {T : Type 0} → Facts T → FaultCode → ℕ → ℕ → List Fault
-fault_at_tokens facts c first last = fault_between facts.source c first last ∷ []
+-- returns a list of one fault, at one token
+abbrev pub fault_at_token : FaultCode → ℕ → List FaultAtTokens
+fault_at_token c token = fault_at_tokens c token token
 
--- returns a list of one fault, whose span is one token
-abbrev pub fault_at_token : {T : Type 0} → Facts T → FaultCode → ℕ → List Fault
-fault_at_token facts c token = fault_at_tokens facts c token token
-
--- returns a list of one fault, whose span is the whole expression of an operand
-abbrev pub fault_at_operand : {T : Type 0} → Facts T → FaultCode → Operand T → List Fault
-fault_at_operand facts c o = fault_at_tokens facts c o.first o.last
+-- returns a list of one fault, at the whole expression of an operand
+abbrev pub fault_at_operand : {T : Type 0} → FaultCode → Operand T → List FaultAtTokens
+fault_at_operand c o = fault_at_tokens c o.first o.last
 
 -- returns whether two types are equal or one of them is unknown; if not, an expression of one type
 -- is a mismatch if the other type is required
@@ -76,15 +67,15 @@ may_be_same_type types s t = types.same s t || (types.same s types.unknown || ty
 
 -- Returns `wanted` if the operand has this type, otherwise the unknown type. A mismatch is reported
 -- if the operand's type and `wanted` are both known and differ.
-abbrev pub required_type : {T : Type 0} → Facts T → T → Operand T → Reported T
+abbrev pub required_type : {T : Type 0} → Facts T → T → Operand T → ResultWithFaults T
 required_type facts wanted o = record {
   known = if facts.types.same o.of wanted then wanted else facts.types.unknown;
-  faults = if may_be_same_type facts.types o.of wanted then [] else fault_at_operand facts code.TypeMismatch o;
+  faults = if may_be_same_type facts.types o.of wanted then [] else fault_at_operand code.TypeMismatch o;
 }
 
 -- Returns `wanted` if both operands have this type, otherwise the unknown type. A mismatch is
 -- reported at the left operand or, if the left operand has no mismatch, at the right operand.
-abbrev pub required_type_of_both : {T : Type 0} → Facts T → T → Operand T → Operand T → Reported T
+abbrev pub required_type_of_both : {T : Type 0} → Facts T → T → Operand T → Operand T → ResultWithFaults T
 required_type_of_both facts wanted a b =
     if may_be_same_type facts.types a.of wanted
     then record {
@@ -93,7 +84,7 @@ required_type_of_both facts wanted a b =
           else facts.types.unknown;
       faults = (required_type facts wanted b).faults;
     }
-    else record { known = facts.types.unknown; faults = fault_at_operand facts code.TypeMismatch a }
+    else record { known = facts.types.unknown; faults = fault_at_operand code.TypeMismatch a }
 
 -- returns the type that an operator requires of both operands: INTEGER for `+` and `-`, BOOLEAN for OR
 abbrev pub operand_type_of_addition : {T : Type 0} → Types T → AddOperator → T
@@ -149,7 +140,7 @@ abbrev pub add_operands : {T : Type 0}
     → AddOperator
     → Operand T
     → Operand T
-    → Reported (Operand T)
+    → ResultWithFaults (Operand T)
 add_operands facts o a b = do
   t ← required_type_of_both facts (operand_type_of_addition facts.types o) a b
   without_fault (operand_of_operation t (option_and_then (sum_value o b.value) a.value) a b)
@@ -161,7 +152,7 @@ abbrev pub multiply_operands : {T : Type 0}
     → MultiplyOperator
     → Operand T
     → Operand T
-    → Reported (Operand T)
+    → ResultWithFaults (Operand T)
 multiply_operands facts o a b = do
   t ← required_type_of_both facts (operand_type_of_multiplication facts.types o) a b
   without_fault (operand_of_operation t (option_and_then (product_value o b.value) a.value) a b)
@@ -173,15 +164,15 @@ abbrev pub relate_operands : {T : Type 0}
     → Relation
     → Operand T
     → Operand T
-    → Reported (Operand T)
+    → ResultWithFaults (Operand T)
 relate_operands facts r a b = do
   t ← required_type_of_both facts (operand_type_of_relation facts.types r a.of) a b
   without_fault (operand_of_operation (comparison_type facts.types t)
-      (apply_to_both (λ x y. outcome_value (apply_relation r x y)) a.value b.value) a b)
+      (apply_to_both_options (λ x y. outcome_value (apply_relation r x y)) a.value b.value) a b)
 
 -- returns the operand for an expression that consists of an optional sign and the operand `o`; a
 -- sign requires INTEGER, and a mismatch is a fault
-abbrev pub signed_operand : {T : Type 0} → Facts T → Option Sign → Operand T → Reported (Operand T)
+abbrev pub signed_operand : {T : Type 0} → Facts T → Option Sign → Operand T → ResultWithFaults (Operand T)
 signed_operand facts None o = without_fault o
 signed_operand facts (Some s) o = do
   t ← required_type facts facts.types.integer o
@@ -189,7 +180,7 @@ signed_operand facts (Some s) o = do
 
 -- returns the operand for the negation `~` of the operand `o`, with a fault if `o` has a known type
 -- other than BOOLEAN
-abbrev pub negated_operand : {T : Type 0} → Facts T → Operand T → Reported (Operand T)
+abbrev pub negated_operand : {T : Type 0} → Facts T → Operand T → ResultWithFaults (Operand T)
 negated_operand facts o = do
   t ← required_type facts facts.types.boolean o
   without_fault (prefixed_operand t (option_and_then (λ x. outcome_value (negate x)) o.value) o)
@@ -239,23 +230,23 @@ constant_name_operand types v token =
 -- Returns the operand for a name that must refer to a value, given the name's token and meaning. The name of a type or
 -- procedure is a fault. If only constants are allowed, the name of a variable is also a fault. In both cases, and for a
 -- name without a known meaning (None), the operand's type is unknown. An undeclared name is reported elsewhere.
-abbrev pub operand_by_meaning : {T : Type 0} → Facts T → ℕ → Option (Meaning T) → Reported (Operand T)
+abbrev pub operand_by_meaning : {T : Type 0} → Facts T → ℕ → Option (Meaning T) → ResultWithFaults (Operand T)
 operand_by_meaning facts token None = without_fault (typed_name_operand facts.types.unknown token)
 operand_by_meaning facts token (Some (a_constant v)) = without_fault (constant_name_operand facts.types v token)
 operand_by_meaning facts token (Some (a_variable t)) =
     if facts.only_constants
     then record
-    { known = typed_name_operand facts.types.unknown token; faults = fault_at_token facts code.NotConstant token }
+    { known = typed_name_operand facts.types.unknown token; faults = fault_at_token code.NotConstant token }
     else without_fault (typed_name_operand t token)
 operand_by_meaning facts token (Some (a_type t)) =
     record
-    { known = typed_name_operand facts.types.unknown token; faults = fault_at_token facts code.WrongKind token }
+    { known = typed_name_operand facts.types.unknown token; faults = fault_at_token code.WrongKind token }
 operand_by_meaning facts token (Some (a_procedure fs)) =
     record
-    { known = typed_name_operand facts.types.unknown token; faults = fault_at_token facts code.WrongKind token }
+    { known = typed_name_operand facts.types.unknown token; faults = fault_at_token code.WrongKind token }
 
 -- returns the operand of the name at a token, with a fault if the name doesn't refer to a value
-abbrev pub name_operand : {T : Type 0} → Facts T → ℕ → Reported (Operand T)
+abbrev pub name_operand : {T : Type 0} → Facts T → ℕ → ResultWithFaults (Operand T)
 name_operand facts token = operand_by_meaning facts token (facts.object_for token)
 
 -- Returns the operand of a designator that extends the designator of `o` by a selector. `last` is the last token of
@@ -266,27 +257,27 @@ extended_operand o of last =
 
 -- returns the type of a record's field; for None, reports `NoField` at the field's name and returns
 -- the unknown type
-abbrev pub field_type_or_fault : {T : Type 0} → Facts T → ℕ → Option T → Reported T
+abbrev pub field_type_or_fault : {T : Type 0} → Facts T → ℕ → Option T → ResultWithFaults T
 field_type_or_fault facts token None =
-    record { known = facts.types.unknown; faults = fault_at_token facts code.NoField token }
+    record { known = facts.types.unknown; faults = fault_at_token code.NoField token }
 field_type_or_fault facts token (Some t) = without_fault t
 
 -- Returns the type of the field with the name at a token, given the form of the type before the `.`. `NotRecord` is
 -- reported at the `.` if that type is known and isn't a record, and `NoField` at the name if the record has no such
 -- field. In both cases, and if the type before the `.` is unknown, the result is the unknown type.
-abbrev pub field_type_in_form : {T : Type 0} → Facts T → ℕ → TypeForm T → Reported T
+abbrev pub field_type_in_form : {T : Type 0} → Facts T → ℕ → TypeForm T → ResultWithFaults T
 field_type_in_form facts token (a_record fields) =
     field_type_or_fault facts token (fields (token_text_at facts.source token))
 field_type_in_form facts token unknown_form = without_fault facts.types.unknown
 field_type_in_form facts token a_scalar =
     record
-    { known = facts.types.unknown; faults = fault_at_token facts code.NotRecord (token_before token) }
+    { known = facts.types.unknown; faults = fault_at_token code.NotRecord (token_before token) }
 field_type_in_form facts token (an_array t) =
     record
-    { known = facts.types.unknown; faults = fault_at_token facts code.NotRecord (token_before token) }
+    { known = facts.types.unknown; faults = fault_at_token code.NotRecord (token_before token) }
 
 -- returns the operand for the field of the record `o` whose name is at a token, and the faults of this selection
-abbrev pub field_operand : {T : Type 0} → Facts T → Operand T → ℕ → Reported (Operand T)
+abbrev pub field_operand : {T : Type 0} → Facts T → Operand T → ℕ → ResultWithFaults (Operand T)
 field_operand facts o token = do
   t ← field_type_in_form facts token (facts.types.form o.of)
   without_fault (extended_operand o t token)
@@ -294,20 +285,20 @@ field_operand facts o token = do
 -- Returns the type of an element, given the operand `i` for the index, the index's type `of`, and the form of the
 -- indexed type. The result is the unknown type if the index isn't INTEGER or the indexed type isn't an array. If the
 -- indexed type is known and isn't an array, `NotArray` is reported at the `[`.
-abbrev pub element_type_in_form : {T : Type 0} → Facts T → Operand T → T → TypeForm T → Reported T
+abbrev pub element_type_in_form : {T : Type 0} → Facts T → Operand T → T → TypeForm T → ResultWithFaults T
 element_type_in_form facts i of (an_array t) =
     without_fault (if facts.types.same of facts.types.integer then t else facts.types.unknown)
 element_type_in_form facts i of unknown_form = without_fault facts.types.unknown
 element_type_in_form facts i of a_scalar =
     record
-    { known = facts.types.unknown; faults = fault_at_token facts code.NotArray (token_before i.first) }
+    { known = facts.types.unknown; faults = fault_at_token code.NotArray (token_before i.first) }
 element_type_in_form facts i of (a_record fields) =
     record
-    { known = facts.types.unknown; faults = fault_at_token facts code.NotArray (token_before i.first) }
+    { known = facts.types.unknown; faults = fault_at_token code.NotArray (token_before i.first) }
 
 -- Returns the operand for the element that the index `i` selects in the array `o`, and the faults of this selection.
 -- The index must be INTEGER even if `o` isn't an array.
-abbrev pub element_operand : {T : Type 0} → Facts T → Operand T → Operand T → Reported (Operand T)
+abbrev pub element_operand : {T : Type 0} → Facts T → Operand T → Operand T → ResultWithFaults (Operand T)
 element_operand facts o i = do
   n ← required_type facts facts.types.integer i
   t ← element_type_in_form facts i n (facts.types.form o.of)

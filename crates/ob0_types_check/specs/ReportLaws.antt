@@ -14,7 +14,7 @@ use Rattle.ob0_types_check.specs.Operations.{◌>>=◌}
 use Rattle.ob0_types_check.specs.KnownDeclarations.{CompositeType, KnownDeclarations, facts_at, types_so_far}
 use Rattle.ob0_types_check.specs.StatementFaults.{sequence_faults}
 use Rattle.ob0_types_check.specs.TypeFaults.{length_by_operand, report_on_constant_expression}
-use Rattle.ob0_types_check.specs.Agreement.{TypesAndMeaningsAgree, TableAgreesWithShapes, TypesAgreeWithShapes, shape_of_type_in}
+use Rattle.ob0_types_check.specs.Agreement.{FactsAgreeWithShapesAndLabels, TableAgreesWithShapes, TypesAgreeWithShapes, shape_of_type_in}
 
 -- returns the meanings of names in `meaning`; if the Bool is true, returns only the meanings of constants
 abbrev pub allowed_meanings : {N : Type 0} → Bool → TypeMeanings N → TypeMeanings N
@@ -35,12 +35,12 @@ pub record OperandAgreesWithExpression
   pub placed : o.may_be_variable ≡ true → variable_type meaning (lone_designator e) ≡ Some of
 
 -- States that if no fault is reported for an expression, the operand found agrees with the expression. The types and
--- meanings known for the names in the expression must be correct (`TypesAndMeaningsAgree`).
+-- meanings known for the names in the expression must be correct (`FactsAgreeWithShapesAndLabels`).
 abbrev pub FaultlessExpressionsHaveCorrectTypesAndValues : Type 0 → Type 0
 FaultlessExpressionsHaveCorrectTypesAndValues N =
     (p : KnownDeclarations) (only_constants : Bool) (shapes : List Shape) (label : ℕ → N) (meaning : TypeMeanings N)
     (e : Tree ℕ expression)
-    → TypesAndMeaningsAgree (facts_at p only_constants) (shape_of_type_in shapes) label meaning e
+    → FactsAgreeWithShapesAndLabels (facts_at p only_constants) (shape_of_type_in shapes) label meaning e
     → (report_on_expression (facts_at p only_constants) e).faults ≡ []
     → OperandAgreesWithExpression (shape_of_type_in shapes) (allowed_meanings only_constants meaning)
     (report_on_expression (facts_at p only_constants) e).known (mapped_tree label (token_value_at p.source) e)
@@ -57,11 +57,11 @@ pub record ConstantAgreesWithExpression
 
 -- States that if no fault is reported for the right side of a constant's declaration, the value found is the value of
 -- the right side. The types and meanings known for the names in the right side must be correct
--- (`TypesAndMeaningsAgree`).
+-- (`FactsAgreeWithShapesAndLabels`).
 abbrev pub FaultlessConstantsHaveCorrectValues : Type 0 → Type 0
 FaultlessConstantsHaveCorrectValues N =
     (p : KnownDeclarations) (shapes : List Shape) (label : ℕ → N) (meaning : TypeMeanings N) (e : Tree ℕ expression)
-    → TypesAndMeaningsAgree (facts_at p true) (shape_of_type_in shapes) label meaning e
+    → FactsAgreeWithShapesAndLabels (facts_at p true) (shape_of_type_in shapes) label meaning e
     → (report_on_constant_expression (facts_at p true) e).faults ≡ []
     → ConstantAgreesWithExpression meaning (report_on_constant_expression (facts_at p true) e).known
     (mapped_tree label (token_value_at p.source) e)
@@ -77,23 +77,23 @@ pub record LengthAgreesWithExpression
   pub counted : array_length value ≡ Some length
 
 -- States that if no fault is reported for the length in an array type, the length found is the value of its expression.
--- The types and meanings known for the names in that expression must be correct (`TypesAndMeaningsAgree`).
+-- The types and meanings known for the names in that expression must be correct (`FactsAgreeWithShapesAndLabels`).
 abbrev pub FaultlessLengthsHaveCorrectValues : Type 0 → Type 0
 FaultlessLengthsHaveCorrectValues N =
     (p : KnownDeclarations) (shapes : List Shape) (label : ℕ → N) (meaning : TypeMeanings N) (e : Tree ℕ expression)
-    → TypesAndMeaningsAgree (facts_at p true) (shape_of_type_in shapes) label meaning e
+    → FactsAgreeWithShapesAndLabels (facts_at p true) (shape_of_type_in shapes) label meaning e
     → (report_on_expression (facts_at p true) e >>= length_by_operand (facts_at p false)).faults ≡ []
     → LengthAgreesWithExpression meaning
     (report_on_expression (facts_at p true) e >>= length_by_operand (facts_at p false)).known
     (mapped_tree label (token_value_at p.source) e)
 
 -- States that statements are well-typed if no fault is reported for them. The types and meanings known for the names in
--- the statements must be correct (`TypesAndMeaningsAgree`).
+-- the statements must be correct (`FactsAgreeWithShapesAndLabels`).
 abbrev pub FaultlessStatementsAreWellTyped : Type 0 → Type 0
 FaultlessStatementsAreWellTyped N =
     (p : KnownDeclarations) (shapes : List Shape) (label : ℕ → N) (meaning : TypeMeanings N)
     (statements : Tree ℕ sequence)
-    → TypesAndMeaningsAgree (facts_at p false) (shape_of_type_in shapes) label meaning statements
+    → FactsAgreeWithShapesAndLabels (facts_at p false) (shape_of_type_in shapes) label meaning statements
     → sequence_faults (facts_at p false) statements ≡ []
     → sequence_is_well_typed meaning (mapped_tree label (token_value_at p.source) statements) ≡ true
 

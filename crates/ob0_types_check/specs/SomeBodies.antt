@@ -1,19 +1,16 @@
--- The report of a module if only its declarations and certain bodies are walked, and the list of
--- the walked bodies that have faults.
+-- The bodies of a module in which a fault is reported, and the report of a module of which only its
+-- declarations and some bodies are walked.
 -- Rule: docs/LANGUAGE.md, Faults of scopes and types 2 to 11.
-use Rattle.std.specs.Prelude.{◌≡◌, ℕ, Bool, true, false, ◌||◌, List, [], ◌∷◌, ◌++◌, MatchOption, nat_eq}
+use Rattle.std.specs.Prelude.{◌≡◌, ℕ, Bool, true, ◌||◌, List, [], ◌∷◌, MatchOption, nat_eq}
 use Rattle.std.specs.List.{list_any}
-use Rattle.ob0_scan.specs.declared.fault.Fault.{Fault}
 use Rattle.ob0_language_names.specs.Parts.{formal_sections, module_block, section_constants, section_types, section_variables}
 use Rattle.ob0_scope_table.specs.Resolution.{IsResolution, Resolution}
+use Rattle.ob0_scope_table.specs.declared.faults.FaultAtTokens.{FaultAtTokens}
 use Rattle.ob0_tree.specs.ParsedModule.{named_tree_of, tree_of}
 use Rattle.ob0_tree.specs.Tree.{Tree, block, body, declares, declares_procedure, end, forms_block, item, items, maybe, more, procedure}
 use Rattle.ob0_types_check.specs.EqualExceptBodies.{AreEqualExceptInBodies}
-use Rattle.ob0_types_check.specs.DeclarationFaults.{declarations_after_heading, report_on_block, report_on_body, report_on_constant_declarations, undeclared_name_and_type_faults, report_on_parameter_sections, report_on_type_declarations, report_on_variable_declarations}
-use Rattle.ob0_types_check.specs.Known.{Reported}
+use Rattle.ob0_types_check.specs.DeclarationFaults.{WalkProgress, every_body, undeclared_name_and_type_faults, reported_module}
 use Rattle.ob0_types_check.specs.ModuleLaws.{HasDeclarations}
-use Rattle.ob0_types_check.specs.Operations.{without_fault, ◌>>=◌}
-use Rattle.ob0_types_check.specs.KnownDeclarations.{KnownDeclarations, state_at_start}
 use Rattle.ob0_types_check.specs.CheckerViews.{declarations_in_state}
 use Rattle.ob0_types_check.specs.declared.reporting.Report.{Report}
 use Rattle.ob0_types_check.specs.declared.reporting.BodiesToWalk.{BodiesToWalk}
@@ -26,13 +23,13 @@ pub record WalkProgress : Type 0 where
 
 -- appends `own`, the closing name of a body's block, to the list `bodies_with_faults` if the body's list of faults
 -- isn't empty
-abbrev pub with_body_if_faulty : List Fault → ℕ → List ℕ → List ℕ
+abbrev pub with_body_if_faulty : List FaultAtTokens → ℕ → List ℕ → List ℕ
 with_body_if_faulty [] own bodies_with_faults = bodies_with_faults
 with_body_if_faulty (fault ∷ faults) own bodies_with_faults = bodies_with_faults ++ own ∷ []
 
 -- If the Bool is true, returns the faults of a body. If there are any, appends `own`, the closing name of the body's
 -- block, to `bodies_with_faults`. If the Bool is false, returns no fault and changes nothing.
-abbrev pub report_body_if_wanted : Bool → ℕ → WalkProgress → Tree ℕ (maybe body) → Reported WalkProgress
+abbrev pub report_body_if_wanted : Bool → ℕ → WalkProgress → Tree ℕ (maybe body) → ResultWithFaults WalkProgress
 report_body_if_wanted false own w statements = without_fault w
 report_body_if_wanted true own w statements =
     record {
@@ -50,7 +47,7 @@ unfoldable mutual
   -- Returns the faults of a block's declarations, and of its statements if the block's closing name `own` passes the
   -- test `wanted`. The statements of a procedure inside the block are walked only if the procedure's own closing name
   -- passes the test.
-  pub report_on_block_with_wanted_bodies : (ℕ → Bool) → ℕ → WalkProgress → Tree ℕ block → Reported WalkProgress
+  pub report_on_block_with_wanted_bodies : (ℕ → Bool) → ℕ → WalkProgress → Tree ℕ block → ResultWithFaults WalkProgress
   report_on_block_with_wanted_bodies wanted own w (forms_block (declares cs ts vs ps) statements) = do
     with_constants ← report_on_constant_declarations w.so_far (section_constants cs)
     with_types ← report_on_type_declarations with_constants (section_types ts)
@@ -61,7 +58,7 @@ unfoldable mutual
 
   -- returns the faults of procedures, one after another; a body is walked only if the closing name of its block passes
   -- the test `wanted`
-  pub report_on_procedures_with_wanted_bodies : (ℕ → Bool) → WalkProgress → Tree ℕ (items procedure) → Reported WalkProgress
+  pub report_on_procedures_with_wanted_bodies : (ℕ → Bool) → WalkProgress → Tree ℕ (items procedure) → ResultWithFaults WalkProgress
   report_on_procedures_with_wanted_bodies wanted w end = without_fault w
   report_on_procedures_with_wanted_bodies wanted w (more d rest) = do
     v ← report_on_procedure_with_wanted_bodies wanted w d
@@ -69,16 +66,16 @@ unfoldable mutual
 
   -- returns the faults of a procedure's parameters, and then of its block; a body is walked only if the closing name of
   -- its block passes the test `wanted`
-  pub report_on_procedure_with_wanted_bodies : (ℕ → Bool) → WalkProgress → Tree ℕ (item procedure) → Reported WalkProgress
+  pub report_on_procedure_with_wanted_bodies : (ℕ → Bool) → WalkProgress → Tree ℕ (item procedure) → ResultWithFaults WalkProgress
   report_on_procedure_with_wanted_bodies wanted w (declares_procedure x fs b closing) = do
     h ← report_on_parameter_sections (record { formals = []; following = w.so_far }) (formal_sections fs)
     report_on_block_with_wanted_bodies wanted closing (record { so_far = declarations_after_heading x h; bodies_with_faults = w.bodies_with_faults }) b
 
 -- returns the faults of a module's declarations, and of the bodies whose closing names pass the
 -- test `wanted`
-abbrev pub report_on_module_with_wanted_bodies : (ℕ → Bool) → Resolution → Reported WalkProgress
+abbrev pub report_on_module_with_wanted_bodies : (ℕ → Bool) → Resolution → ResultWithFaults WalkProgress
 report_on_module_with_wanted_bodies wanted r =
-    report_on_block_with_wanted_bodies wanted r.module_read.closing (record { so_far = state_at_start r; bodies_with_faults = [] })
+    report_on_block_with_wanted_bodies wanted r.module_read.closing (record { so_far = known_declarations_at_start r; bodies_with_faults = [] })
     (module_block (tree_of r.module_read))
 
 -- returns true for every closing name, so that all bodies are walked
@@ -87,16 +84,16 @@ every_body closing = true
 
 -- returns the closing names of a module's bodies in which a fault is reported, in text order
 abbrev pub faulty_bodies : Resolution → List ℕ
-faulty_bodies r = (report_on_module_with_wanted_bodies every_body r).known.bodies_with_faults
+faulty_bodies r = (reported_module every_body r).known.bodies_with_faults
 
 -- returns whether the closing name `closing` is in the list `bodies`
 abbrev pub is_among : List ℕ → ℕ → Bool
 is_among bodies closing = list_any (λ k. nat_eq k closing) bodies
 
 -- states that each closing name in the list passes the test
-abbrev pub AllPass : (ℕ → Bool) → List ℕ → Type 0
-AllPass test [] = Unit {0}
-AllPass test (closing ∷ others) = (test closing ≡ true) × AllPass test others
+abbrev pub AllClosingNamesPass : (ℕ → Bool) → List ℕ → Type 0
+AllClosingNamesPass test [] = Unit {0}
+AllClosingNamesPass test (closing ∷ others) = (test closing ≡ true) × AllClosingNamesPass test others
 
 -- returns whether the body of the block with this closing name has to be walked
 abbrev pub includes_body : BodiesToWalk → ℕ → Bool
@@ -107,7 +104,7 @@ includes_body w closing = w.every_body || is_among w.these.now closing
 pub record IncludesChangedAndFaultyBodies (wanted : ℕ → Bool) (r : Resolution) : Type 0 where
   pub old : Resolution
   pub resolved : IsResolution old
-  pub bodies_with_faults : AllPass wanted (faulty_bodies old)
+  pub bodies_with_faults : AllClosingNamesPass wanted (faulty_bodies old)
   pub alike : AreEqualExceptInBodies wanted old r
 
 -- States that walking only the bodies that pass the test `wanted` gives the same report as walking all bodies. Every
@@ -117,7 +114,7 @@ WalkingChangedAndFaultyBodiesSuffices =
     (wanted : ℕ → Bool) (r : Resolution)
     → IsResolution r
     → IncludesChangedAndFaultyBodies wanted r
-    → report_on_module_with_wanted_bodies wanted r ≡ report_on_module_with_wanted_bodies every_body r
+    → reported_module wanted r ≡ reported_module every_body r
 
 -- States that a report has the faults of the module `r` and the closing names of the bodies with faults. The report has
 -- a table with the objects of all declarations exactly if there are no faults.
@@ -135,7 +132,6 @@ walk_progress_of s bodies_with_faults = record { so_far = declarations_in_state 
 -- States that a walk has reached the end of the module `r` and has found the module's faults (`found`) and the closing
 -- names of its faulty bodies. The code's state `s` has the module's declarations.
 pub record IsFinishedWalk
-    (r : Resolution) (found : List Fault) (s : CheckerState) (bodies_with_faults : List ℕ) : Type 0 where
+    (r : Resolution) (found : List FaultAtTokens) (s : CheckerState) (bodies_with_faults : List ℕ) : Type 0 where
   pub faults : found ≡ undeclared_name_and_type_faults r
-  pub known : declarations_in_state s ≡ (report_on_block (state_at_start r) (module_block (tree_of r.module_read))).known
-  pub faulty_bodies_are : bodies_with_faults ≡ faulty_bodies r
+  pub known : walk_progress_of s bodies_with_faults ≡ (reported_module every_body r).known

@@ -6,60 +6,60 @@ use Rattle.ob0_tree.specs.Tree.{Tree, expression}
 use Rattle.ob0_language_types.specs.Typing.{array_length}
 use Rattle.ob0_language_values.specs.Values.{Value}
 use Rattle.ob0_types_check.specs.ExpressionFaults.{report_on_expression}
-use Rattle.ob0_types_check.specs.Known.{Facts, Meaning, Operand, Reported, a_constant, a_procedure, a_type, a_variable}
+use Rattle.ob0_types_check.specs.Known.{Facts, Meaning, Operand, ResultWithFaults, a_constant, a_procedure, a_type, a_variable}
 use Rattle.ob0_types_check.specs.Operations.{required_type, fault_at_operand, fault_at_token, without_fault, ◌>>=◌}
 
 -- Returns the type to which a name refers, given its token and its meaning. A name that isn't a type's is reported as
 -- `WrongKind`. An undeclared name is reported elsewhere. In both cases the result is the unknown type.
-abbrev pub type_by_meaning : {T : Type 0} → Facts T → ℕ → Option (Meaning T) → Reported T
+abbrev pub type_by_meaning : {T : Type 0} → Facts T → ℕ → Option (Meaning T) → ResultWithFaults T
 type_by_meaning facts token (Some (a_type t)) = without_fault t
 type_by_meaning facts token (Some (a_constant v)) =
-    record { known = facts.types.unknown; faults = fault_at_token facts code.WrongKind token }
+    record { known = facts.types.unknown; faults = fault_at_token code.WrongKind token }
 type_by_meaning facts token (Some (a_variable t)) =
-    record { known = facts.types.unknown; faults = fault_at_token facts code.WrongKind token }
+    record { known = facts.types.unknown; faults = fault_at_token code.WrongKind token }
 type_by_meaning facts token (Some (a_procedure fs)) =
-    record { known = facts.types.unknown; faults = fault_at_token facts code.WrongKind token }
+    record { known = facts.types.unknown; faults = fault_at_token code.WrongKind token }
 type_by_meaning facts token None = without_fault facts.types.unknown
 
 -- returns the type to which the name at a token refers; a name that isn't a type's is reported as `WrongKind`
-abbrev pub type_named_at : {T : Type 0} → Facts T → ℕ → Reported T
+abbrev pub type_named_at : {T : Type 0} → Facts T → ℕ → ResultWithFaults T
 type_named_at facts token = type_by_meaning facts token (facts.object_for token)
 
 -- returns this value of a constant expression unchanged; for None, reports `ConstFault` at the expression's operand `o`
-abbrev pub value_or_fault : {T : Type 0} → Facts T → Operand T → Option Value → Reported (Option Value)
-value_or_fault facts o None = record { known = None; faults = fault_at_operand facts code.ConstFault o }
-value_or_fault facts o (Some v) = without_fault (Some v)
+abbrev pub value_or_fault : {T : Type 0} → Operand T → Option Value → ResultWithFaults (Option Value)
+value_or_fault o None = record { known = None; faults = fault_at_operand code.ConstFault o }
+value_or_fault o (Some v) = without_fault (Some v)
 
 -- Returns the value of a constant expression, given its operand. Reports `ConstFault` if the operand has no value. If
 -- the operand's type is unknown, nothing is reported. The result is None in both cases.
-abbrev pub operand_value : {T : Type 0} → Facts T → Operand T → Reported (Option Value)
+abbrev pub operand_value : {T : Type 0} → Facts T → Operand T → ResultWithFaults (Option Value)
 operand_value facts o =
-    if facts.types.same o.of facts.types.unknown then without_fault None else value_or_fault facts o o.value
+    if facts.types.same o.of facts.types.unknown then without_fault None else value_or_fault o o.value
 
 -- returns the faults and the value of a constant's right side, in which names may only refer to constants
 unfoldable pub report_on_constant_expression : {T : Type 0}
     → Facts T
     → Tree ℕ expression
-    → Reported (Option Value)
+    → ResultWithFaults (Option Value)
 unfolding report_on_expression
 report_on_constant_expression facts e = report_on_expression facts e >>= operand_value facts
 
 -- returns this length of an array unchanged; for None, reports `ArrayLength` at the operand `o` of the length's
 -- expression
-abbrev pub length_or_fault : {T : Type 0} → Facts T → Operand T → Option ℕ → Reported (Option ℕ)
-length_or_fault facts o None = record { known = None; faults = fault_at_operand facts code.ArrayLength o }
-length_or_fault facts o (Some n) = without_fault (Some n)
+abbrev pub length_or_fault : {T : Type 0} → Operand T → Option ℕ → ResultWithFaults (Option ℕ)
+length_or_fault o None = record { known = None; faults = fault_at_operand code.ArrayLength o }
+length_or_fault o (Some n) = without_fault (Some n)
 
 -- Returns the length of an array whose length expression has this value. Reports `ConstFault` if
 -- there is no value, and `ArrayLength` if the value isn't a valid length.
-abbrev pub length_by_value : {T : Type 0} → Facts T → Operand T → Option Value → Reported (Option ℕ)
-length_by_value facts o None = record { known = None; faults = fault_at_operand facts code.ConstFault o }
-length_by_value facts o (Some v) = length_or_fault facts o (array_length v)
+abbrev pub length_by_value : {T : Type 0} → Operand T → Option Value → ResultWithFaults (Option ℕ)
+length_by_value o None = record { known = None; faults = fault_at_operand code.ConstFault o }
+length_by_value o (Some v) = length_or_fault o (array_length v)
 
 -- Returns the length of an array, given the operand of its length expression. Returns None if the
 -- operand isn't INTEGER, has no value or isn't a valid length. Each of these is reported, unless
 -- the operand's type is unknown.
-abbrev pub length_by_operand : {T : Type 0} → Facts T → Operand T → Reported (Option ℕ)
+abbrev pub length_by_operand : {T : Type 0} → Facts T → Operand T → ResultWithFaults (Option ℕ)
 length_by_operand facts o = do
   t ← required_type facts facts.types.integer o
-  if facts.types.same t facts.types.integer then length_by_value facts o o.value else without_fault None
+  if facts.types.same t facts.types.integer then length_by_value o o.value else without_fault None

@@ -18,46 +18,46 @@ use Rattle.ob0_types_check.specs.ReportLaws.{allowed_meanings}
 use Rattle.ob0_types_check.specs.KnownDeclarations.{KnownDeclarations, facts_at}
 use Rattle.ob0_types_check.specs.StatementFaults.{sequence_faults, report_on_target}
 use Rattle.ob0_types_check.specs.TypeFaults.{length_by_operand, report_on_constant_expression}
-use Rattle.ob0_types_check.specs.Agreement.{TypesAndMeaningsAgree, shape_of_type_in}
+use Rattle.ob0_types_check.specs.Agreement.{FactsAgreeWithShapesAndLabels, shape_of_type_in}
 
 -- States that no fault is reported for an expression that has a type. The types and meanings known for the names in the
--- expression must be correct (`TypesAndMeaningsAgree`).
+-- expression must be correct (`FactsAgreeWithShapesAndLabels`).
 abbrev pub TypedExpressionsHaveNoFault : Type 0 → Type 0
 TypedExpressionsHaveNoFault N =
     (p : KnownDeclarations) (only_constants : Bool) (shapes : List Shape) (label : ℕ → N) (meaning : TypeMeanings N)
     (e : Tree ℕ expression)
-    → TypesAndMeaningsAgree (facts_at p only_constants) (shape_of_type_in shapes) label meaning e
+    → FactsAgreeWithShapesAndLabels (facts_at p only_constants) (shape_of_type_in shapes) label meaning e
     → is_some (type_of (allowed_meanings only_constants meaning) (mapped_tree label (token_value_at p.source) e))
     ≡ true
     → (report_on_expression (facts_at p only_constants) e).faults ≡ []
 
 -- States that no fault is reported for a constant expression that has a value. The types and meanings known for the
--- names in the expression must be correct (`TypesAndMeaningsAgree`).
+-- names in the expression must be correct (`FactsAgreeWithShapesAndLabels`).
 abbrev pub ConstantsWithValuesHaveNoFault : Type 0 → Type 0
 ConstantsWithValuesHaveNoFault N =
     (p : KnownDeclarations) (shapes : List Shape) (label : ℕ → N) (meaning : TypeMeanings N) (e : Tree ℕ expression)
-    → TypesAndMeaningsAgree (facts_at p true) (shape_of_type_in shapes) label meaning e
+    → FactsAgreeWithShapesAndLabels (facts_at p true) (shape_of_type_in shapes) label meaning e
     → is_some (constant_value meaning (mapped_tree label (token_value_at p.source) e)) ≡ true
     → (report_on_constant_expression (facts_at p true) e).faults ≡ []
 
 -- States that no fault is reported for a valid array length. The types and meanings known for the names in the length's
--- expression must be correct (`TypesAndMeaningsAgree`).
+-- expression must be correct (`FactsAgreeWithShapesAndLabels`).
 abbrev pub ValidLengthsHaveNoFault : Type 0 → Type 0
 ValidLengthsHaveNoFault N =
     (p : KnownDeclarations) (shapes : List Shape) (label : ℕ → N) (meaning : TypeMeanings N) (e : Tree ℕ expression)
-    → TypesAndMeaningsAgree (facts_at p true) (shape_of_type_in shapes) label meaning e
+    → FactsAgreeWithShapesAndLabels (facts_at p true) (shape_of_type_in shapes) label meaning e
     → is_some
     (option_and_then array_length (constant_value meaning (mapped_tree label (token_value_at p.source) e)))
     ≡ true
     → (report_on_expression (facts_at p true) e >>= length_by_operand (facts_at p false)).faults ≡ []
 
 -- States that no fault is reported for an assignment's target that is a variable or parameter with well-typed
--- selectors. The types and meanings known for the names in the target must be correct (`TypesAndMeaningsAgree`).
+-- selectors. The types and meanings known for the names in the target must be correct (`FactsAgreeWithShapesAndLabels`).
 abbrev pub TypedTargetsHaveNoFault : Type 0 → Type 0
 TypedTargetsHaveNoFault N =
     (p : KnownDeclarations) (shapes : List Shape) (label : ℕ → N) (meaning : TypeMeanings N) (x : ℕ)
     (path : Tree ℕ (items selector))
-    → TypesAndMeaningsAgree (facts_at p false) (shape_of_type_in shapes) label meaning (designator x path)
+    → FactsAgreeWithShapesAndLabels (facts_at p false) (shape_of_type_in shapes) label meaning (designator x path)
     → is_some (variable_type meaning (Some (label x, mapped_tree label (token_value_at p.source) path))) ≡ true
     → (report_on_target (facts_at p false) x path).faults ≡ []
 
@@ -76,14 +76,14 @@ HaveDistinctOrdinals shapes =
     → ordinal_of_shape s ≡ Some k → ordinal_of_shape t ≡ Some k → i ≡ j
 
 -- States that no fault is reported for well-typed statements. The types and meanings known for the
--- names in the statements must be correct (`TypesAndMeaningsAgree`), and no two array or record
+-- names in the statements must be correct (`FactsAgreeWithShapesAndLabels`), and no two array or record
 -- types may have the same ordinal (`HaveDistinctOrdinals`).
 abbrev pub WellTypedStatementsHaveNoFault : Type 0 → Type 0
 WellTypedStatementsHaveNoFault N =
     (p : KnownDeclarations) (shapes : List Shape) (label : ℕ → N) (meaning : TypeMeanings N)
     (statements : Tree ℕ sequence)
     → HaveDistinctOrdinals shapes
-    → TypesAndMeaningsAgree (facts_at p false) (shape_of_type_in shapes) label meaning statements
+    → FactsAgreeWithShapesAndLabels (facts_at p false) (shape_of_type_in shapes) label meaning statements
     → sequence_is_well_typed meaning (mapped_tree label (token_value_at p.source) statements) ≡ true
     → sequence_faults (facts_at p false) statements ≡ []
 

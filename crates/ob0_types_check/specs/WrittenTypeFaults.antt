@@ -8,9 +8,9 @@ use Rattle.ob0_types_table.specs.declared.types.TypeId.TheVariants as type
 use Rattle.ob0_tree.specs.Places.{token_text_at}
 use Rattle.ob0_tree.specs.Tree.{Tree, array_type, end, fields, further_fields, item, items, listed, more, named_type, names, no_fields, record_type, some_fields, then_fields, written_type}
 use Rattle.ob0_types_check.specs.ExpressionFaults.{report_on_expression}
-use Rattle.ob0_types_check.specs.Known.{Operand, Reported}
+use Rattle.ob0_types_check.specs.Known.{Operand, ResultWithFaults}
 use Rattle.ob0_types_check.specs.Operations.{without_fault, token_before, ◌>>=◌}
-use Rattle.ob0_types_check.specs.KnownDeclarations.{Size, KnownDeclarations, TypeWithState, KnownField, facts_at, make_type, zero_size, of_elements, of_fields, size_of_type_so_far}
+use Rattle.ob0_types_check.specs.KnownDeclarations.{Size, KnownDeclarations, TypeWithFollowingDeclarations, KnownField, facts_at, make_composite_type, zero_size, of_elements, of_fields, size_of_type_so_far}
 use Rattle.ob0_types_check.specs.TypeFaults.{length_by_operand, type_named_at}
 
 -- returns the size of an array of `n` elements that each have this size
@@ -27,11 +27,11 @@ next_type_ordinal around p = length p.made + around
 -- Makes an array type, given the ordinal of its word ARRAY, the operand and value of its length, and its element type.
 -- If the length has a fault (None), the array's type is unknown, although its element type has been checked. The word
 -- ARRAY is the token before the length.
-abbrev pub made_array_type : ℕ → Operand TypeId → Option ℕ → TypeWithState → Reported TypeWithState
+abbrev pub made_array_type : ℕ → Operand TypeId → Option ℕ → TypeWithFollowingDeclarations → ResultWithFaults TypeWithFollowingDeclarations
 made_array_type ordinal o None element =
     without_fault (record { of = type.Unknown; following = element.following })
 made_array_type ordinal o (Some n) element =
-    make_type element.following (token_before o.first) ordinal (of_elements n element.of)
+    make_composite_type element.following (token_before o.first) ordinal (of_elements n element.of)
     (array_size n (size_of_type_so_far element.following.made element.of))
 
 -- the fields of a record found so far, their total size, and the declarations known after these fields (`following`)
@@ -65,7 +65,7 @@ with_known_fields t g (x ∷ xs) = with_known_fields t (with_known_field t g x) 
 
 -- Returns the fields `g` with one more field of the type `t.of` for each of these name tokens. `t` has the type of a
 -- group of fields, and the declarations known after this type.
-abbrev pub with_field_group : KnownFields → List ℕ → TypeWithState → KnownFields
+abbrev pub with_field_group : KnownFields → List ℕ → TypeWithFollowingDeclarations → KnownFields
 with_field_group g xs t =
     with_known_fields t.of (record { fields = g.fields; size = g.size; following = t.following }) xs
 
@@ -77,8 +77,8 @@ record_size z = record { scalars = max z.scalars 1; depth = z.depth + 1 }
 abbrev pub token_of_first_name : Tree ℕ names → ℕ
 token_of_first_name (listed x rest) = x
 
--- Returns the token before a group of fields, which is RECORD or a semicolon. `following` is the token between this
--- group and the next group, or 0 if no later group has a field. It is used only if this group is empty.
+-- Returns the token before a group of fields: RECORD or a semicolon. An empty group has no token, so
+-- its place is before `following`, the semicolon after it. If no later group has a field, `following` is 0.
 abbrev pub token_before_group : Tree ℕ fields → ℕ → ℕ
 token_before_group (some_fields ns t) following = token_before (token_of_first_name ns)
 token_before_group no_fields following = token_before following
@@ -93,8 +93,8 @@ record_keyword_token (more (then_fields g) rest) = token_before_group g (record_
 
 -- Makes a record type of the gathered fields `g`, or reports `TypeTooLarge` at its token RECORD (`word`). `ordinal` is
 -- the number of words ARRAY and RECORD before this token in the text.
-abbrev pub made_record_type : ℕ → ℕ → KnownFields → Reported TypeWithState
-made_record_type word ordinal g = make_type g.following word ordinal (of_fields g.fields) (record_size g.size)
+abbrev pub made_record_type : ℕ → ℕ → KnownFields → ResultWithFaults TypeWithFollowingDeclarations
+made_record_type word ordinal g = make_composite_type g.following word ordinal (of_fields g.fields) (record_size g.size)
 
 -- Returns the faults of a type. `around` is the number of arrays and records that enclose the type.
 unfoldable mutual
@@ -102,7 +102,7 @@ unfoldable mutual
 
   -- returns the faults of a type, and the type with the declarations known after it; the faults of the parts of an
   -- array or record come first
-  pub report_on_written_type : ℕ → KnownDeclarations → Tree ℕ written_type → Reported TypeWithState
+  pub report_on_written_type : ℕ → KnownDeclarations → Tree ℕ written_type → ResultWithFaults TypeWithFollowingDeclarations
   report_on_written_type around p (named_type x) = do
     t ← type_named_at (facts_at p false) x
     without_fault (record { of = t; following = p })
@@ -117,7 +117,7 @@ unfoldable mutual
     made_record_type (token_before_group g (record_keyword_token rest)) (next_type_ordinal around p) all
 
   -- returns the faults of a group of fields, and the earlier fields with the group's fields added
-  pub report_on_field_group : ℕ → KnownFields → Tree ℕ fields → Reported KnownFields
+  pub report_on_field_group : ℕ → KnownFields → Tree ℕ fields → ResultWithFaults KnownFields
   report_on_field_group around so_far no_fields = without_fault so_far
   report_on_field_group around so_far (some_fields ns t) = do
     u ← report_on_written_type around so_far.following t
@@ -125,7 +125,7 @@ unfoldable mutual
 
   -- returns the faults of further groups of fields, and the earlier fields with the fields of these
   -- groups added
-  pub report_on_further_field_groups : ℕ → KnownFields → Tree ℕ (items further_fields) → Reported KnownFields
+  pub report_on_further_field_groups : ℕ → KnownFields → Tree ℕ (items further_fields) → ResultWithFaults KnownFields
   report_on_further_field_groups around so_far end = without_fault so_far
   report_on_further_field_groups around so_far (more (then_fields g) rest) = do
     next ← report_on_field_group around so_far g
@@ -133,6 +133,6 @@ unfoldable mutual
 
 -- returns the faults of one more group of fields, and the earlier fields with the fields of this
 -- group added
-unfoldable pub report_on_further_field_group : ℕ → KnownFields → Tree ℕ (item further_fields) → Reported KnownFields
+unfoldable pub report_on_further_field_group : ℕ → KnownFields → Tree ℕ (item further_fields) → ResultWithFaults KnownFields
 unfolding report_on_written_type
 report_on_further_field_group around so_far (then_fields g) = report_on_field_group around so_far g

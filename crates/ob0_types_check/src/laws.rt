@@ -9,27 +9,28 @@ ghost use Rattle.ob0_language_names.specs.Names.{Name};
 
 /// Proves that if no fault is reported for an expression, the type and value found for the
 /// expression are correct. The law assumes that the types and meanings found for the names in the
-/// expression are correct (`TypesAndMeaningsAgree`).
+/// expression are correct (`FactsAgreeWithShapesAndLabels`).
 pub fn faultless_expressions_have_correct_types_and_values()
     ensures { FaultlessExpressionsHaveCorrectTypesAndValues Name }
 {}
 
 /// Proves that if no fault is reported for the right side of a constant's declaration, the value
 /// found is the value of the right side. The law assumes that the types and meanings found for the
-/// names in the right side are correct (`TypesAndMeaningsAgree`).
+/// names in the right side are correct (`FactsAgreeWithShapesAndLabels`).
 pub fn faultless_constants_have_correct_values()
     ensures { FaultlessConstantsHaveCorrectValues Name }
 {}
 
 /// Proves that if no fault is reported for the length in an array type, the length found is the
 /// value of its expression. The law assumes that the types and meanings found for the names in that
-/// expression are correct (`TypesAndMeaningsAgree`).
+/// expression are correct (`FactsAgreeWithShapesAndLabels`).
 pub fn faultless_lengths_have_correct_values()
     ensures { FaultlessLengthsHaveCorrectValues Name }
 {}
 
 /// Proves that statements are well-typed if no fault is reported for them. The law assumes that the
-/// types and meanings found for the names in the statements are correct (`TypesAndMeaningsAgree`).
+/// types and meanings found for the names in the statements are correct
+/// (`FactsAgreeWithShapesAndLabels`).
 pub fn faultless_statements_are_well_typed()
     ensures { FaultlessStatementsAreWellTyped Name }
 {}
@@ -54,34 +55,36 @@ pub fn walk_without_fault_finds_correct_meanings()
 {}
 
 /// Proves that no fault is reported for an expression that has a type. The law assumes that the
-/// types and meanings found for the names in the expression are correct (`TypesAndMeaningsAgree`).
+/// types and meanings found for the names in the expression are correct
+/// (`FactsAgreeWithShapesAndLabels`).
 pub fn typed_expressions_have_no_fault()
     ensures { TypedExpressionsHaveNoFault Name }
 {}
 
 /// Proves that no fault is reported for a constant expression that has a value. The law assumes
 /// that the types and meanings found for the names in the expression are correct
-/// (`TypesAndMeaningsAgree`).
+/// (`FactsAgreeWithShapesAndLabels`).
 pub fn constants_with_values_have_no_fault()
     ensures { ConstantsWithValuesHaveNoFault Name }
 {}
 
 /// Proves that no fault is reported for a valid array length. The law assumes that the types and
-/// meanings found for the names in the length's expression are correct (`TypesAndMeaningsAgree`).
+/// meanings found for the names in the length's expression are correct
+/// (`FactsAgreeWithShapesAndLabels`).
 pub fn valid_lengths_have_no_fault()
     ensures { ValidLengthsHaveNoFault Name }
 {}
 
 /// Proves that no fault is reported for an assignment's target if the target is a variable or
 /// parameter with well-typed selectors. The law assumes that the types and meanings found for the
-/// names in the target are correct (`TypesAndMeaningsAgree`).
+/// names in the target are correct (`FactsAgreeWithShapesAndLabels`).
 pub fn typed_targets_have_no_fault()
     ensures { TypedTargetsHaveNoFault Name }
 {}
 
 /// Proves that no fault is reported for well-typed statements. The law assumes that the types and
-/// meanings found for the names in the statements are correct (`TypesAndMeaningsAgree`). It also
-/// assumes that no two array or record types have the same ordinal (`HaveDistinctOrdinals`).
+/// meanings found for the names in the statements are correct (`FactsAgreeWithShapesAndLabels`). It
+/// also assumes that no two array or record types have the same ordinal (`HaveDistinctOrdinals`).
 pub fn well_typed_statements_have_no_fault()
     ensures { WellTypedStatementsHaveNoFault Name }
 {}

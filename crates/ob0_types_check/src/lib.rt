@@ -10,4 +10,6 @@
 pub mod laws;
 mod reporting;
 
-pub use reporting::{Report, report_faults, report_one_body, report_some_bodies};
+pub use reporting::{
+    Report, module_report, module_report_walking_one_body, module_report_walking_some_bodies,
+};

@@ -11,14 +11,14 @@
 //! every declaration (`walk_without_fault_finds_correct_meanings`).
 //!
 //! The definitions give the faults of each production of the grammar, in order, with codes and
-//! spans. They also give the result of the production, for example the type of an expression. A
-//! `Reported` is such a result with its faults. The operator `>>=` puts the faults of one step
+//! tokens. They also give the result of the production, for example the type of an expression. A
+//! `ResultWithFaults` is such a result with its faults. The operator `>>=` puts the faults of one step
 //! before the faults of the next step. Statements have faults but no result. The contract of a
 //! function that returns a value has one clause, `ReturnsAndReports before after x t`. Here `t` is
-//! the `Reported` of the definitions. The clause states that the function returns the result `x` of
-//! `t` and appends the faults of `t` to the list `before`. One walk over an expression finds its
-//! operand: its type, its value if it is constant, whether it may be a variable, and its first and
-//! last token.
+//! the `ResultWithFaults` of the definitions. The clause states that the function returns the
+//! result `x` of `t` and appends the faults of `t` to the list `before`. One walk over an
+//! expression finds its operand: its type, its value if it is constant, whether it may be a
+//! variable, and its first and last token.
 //!
 //! The definitions work over any representation of types that has an unknown type (`Types`). One
 //! such representation is the code's `TypeId`, which refers to array and record types by their
@@ -28,27 +28,28 @@
 //! The faults of written types, declarations and blocks depend on a state, `KnownDeclarations`.
 //! This state has the meanings of the declarations, by ordinal, and a list of the array and record
 //! types with their parts. `declarations_in_state` converts the code's `CheckerState` to a
-//! `KnownDeclarations`. So the definitions of the faults don't mention `CheckerState`.
+//! `KnownDeclarations`. So the definitions of the faults don't mention `CheckerState`. For blocks the
+//! state also has the list of the bodies with faults (`WalkProgress`).
 //! `CheckerState` and the list of faults are separate values. The functions for expressions and
-//! statements take `&self` and the list. The functions for declarations take a `Reporter`, which
-//! has both.
+//! statements take `&self` and the list. The functions for declarations take a `ReportingWalk`,
+//! which has both.
 //!
 //! The trees of the definitions don't contain the tokens ARRAY and RECORD. Definitions and code
 //! both find these tokens from their neighbors. ARRAY is the token before the array's length.
 //! Between RECORD and the name of the first field there are only semicolons, one for each empty
 //! group of fields before that name (`record_keyword_token`). Every token has a next token, because
-//! `token_after` returns the end of the text unchanged. Every fault has a span, because `span_at`
-//! returns an empty span at the text's start if there is no token.
+//! `token_after` returns the end of the text unchanged. Every fault has a span, because a token
+//! that doesn't exist counts as the last token (`fault_with_span`).
 //!
 //! A body declares nothing. So if only the tokens of one body changed, the types and meanings known
 //! everywhere else are unchanged. Any other body that had no faults still has none
-//! (`walking_changed_and_faulty_bodies_suffices`). `report_some_bodies` therefore walks the
-//! declarations, the changed body and the bodies that had faults, and skips all others. The report
-//! lists the bodies with faults, for the next change.
+//! (`walking_changed_and_faulty_bodies_suffices`). `module_report_walking_some_bodies` therefore
+//! walks the declarations, the changed body and the bodies that had faults, and skips all others.
+//! The report lists the bodies with faults, for the next change.
 //!
 //! If the statements of one body were replaced, and the module passes the type check without them,
-//! only these statements can have faults (`NewBody` of the proofs). `report_one_body` walks the
-//! declarations and that body.
+//! only these statements can have faults (`NewBody` of the proofs).
+//! `module_report_walking_one_body` walks the declarations and that body.
 //!
 //! The ordinal of a word ARRAY or RECORD is the number of such words before it in the text. The
 //! walk doesn't count these words. Each word makes one type, and inner types are made first. So, if
@@ -70,19 +71,20 @@ mod written_types;
 ghost use Rattle.std.specs.Prelude.{◌≡◌, ◌++◌, [], IfOk, OnOk, map, option_map, None};
 ghost use Rattle.std.specs.List.{filter};
 ghost use Rattle.ob0_scope_table.specs.Resolution.{is_undeclared_fault};
-ghost use Rattle.ob0_types_table.specs.Tables.{AreEntriesInOrder};
+ghost use Rattle.ob0_types_table.specs.DeclarationTableView.{AreEntriesInOrder};
 ghost use Rattle.ob0_types_check.specs.NewBody.{PassesTypeCheckWithoutBody};
-ghost use Rattle.ob0_types_check.specs.KnownDeclarations.{state_at_start};
-ghost use Rattle.ob0_types_check.specs.SomeBodies.{IsFinishedWalk, IsReportOf, IncludesChangedAndFaultyBodies, every_body, is_among, report_on_module_with_wanted_bodies, includes_body};
+ghost use Rattle.ob0_types_check.specs.KnownDeclarations.{known_declarations_at_start};
+ghost use Rattle.ob0_types_check.specs.DeclarationFaults.{every_body, reported_module};
+ghost use Rattle.ob0_types_check.specs.SomeBodies.{IsFinishedWalk, IsReportOf, IncludesChangedAndFaultyBodies, is_among, includes_body};
 ghost use Rattle.ob0_types_check.specs.CheckerViews.{meaning_view, declarations_in_state, table_in_state};
 
 use crate::laws::{
     walk_without_fault_finds_correct_meanings, walking_changed_and_faulty_bodies_suffices,
 };
 use crate::reporting::checker_state::{CheckerState, Meaning, predeclared_meanings};
-use crate::reporting::objects::{define_standard_procedures, objects_of};
-use ob0_scan::{Fault, FaultCode};
-use ob0_scope_table::Resolved;
+use crate::reporting::objects::{define_standard_procedures, objects_of_meanings};
+use ob0_scan::FaultCode;
+use ob0_scope_table::{FaultAtTokens, Resolved};
 use ob0_types_table::DeclarationTable;
 use std::alloc::{AllocError, Global};
 
@@ -91,7 +93,7 @@ use std::alloc::{AllocError, Global};
 #[derive(Drop)]
 pub struct Report {
     /// The faults at undeclared names, in text order, and then the faults of types.
-    pub faults: Vec<Fault>,
+    pub faults: Vec<FaultAtTokens>,
     /// The table of declarations, or None if there is a fault.
     pub known: Option<DeclarationTable>,
     /// The bodies in which a fault of types is reported, in text order. Each body is given by the
@@ -119,7 +121,7 @@ impl<'b> BodiesToWalk<'b> {
 /// Returns the report of a module: its undeclared names in text order and then its faults of types.
 /// If there are no faults, the report has the module's declarations. Duplicate declarations and
 /// wrong closing names aren't reported here.
-pub fn report_faults<'t>(alloc: Global, resolved: &'t Resolved<'t>) -> Result<Report, AllocError>
+pub fn module_report<'t>(alloc: Global, resolved: &'t Resolved<'t>) -> Result<Report, AllocError>
     ensures { IfOk result (IsReportOf resolved.now) }
 {
     let none = Vec::new(alloc);
@@ -127,14 +129,14 @@ pub fn report_faults<'t>(alloc: Global, resolved: &'t Resolved<'t>) -> Result<Re
         every_body: true,
         these: none.as_slice(),
     };
-    report_wanted_bodies(alloc, resolved, &every_body)
+    module_report_walking_wanted_bodies(alloc, resolved, &every_body)
 }
 
-/// Returns the report of a module after a change. The report is the same as `report_faults`
+/// Returns the report of a module after a change. The report is the same as `module_report`
 /// returns, but only the declarations and the bodies in the list `bodies` are walked. Each body in
 /// the list is given by the token of its block's closing name. The list must include every body
 /// that changed and every body that had a fault of types before the change.
-pub fn report_some_bodies<'t>(
+pub fn module_report_walking_some_bodies<'t>(
     alloc: Global,
     resolved: &'t Resolved<'t>,
     bodies: &[usize],
@@ -149,13 +151,13 @@ pub fn report_some_bodies<'t>(
         every_body: false,
         these: bodies,
     };
-    report_wanted_bodies(alloc, resolved, &these)
+    module_report_walking_wanted_bodies(alloc, resolved, &these)
 }
 
-/// Returns the same report as `report_faults`, but walks only the declarations and the statements
+/// Returns the same report as `module_report`, but walks only the declarations and the statements
 /// of one block. `closing` is the token of this block's closing name. Without these statements, the
 /// module must pass the type check.
-pub fn report_one_body<'t>(
+pub fn module_report_walking_one_body<'t>(
     alloc: Global,
     resolved: &'t Resolved<'t>,
     closing: usize,
@@ -170,21 +172,21 @@ pub fn report_one_body<'t>(
         every_body: false,
         these: &bodies,
     };
-    report_wanted_bodies(alloc, resolved, &only)
+    module_report_walking_wanted_bodies(alloc, resolved, &only)
 }
 
 /// Returns the report of a module, but walks only the declarations and the bodies that `wanted`
 /// includes. All other bodies must have no faults of types.
-fn report_wanted_bodies<'t>(
+fn module_report_walking_wanted_bodies<'t>(
     alloc: Global,
     resolved: &'t Resolved<'t>,
     wanted: &BodiesToWalk<'_>,
 ) -> Result<Report, AllocError>
-    requires { report_on_module_with_wanted_bodies (includes_body wanted.now) resolved.now ≡ report_on_module_with_wanted_bodies every_body resolved.now }
+    requires { reported_module (includes_body wanted.now) resolved.now ≡ reported_module every_body resolved.now }
     ensures { IfOk result (IsReportOf resolved.now) }
 {
     let read = resolved.module();
-    let mut reporter = Reporter::new(alloc, resolved)?;
+    let mut reporter = ReportingWalk::new(alloc, resolved)?;
     let mut bodies_with_faults = Vec::new(alloc);
     reporter.report_block(
         &mut bodies_with_faults,
@@ -208,7 +210,7 @@ fn make_declaration_table<'t>(
         meanings,
         composites,
     } = checker_state;
-    let mut objects = objects_of(alloc, meanings)?;
+    let mut objects = objects_of_meanings(alloc, meanings)?;
     define_standard_procedures(&mut objects);
     Ok(DeclarationTable::new(composites, objects))
 }
@@ -216,17 +218,17 @@ fn make_declaration_table<'t>(
 /// The state of the walk over a module: the declarations and types found so far, and the faults
 /// reported so far.
 #[derive(Drop)]
-struct Reporter<'t> {
+struct ReportingWalk<'t> {
     alloc: Global,
     checker_state: CheckerState<'t>,
-    faults: Vec<Fault>,
+    faults: Vec<FaultAtTokens>,
 }
 
-impl<'t> Reporter<'t> {
+impl<'t> ReportingWalk<'t> {
     /// Returns the state of the walk at the start of a module. Only the predeclared names have a
     /// meaning, and the only faults are the undeclared names.
-    fn new(alloc: Global, resolved: &'t Resolved<'t>) -> Result<Reporter<'t>, AllocError>
-        ensures checker_state { IfOk result (λ t. declarations_in_state t.checker_state ≡ state_at_start resolved.now) }
+    fn new(alloc: Global, resolved: &'t Resolved<'t>) -> Result<ReportingWalk<'t>, AllocError>
+        ensures checker_state { IfOk result (λ t. declarations_in_state t.checker_state ≡ known_declarations_at_start resolved.now) }
         ensures faults { IfOk result
             (λ t. t.faults.items ≡ filter is_undeclared_fault resolved.now.faults) }
     {
@@ -237,7 +239,7 @@ impl<'t> Reporter<'t> {
             meanings,
             composites: Vec::new(alloc),
         };
-        Ok(Reporter {
+        Ok(ReportingWalk {
             alloc,
             checker_state,
             faults: undeclared_name_faults(alloc, resolved)?,
@@ -257,7 +259,7 @@ impl<'t> Reporter<'t> {
         walk_without_fault_finds_correct_meanings();
         // The proof needs this call: its contract states the module's invariant.
         let _module = resolved.module();
-        let Reporter {
+        let ReportingWalk {
             alloc,
             checker_state,
             faults,
@@ -281,7 +283,10 @@ impl<'t> Reporter<'t> {
 
 /// Returns the faults with the code `Undeclared` among the faults that were found when the module's
 /// names were bound, in the same order.
-fn undeclared_name_faults(alloc: Global, resolved: &Resolved) -> Result<Vec<Fault>, AllocError>
+fn undeclared_name_faults(
+    alloc: Global,
+    resolved: &Resolved,
+) -> Result<Vec<FaultAtTokens>, AllocError>
     ensures { IfOk result (λ faults. faults.items ≡ filter is_undeclared_fault resolved.now.faults) }
 {
     let mut faults = Vec::new(alloc);

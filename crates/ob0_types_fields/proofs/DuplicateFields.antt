@@ -16,7 +16,7 @@ use Rattle.ob0_language_types.specs.Typing.{constructor_count, group_constructor
 use Rattle.ob0_types_fields.specs.declared.field_name.FieldName.{FieldName}
 use Rattle.ob0_types_fields.specs.Identifiers.{DuplicateFieldNameHasDeclaringToken, declared_fields, fields_declared_in_block, fields_declared_in_procedure, fields_declared_in_procedures, first_token, belongs_to_field, tokens_of_field}
 use Rattle.ob0_types_fields.specs.Owned.{fields_in_group, fields_in_groups, fields_at_tokens, fields_in_parameter_sections, fields_in_type, fields_in_types, fields_in_variables}
-use Rattle.ob0_language_fields.specs.Renaming.{RecordFields, another_field_has_name, records_in_block, records_in_group, records_in_groups, records_in_procedure, records_in_procedures, records_in_sections, records_in_type, records_in_types, records_in_variables}
+use Rattle.ob0_language_fields.specs.Renaming.{RecordFields, another_field_has_name, records_in_block, records_in_group, records_in_groups, records_in_procedure, records_in_procedures, records_in_parameter_sections, records_in_type, records_in_types, records_in_variables}
 use Rattle.ob0_types_fields.proofs.OwnedTypes.{counted_formals_section, counted_group, counted_procedure, counted_section, counted_type, counted_type_section, counted_variable_section, sections_mapped, types_mapped, variables_mapped}
 
 any-append : {A : Type 0} (p : A → Bool) (xs ys : List A) → list_any p (xs ++ ys) ≡ (list_any p xs || list_any p ys)
@@ -124,16 +124,16 @@ module _ (text : ℕ → Name) (value : ℕ → ℕ) where
     section-hit k (value_section ns u) = type-hit k u
     section-hit k (variable_section ns u) = type-hit k u
 
-    sections-hit : (k : ℕ) (fs : Tree ℕ (items further_section)) → list_any hit (fields_in_parameter_sections k fs) ≡ list_any in_record (records_in_sections k (mapped_tree text value fs))
+    sections-hit : (k : ℕ) (fs : Tree ℕ (items further_section)) → list_any hit (fields_in_parameter_sections k fs) ≡ list_any in_record (records_in_parameter_sections k (mapped_tree text value fs))
     sections-hit k end = refl
     sections-hit k (more (then_section s) fs) =
         let n : ℕ = k + constructor_count (parameter_section_type s) in
         let s' = parameter_section_type (mapped_tree text value s) in
-        both (fields_in_type k (parameter_section_type s)) (fields_in_parameter_sections n fs) (records_in_type k s') (records_in_sections n (mapped_tree text value fs)) (section-hit k s) (sections-hit n fs)
-        ∙ ap (λ c. list_any in_record (records_in_type k s' ++ records_in_sections (k + c) (mapped_tree text value fs))) (sym (counted_section text value s))
+        both (fields_in_type k (parameter_section_type s)) (fields_in_parameter_sections n fs) (records_in_type k s') (records_in_parameter_sections n (mapped_tree text value fs)) (section-hit k s) (sections-hit n fs)
+        ∙ ap (λ c. list_any in_record (records_in_type k s' ++ records_in_parameter_sections (k + c) (mapped_tree text value fs))) (sym (counted_section text value s))
 
-    formals-hit : (k : ℕ) (fs : Tree ℕ (maybe formals)) → list_any hit (fields_in_parameter_sections k (formal_sections fs)) ≡ list_any in_record (records_in_sections k (formal_sections (mapped_tree text value fs)))
-    formals-hit k fs = sections-hit k (formal_sections fs) ∙ ap (λ t. list_any in_record (records_in_sections k t)) (sym (sections_mapped text value fs))
+    formals-hit : (k : ℕ) (fs : Tree ℕ (maybe formals)) → list_any hit (fields_in_parameter_sections k (formal_sections fs)) ≡ list_any in_record (records_in_parameter_sections k (formal_sections (mapped_tree text value fs)))
+    formals-hit k fs = sections-hit k (formal_sections fs) ∙ ap (λ t. list_any in_record (records_in_parameter_sections k t)) (sym (sections_mapped text value fs))
 
     mutual
       block-hit : (k : ℕ) (b : Tree ℕ block) → list_any hit (fields_declared_in_block k b) ≡ list_any in_record (records_in_block k (mapped_tree text value b))
@@ -166,7 +166,7 @@ module _ (text : ℕ → Name) (value : ℕ → ℕ) where
           let p' = mapped_tree text value p in
           let n : ℕ = constructors_before_procedure_block k p in
           let counted : constructors_before_procedure_block k p' ≡ n = ap (λ c. k + c) (counted_formals_section text value fs) in
-          both (fields_in_parameter_sections k (formal_sections fs)) (fields_declared_in_block n b) (records_in_sections k (formal_sections (mapped_tree text value fs))) (records_in_block (constructors_before_procedure_block k p') (mapped_tree text value b)) (formals-hit k fs)
+          both (fields_in_parameter_sections k (formal_sections fs)) (fields_declared_in_block n b) (records_in_parameter_sections k (formal_sections (mapped_tree text value fs))) (records_in_block (constructors_before_procedure_block k p') (mapped_tree text value b)) (formals-hit k fs)
           (block-hit n b ∙ ap (λ c. list_any in_record (records_in_block c (mapped_tree text value b))) (sym counted))
 
 -- A name is the new name but not the old one exactly if the name is the new one and the two differ.

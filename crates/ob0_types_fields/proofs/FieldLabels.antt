@@ -4,7 +4,7 @@ use Rattle.ob0_tree.specs.Tree.{Tree, array_type, block, declares, declares_proc
 use Rattle.ob0_language_names.specs.Mapping.{map_names}
 use Rattle.ob0_language_names.specs.Names.{Label, Name, naming_by_spelling, as_written, declared}
 use Rattle.ob0_language_names.specs.Parts.{formal_names, formal_sections, further_names, module_block, names_in_list, procedure_name, parameter_section_names, parameter_section_type, section_types, section_variables}
-use Rattle.ob0_language_names.specs.Scopes.{Scope, ordinal_after_names, ordinal_after_procedure, label_from_ordinal, declare_names, first_procedure_ordinal, first_type_ordinal, first_variable_ordinal, label_of, numbered, predeclared_scope, scope_before_procedures, relabel_block, relabel_formals, relabel_procedure, relabel_procedures, relabel_section, relabel_sections, relabel_type_section, relabel_types, relabel_uses, relabel_variable_section, relabel_variables, scope_before_types, scope_before_variables}
+use Rattle.ob0_language_names.specs.Scopes.{Scope, ordinal_after_names, ordinal_after_procedure, label_from_ordinal, declare_names, first_procedure_ordinal, first_type_ordinal, first_variable_ordinal, label_of, numbered, predeclared_scope, scope_before_procedures, relabel_block, relabel_formals, relabel_procedure, relabel_procedures, relabel_parameter_section, relabel_parameter_sections, relabel_type_section, relabel_types, relabel_uses, relabel_variable_section, relabel_variables, scope_before_types, scope_before_variables}
 
 abbrev pub IsWritten : Label → Type 0
 IsWritten (declared k) = ⊥
@@ -97,11 +97,11 @@ variable_section-plain : (scope : Scope Name) (k : ℕ) (vs : Tree Name (maybe v
 variable_section-plain scope k none = tt
 variable_section-plain scope k (one (declares_variables vs)) = variables-plain scope k vs
 
-section-plain : (scope : Scope Name) (k : ℕ) (f : Tree Name section) → TypePlain (parameter_section_type (relabel_section naming_by_spelling (label_from_ordinal naming_by_spelling) scope k f))
+section-plain : (scope : Scope Name) (k : ℕ) (f : Tree Name section) → TypePlain (parameter_section_type (relabel_parameter_section naming_by_spelling (label_from_ordinal naming_by_spelling) scope k f))
 section-plain scope k (value_section ns u) = uses-plain scope u
 section-plain scope k (variable_section ns u) = uses-plain scope u
 
-sections-plain : (scope : Scope Name) (k : ℕ) (fs : Tree Name (items further_section)) → SectionsPlain (relabel_sections naming_by_spelling (label_from_ordinal naming_by_spelling) scope k fs)
+sections-plain : (scope : Scope Name) (k : ℕ) (fs : Tree Name (items further_section)) → SectionsPlain (relabel_parameter_sections naming_by_spelling (label_from_ordinal naming_by_spelling) scope k fs)
 sections-plain scope k end = tt
 sections-plain scope k (more (then_section f) fs) = (section-plain scope k f, sections-plain (declare_names k (parameter_section_names f) scope) (ordinal_after_names k (parameter_section_names f)) fs)
 

@@ -13,11 +13,11 @@ use Rattle.ob0_tree.specs.Tree.{mapped_tree}
 use Rattle.ob0_tree.proofs.Leaves.{ascending_lower, leaves_are_identifiers, leaves_ascend}
 use Rattle.ob0_language_names.specs.Names.{Name, same_name}
 use Rattle.ob0_scope_table.specs.Resolution.{Resolution, ordinal_in, span_at}
-use Rattle.ob0_scope_table.specs.Spans.{is_on_span}
+use Rattle.ob0_scope_table.specs.Spans.{is_in_span_or_at_end}
 use Rattle.ob0_language_names.specs.Scopes.{same_ordinal}
 use Rattle.ob0_types_fields.specs.declared.field_name.FieldName.{FieldName}
 use Rattle.ob0_types_fields.specs.Identifiers.{AreInTextOrder, RenamingChangesFieldTokens, field_identifiers, field_at_offset, field_tokens, belongs_to_field, tokens_of_field, token_indexes}
-use Rattle.ob0_types_fields.specs.Owned.{fields_with_owners, owners_in_resolution, table_with_owners}
+use Rattle.ob0_types_fields.specs.Owned.{fields_with_owners, identifier_owners_in_resolution, table_with_owners}
 use Rattle.ob0_types_fields.specs.Owners.{is_token_of_field}
 use Rattle.ob0_types_fields.proofs.ByToken.{renaming_follows_owners-holds}
 use Rattle.ob0_types_fields.proofs.OwnedTokens.{module-tokens, table_with_entered_owners_is_owner_table-holds, tokens}
@@ -37,11 +37,11 @@ among_are_identifiers ts ((x, Some k) ∷ xs) h = (h.0, among_are_identifiers ts
 pub fields_ascend : (r : Resolution) → IsParsed r.module_read → AreInTextOrder r.module_read.source (field_identifiers r)
 fields_ascend r parsed =
     let n : ℕ = length r.module_read.source.tokens in
-    among_ascend (owners_in_resolution r) 0 n (subst (λ ts. AreAscendingWithin 0 ts n) (sym (module-tokens _ (tree_of r.module_read))) (leaves_ascend r.module_read parsed))
+    among_ascend (identifier_owners_in_resolution r) 0 n (subst (λ ts. AreAscendingWithin 0 ts n) (sym (module-tokens _ (tree_of r.module_read))) (leaves_ascend r.module_read parsed))
 
 pub fields_are_identifiers : (r : Resolution) → IsParsed r.module_read → AreIdentifierTokens r.module_read.source.tokens (token_indexes (field_identifiers r))
 fields_are_identifiers r parsed =
-    among_are_identifiers r.module_read.source.tokens (owners_in_resolution r)
+    among_are_identifiers r.module_read.source.tokens (identifier_owners_in_resolution r)
     (subst (AreIdentifierTokens r.module_read.source.tokens) (sym (module-tokens _ (tree_of r.module_read))) (leaves_are_identifiers r.module_read parsed))
 
 -- ---- one field among fields
@@ -154,7 +154,7 @@ renaming_changes_field_tokens-holds r k f new named fits =
 -- The field identifier at a place is one of the text's identifiers.
 pub field_is_identifier : (source : TextWithTokens) (ts : List Token) (offset : ℕ) (xs : List FieldName) → AreIdentifierTokens ts (token_indexes xs) → IfSome (field_at_offset source offset xs) (λ x. IsIdentifierToken ts x.token)
 field_is_identifier source ts offset [] identified = tt
-field_is_identifier source ts offset (x ∷ xs) identified = one (is_on_span offset (span_at source x.token)) identified.0 (field_is_identifier source ts offset xs identified.1)
+field_is_identifier source ts offset (x ∷ xs) identified = one (is_in_span_or_at_end offset (span_at source x.token)) identified.0 (field_is_identifier source ts offset xs identified.1)
   where
     one : (b : Bool) → IsIdentifierToken ts x.token → IfSome (field_at_offset source offset xs) (λ y. IsIdentifierToken ts y.token)
         → IfSome (if b then Some x else field_at_offset source offset xs) (λ y. IsIdentifierToken ts y.token)

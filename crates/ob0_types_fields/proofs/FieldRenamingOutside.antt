@@ -1,6 +1,6 @@
 -- Rewriting the fields of a module without some statements is rewriting the module and leaving out these statements.
 use Rattle.std.proofs.Common.{◌≡◌, ℕ, zero, suc, ◌+◌, [], ◌∷◌, None, refl, sym, ap}
-use Rattle.ob0_language_fields.specs.Fields.{FieldRenaming, parameters_of, rename_fields, rename_fields_in_block, rename_fields_in_formals, rename_fields_in_procedure, rename_fields_in_procedures, rename_fields_in_type_section, rename_fields_in_variable_section, rename_fields_in_module, environment_after_heading, environment_after_procedures, environment_after_variables}
+use Rattle.ob0_language_fields.specs.Fields.{FieldRenaming, typed_parameters_of_procedure, rename_fields, rename_fields_in_block, rename_fields_in_formals, rename_fields_in_procedure, rename_fields_in_procedures, rename_fields_in_type_section, rename_fields_in_variable_section, rename_fields_in_module, environment_after_heading, environment_after_procedures, environment_after_variables}
 use Rattle.ob0_language_names.specs.Names.{Name, naming_by_spelling}
 use Rattle.ob0_language_types.specs.Declarations.{constructors_before_procedure_block, constructors_before_variables, constructors_before_procedures, declare_constants_and_types, procedure_constructor_count}
 use Rattle.ob0_language_types.specs.Environments.{meanings, outermost_environment}
@@ -36,10 +36,10 @@ module _ (l : FieldRenaming) where
     procedures_refielded env k (suc j) path end = refl
     procedures_refielded env k zero path (more (declares_procedure x fs b closing) rest) =
         let p : Tree Name (item procedure) = declares_procedure x fs b closing in
-        λ i. more (declares_procedure x (rename_fields_in_formals l k fs) (block_refielded (bind_typed_parameters (parameters_of env k p) (environment_after_heading env k p)) (constructors_before_procedure_block k p) path b i) closing)
+        λ i. more (declares_procedure x (rename_fields_in_formals l k fs) (block_refielded (bind_typed_parameters (typed_parameters_of_procedure env k p) (environment_after_heading env k p)) (constructors_before_procedure_block k p) path b i) closing)
         (rename_fields_in_procedures l (environment_after_heading env k p) (k + sym (procedure_counted path p) i) rest)
     procedures_refielded env k (suc j) path (more p rest) =
-        ap (more (rename_fields_in_procedure l (bind_typed_parameters (parameters_of env k p) (environment_after_heading env k p)) k p)) (procedures_refielded (environment_after_heading env k p) (k + procedure_constructor_count p) j path rest)
+        ap (more (rename_fields_in_procedure l (bind_typed_parameters (typed_parameters_of_procedure env k p) (environment_after_heading env k p)) k p)) (procedures_refielded (environment_after_heading env k p) (k + procedure_constructor_count p) j path rest)
 
   pub refielded_without : (path : PathToBody) (m : Tree Name module_text) → module_without_body path (rename_fields_in_module l m) ≡ rename_fields_in_module l (module_without_body path m)
   refielded_without path (is_module x b closing) = ap (λ c. is_module x c closing) (block_refielded (outermost_environment naming_by_spelling) 0 path b)

@@ -12,11 +12,11 @@ use Rattle.ob0_scan.specs.declared.lexeme.Span.{Span}
 use Rattle.ob0_scan.specs.declared.lexeme.TokenKind.TheVariants as kind
 use Rattle.ob0_scan.specs.declared.lexeme.Token.{Token}
 use Rattle.ob0_scan.specs.Lexed.{Lexeme}
-use Rattle.ob0_scan.specs.TextWithTokens.{IsScan, TextWithTokens, span_from, tokens_of_lexeme, tokens_from}
+use Rattle.ob0_scan.specs.TextWithTokens.{IsScan, TextWithTokens, span_from, tokens_of_lexeme, tokens_of_lexemes_from}
 use Rattle.ob0_tree.specs.Order.{AreAscendingWithin}
 use Rattle.ob0_scope_table.specs.Resolution.{span_at}
 use Rattle.ob0_scope_table.specs.Spans.{span_or_empty}
-use Rattle.ob0_scope_table.specs.Spans.{is_on_span}
+use Rattle.ob0_scope_table.specs.Spans.{is_in_span_or_at_end}
 use Rattle.ob0_types_fields.specs.declared.field_name.FieldName.{FieldName}
 use Rattle.ob0_types_fields.specs.Identifiers.{AreInTextOrder, field_at_offset, token_indexes}
 
@@ -36,9 +36,9 @@ follow_one lexeme.Space from len ts h = follow_lower from (from + len) ts (omega
 follow_one lexeme.Comment from len ts h = follow_lower from (from + len) ts (omega arith) h
 follow_one (lexeme.Token k) from len ts h = (omega arith, (omega arith, h))
 
-follow_from : (from : ℕ) (ls : List Lexeme) → Follow from (tokens_from from ls)
+follow_from : (from : ℕ) (ls : List Lexeme) → Follow from (tokens_of_lexemes_from from ls)
 follow_from from [] = tt
-follow_from from (l ∷ ls) = follow_one l.kind from (length l.text) (tokens_from (from + length l.text) ls) (follow_from (from + length l.text) ls)
+follow_from from (l ∷ ls) = follow_one l.kind from (length l.text) (tokens_of_lexemes_from (from + length l.text) ls) (follow_from (from + length l.text) ls)
 
 following : (from : ℕ) (ts : List Token) (i : ℕ) (d : Token) → Follow from ts → i < length ts
     → (from ≤ (get_or ts i d).span.start) × ((get_or ts i d).span.start ≤ (get_or ts i d).span.end)
@@ -121,20 +121,20 @@ module _ (source : TextWithTokens) (scan : IsScan source) where
 -- returns the identifier if it contains a place or ends there
 abbrev pub on_place : TextWithTokens → ℕ → Option FieldName → Option FieldName
 on_place source offset None = None
-on_place source offset (Some x) = if is_on_span offset (span_at source x.token) then Some x else None
+on_place source offset (Some x) = if is_in_span_or_at_end offset (span_at source x.token) then Some x else None
 
 module _ (source : TextWithTokens) (offset : ℕ) where
-  off_before : (x : FieldName) → nat_lt (end_of source x) offset ≡ true → is_on_span offset (span_at source x.token) ≡ false
-  off_before x before = one (is_on_span offset (span_at source x.token)) refl
+  off_before : (x : FieldName) → nat_lt (end_of source x) offset ≡ true → is_in_span_or_at_end offset (span_at source x.token) ≡ false
+  off_before x before = one (is_in_span_or_at_end offset (span_at source x.token)) refl
     where
-      one : (b : Bool) → is_on_span offset (span_at source x.token) ≡ b → b ≡ false
+      one : (b : Bool) → is_in_span_or_at_end offset (span_at source x.token) ≡ b → b ≡ false
       one false e = refl
       one true e = absurd (omega (arith, leb-true offset (end_of source x) (and_parts (nat_le (start_of source x) offset) (nat_le offset (end_of source x)) e).1, ltb-true (end_of source x) offset before))
 
-  off_following : (x : FieldName) → offset < start_of source x → is_on_span offset (span_at source x.token) ≡ false
-  off_following x following = one (is_on_span offset (span_at source x.token)) refl
+  off_following : (x : FieldName) → offset < start_of source x → is_in_span_or_at_end offset (span_at source x.token) ≡ false
+  off_following x following = one (is_in_span_or_at_end offset (span_at source x.token)) refl
     where
-      one : (b : Bool) → is_on_span offset (span_at source x.token) ≡ b → b ≡ false
+      one : (b : Bool) → is_in_span_or_at_end offset (span_at source x.token) ≡ b → b ≡ false
       one false e = refl
       one true e = absurd (omega (arith, leb-true (start_of source x) offset (and_parts (nat_le (start_of source x) offset) (nat_le offset (end_of source x)) e).0, following))
 
@@ -147,16 +147,16 @@ module _ (source : TextWithTokens) (offset : ℕ) where
   pub halved : (xs : List FieldName) (k : ℕ) → IsNonDecreasingBy (start_of source) xs → IsPartitionPoint (λ x. nat_lt (end_of source x) offset ≡ true) (λ x. nat_lt (end_of source x) offset ≡ false) xs k → k ≤ length xs
       → on_place source offset (slice_get xs k) ≡ field_at_offset source offset xs
   halved [] k rise point within = refl
-  halved (x ∷ xs) zero rise point within = one (is_on_span offset (span_at source x.token)) refl
+  halved (x ∷ xs) zero rise point within = one (is_in_span_or_at_end offset (span_at source x.token)) refl
     where
-      one : (b : Bool) → is_on_span offset (span_at source x.token) ≡ b → (if b then Some x else None) ≡ (if b then Some x else field_at_offset source offset xs)
+      one : (b : Bool) → is_in_span_or_at_end offset (span_at source x.token) ≡ b → (if b then Some x else None) ≡ (if b then Some x else field_at_offset source offset xs)
       one true e = refl
       one false e =
           let reached : offset ≤ end_of source x = ltb-false (end_of source x) offset (point.1 zero x (omega arith) (omega arith)) in
           let following : offset < start_of source x = either (nat_le (start_of source x) offset) refl (le-leb offset (end_of source x) reached) e in
           sym (none_following xs (λ i d less. omega (arith, following, rise zero (suc i) d (omega arith) (omega (arith, less)))))
         where
-          either : (b : Bool) → nat_le (start_of source x) offset ≡ b → nat_le offset (end_of source x) ≡ true → is_on_span offset (span_at source x.token) ≡ false → offset < start_of source x
+          either : (b : Bool) → nat_le (start_of source x) offset ≡ b → nat_le offset (end_of source x) ≡ true → is_in_span_or_at_end offset (span_at source x.token) ≡ false → offset < start_of source x
           either false before reached off = leb-false (start_of source x) offset before
           either true before reached off = let clash : true ≡ false = sym (and_from (nat_le (start_of source x) offset) (nat_le offset (end_of source x)) before reached) ∙ off in cc
   halved (x ∷ xs) (suc k) rise point within =

@@ -27,7 +27,7 @@ use Rattle.ob0_language_fields.proofs.Bare.{rename_fields_in_module-bare}
 use Rattle.ob0_language_fields.proofs.Bare.{bare}
 use Rattle.ob0_types_fields.specs.declared.field_name.FieldName.{FieldName}
 use Rattle.ob0_types_fields.specs.Identifiers.{FieldsAreDeclared, field_declaring_token, field_identifiers, field_tokens, belongs_to_field, tokens_of_field}
-use Rattle.ob0_types_fields.specs.Owned.{fields_with_owners, owners_in_resolution, meanings_by_token}
+use Rattle.ob0_types_fields.specs.Owned.{fields_with_owners, identifier_owners_in_resolution, meanings_by_token}
 use Rattle.ob0_types_fields.proofs.DuplicateFields.{duplicate_field_name_has_declaring_token-holds}
 use Rattle.ob0_types_fields.proofs.FieldNameList.{renaming_changes_field_tokens-holds}
 use Rattle.ob0_types_fields.proofs.OwnedTokens.{module-tokens, tokens}
@@ -146,7 +146,7 @@ module _ (r : Resolution) (named : IsResolution r) (fits : WellTyped (named_tree
   writes i = if list_any (λ token. i == token) (field_tokens r x.owner f) then another f else token_text_at m.source i
 
   among_leaves : list_any (λ token. x.token == token) (identifier_names (tree_of m)) ≡ true
-  among_leaves = ap (list_any (λ token. x.token == token)) (sym (module-tokens (meanings_by_token (declared_object (named_tree_of m)) r) (tree_of m))) ∙ among_tokens x (owners_in_resolution r) listed
+  among_leaves = ap (list_any (λ token. x.token == token)) (sym (module-tokens (meanings_by_token (declared_object (named_tree_of m)) r) (tree_of m))) ∙ among_tokens x (identifier_owners_in_resolution r) listed
 
   unchanged : is_some (field_declaring_token m x.owner f) ≡ false → named_tree_of m ≡ mapped_tree writes (token_value_at m.source) (tree_of m)
   unfolding WellTyped

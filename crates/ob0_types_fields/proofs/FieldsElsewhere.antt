@@ -22,22 +22,22 @@ use Rattle.ob0_language_fields.specs.Fields.{rename_fields_in_module}
 use Rattle.ob0_language_values.specs.Values.{Shape}
 use Rattle.ob0_tree.specs.FirstIdentifier.{token_of_first_identifier}
 use Rattle.ob0_tree.proofs.MappedIdentifiers.{leaves_mapped}
-use Rattle.ob0_scope_table.specs.BodyReplaced.{IsBodyReplaced, PathToBody, body_at_path, closing_name_at_path, moved_token_index, module_without_body}
+use Rattle.ob0_scope_table.specs.BodyReplaced.{IsBodyReplaced, PathToBody, body_at_path, closing_name_at_path, shifted_token_index, module_without_body}
 use Rattle.ob0_scope_table.specs.Resolution.{IsResolution, Resolution, ordinal_in}
 use Rattle.ob0_scope_table.proofs.BodyReplaced.{names_outside, without_mapped}
 use Rattle.ob0_scope_table.proofs.FewTokens.{few_tokens}
 use Rattle.ob0_scope_table.proofs.Moved.{moved_above, moved_below}
-use Rattle.ob0_types_table.specs.KnownTables.{Tables, declared_object_in}
+use Rattle.ob0_types_table.specs.KnownTables.{DeclarationTableView, declared_object_in}
 use Rattle.ob0_types_fields.specs.declared.field_name.FieldName.{FieldName}
 use Rattle.ob0_types_fields.specs.Identifiers.{declared_fields, fields_declared_in_block, field_identifiers}
-use Rattle.ob0_types_fields.specs.FieldLists.{AreFieldListsOf, FieldLists, moved_field, fields_before, fields_at_or_after, old_token_index}
-use Rattle.ob0_types_fields.specs.Owned.{AgreesWithOwnerList, fields_with_owners, fields_in_tree, owners_in_tree, owners_in_module, owners_in_resolution, meanings_by_token}
+use Rattle.ob0_types_fields.specs.FieldLists.{AreFieldListsOf, FieldLists, field_with_shifted_token, fields_before_token, fields_at_or_after_token, old_token_index}
+use Rattle.ob0_types_fields.specs.Owned.{AgreesWithOwnerList, fields_with_owners, fields_in_tree, identifier_owners_in_tree, identifier_owners_in_module, identifier_owners_in_resolution, meanings_by_token}
 use Rattle.ob0_types_fields.specs.Owners.{renaming_by_record}
 use Rattle.ob0_types_fields.proofs.DeclaredMoved.{among_placed, declared_among, declared_placed, declared_without, field_placed, placed}
 use Rattle.ob0_types_fields.proofs.WalkFindsAllFields.{fields_in_tree-fields, module-fields}
 use Rattle.ob0_types_fields.proofs.OwnedAround.{IsAround, module_split}
 use Rattle.ob0_types_fields.proofs.OwnedStatements.{owners_split}
-use Rattle.ob0_types_fields.proofs.OwnedTokens.{fields_have-owners, module-tokens, owners_in_tree-tokens, table_with_entered_owners_is_owner_table-holds, tokens, with_owners}
+use Rattle.ob0_types_fields.proofs.OwnedTokens.{fields_have-owners, module-tokens, identifier_owners_in_tree-tokens, table_with_entered_owners_is_owner_table-holds, tokens, with_owners}
 use Rattle.ob0_types_fields.proofs.FieldRenamingOutside.{refielded_without}
 use Rattle.ob0_types_fields.proofs.SplitAroundClosingName.{AreBetween, Between, all_between, among_each, between, fields_around, keeps_first, keeps_last, same_seam, weaker}
 
@@ -47,14 +47,14 @@ at_most : (n : ℕ) → n < 2 ^ 64 → n ≡ min n (2 ^ 64 - 1)
 at_most n less = sym (min-eq_left (omega (arith, less)))
 
 module _ (s : CommonPrefixAndSuffix) where
-  stays : (xs : List (ℕ × Option ℕ)) → AllByRecursion (λ x. x.0 < s.prefix) xs → map (placed (moved_token_index s)) xs ≡ xs
+  stays : (xs : List (ℕ × Option ℕ)) → AllByRecursion (λ x. x.0 < s.prefix) xs → map (placed (shifted_token_index s)) xs ≡ xs
   stays [] h = refl
   stays ((x, o) ∷ xs) h = λ i. (moved_below s x h.0 i, o) ∷ stays xs h.1 i
 
   -- Capping the new indexes doesn't change them if they all fit 64 bits.
-  same_places : (xs : List FieldName) → AllByRecursion (λ x. moved_token_index s x.token < 2 ^ 64) xs → map (field_placed (moved_token_index s)) xs ≡ map (moved_field s) xs
+  same_places : (xs : List FieldName) → AllByRecursion (λ x. shifted_token_index s x.token < 2 ^ 64) xs → map (field_placed (shifted_token_index s)) xs ≡ map (field_with_shifted_token s) xs
   same_places [] h = refl
-  same_places (x ∷ xs) h = λ i. record { token = at_most (moved_token_index s x.token) h.0 i; owner = x.owner } ∷ same_places xs h.1 i
+  same_places (x ∷ xs) h = λ i. record { token = at_most (shifted_token_index s x.token) h.0 i; owner = x.owner } ∷ same_places xs h.1 i
 
 -- A property of all mapped items holds for the image of each item.
 of_made : {X Y : Type 0} (f : X → Y) (P : Y → Type 0) (xs : List X) → AllByRecursion P (map f xs) → AllByRecursion (λ x. P (f x)) xs
@@ -136,10 +136,10 @@ module _ (old r : Resolution) (path : PathToBody) (s : CommonPrefixAndSuffix) (i
   meant_now = meant r
 
   -- The identifiers outside the replaced statements are at their new indexes.
-  leaves_now : identifier_names (module_without_body path now) ≡ map (moved_token_index s) (identifier_names (module_without_body path before))
-  leaves_now = ap identifier_names is.outside ∙ leaves_mapped (moved_token_index s) (moved_token_index s) (module_without_body path before)
+  leaves_now : identifier_names (module_without_body path now) ≡ map (shifted_token_index s) (identifier_names (module_without_body path before))
+  leaves_now = ap identifier_names is.outside ∙ leaves_mapped (shifted_token_index s) (shifted_token_index s) (module_without_body path before)
 
-  texts_same : map (token_text_at r.module_read.source) (map (moved_token_index s) (identifier_names (module_without_body path before))) ≡ map (token_text_at old.module_read.source) (identifier_names (module_without_body path before))
+  texts_same : map (token_text_at r.module_read.source) (map (shifted_token_index s) (identifier_names (module_without_body path before))) ≡ map (token_text_at old.module_read.source) (identifier_names (module_without_body path before))
   texts_same =
       ap (map (token_text_at r.module_read.source)) (sym leaves_now)
       ∙ (sym (leaves_mapped (token_text_at r.module_read.source) (token_value_at r.module_read.source) (module_without_body path now))
@@ -151,44 +151,44 @@ module _ (old r : Resolution) (path : PathToBody) (s : CommonPrefixAndSuffix) (i
   abbrev writes_now : ℕ → Name
   writes_now i = renaming_by_record with_owner (ordinal_in (with_owners r) i) (token_text_at r.module_read.source i)
 
-  written_same : map writes_now (map (moved_token_index s) (identifier_names (module_without_body path before))) ≡ map writes_before (identifier_names (module_without_body path before))
+  written_same : map writes_now (map (shifted_token_index s) (identifier_names (module_without_body path before))) ≡ map writes_before (identifier_names (module_without_body path before))
   written_same =
       ap (map writes_now) (sym leaves_now)
       ∙ (sym (leaves_mapped writes_now (token_value_at r.module_read.source) (module_without_body path now))
       ∙ (ap identifier_names (sym (written_without r path is_named is_typed) ∙ (ap (rename_fields_in_module (renaming_by_record with_owner)) (names_outside old.module_read r.module_read path s is) ∙ written_without old path was_named was_typed))
       ∙ leaves_mapped writes_before (token_value_at old.module_read.source) (module_without_body path before)))
 
-  owners_same : AllByRecursion (λ i. ordinal_in (with_owners r) (moved_token_index s i) ≡ ordinal_in (with_owners old) i) (identifier_names (module_without_body path before))
+  owners_same : AllByRecursion (λ i. ordinal_in (with_owners r) (shifted_token_index s i) ≡ ordinal_in (with_owners old) i) (identifier_names (module_without_body path before))
   owners_same =
-      owners_kept (moved_token_index s) (ordinal_in (with_owners old)) (ordinal_in (with_owners r)) (token_text_at old.module_read.source) (token_text_at r.module_read.source) (identifier_names (module_without_body path before)) written_same texts_same
+      owners_kept (shifted_token_index s) (ordinal_in (with_owners old)) (ordinal_in (with_owners r)) (token_text_at old.module_read.source) (token_text_at r.module_read.source) (identifier_names (module_without_body path before)) written_same texts_same
 
-  around_before : IsAround (owners_in_module meant_before before) (owners_in_module meant_before (module_without_body path before)) (owners_in_tree meant_before None (body_at_path path before)) (closing_name_at_path path before)
+  around_before : IsAround (identifier_owners_in_module meant_before before) (identifier_owners_in_module meant_before (module_without_body path before)) (identifier_owners_in_tree meant_before None (body_at_path path before)) (closing_name_at_path path before)
   around_before = module_split meant_before path before
 
-  around_now : IsAround (owners_in_module meant_now now) (owners_in_module meant_now (module_without_body path now)) (owners_in_tree meant_now None (body_at_path path now)) (closing_name_at_path path now)
+  around_now : IsAround (identifier_owners_in_module meant_now now) (identifier_owners_in_module meant_now (module_without_body path now)) (identifier_owners_in_tree meant_now None (body_at_path path now)) (closing_name_at_path path now)
   around_now = module_split meant_now path now
 
   abbrev inner_before : List (ℕ × Option ℕ)
-  inner_before = owners_in_tree meant_before None (body_at_path path before)
+  inner_before = identifier_owners_in_tree meant_before None (body_at_path path before)
 
   abbrev inner_now : List (ℕ × Option ℕ)
-  inner_now = owners_in_tree meant_now None (body_at_path path now)
+  inner_now = identifier_owners_in_tree meant_now None (body_at_path path now)
 
   between_before : AreBetween around_before.before inner_before around_before.after is.first (closing_name_at_path path before) (length old.module_read.source.tokens)
   between_before =
       between around_before.before inner_before around_before.after is.first (closing_name_at_path path before) (length old.module_read.source.tokens) (identifiers role.Declaring (body_at_path path before))
       (subst (λ xs. AreAscendingWithin 0 xs (length old.module_read.source.tokens)) (sym (module-tokens meant_before before) ∙ ap tokens around_before.whole) (leaves_ascend old.module_read is.old_parsed))
-      (owners_in_tree-tokens meant_before None (body_at_path path before)) is.first_identifier_of_old_body
+      (identifier_owners_in_tree-tokens meant_before None (body_at_path path before)) is.first_identifier_of_old_body
 
   between_now : AreBetween around_now.before inner_now around_now.after is.first (closing_name_at_path path now) (length r.module_read.source.tokens)
   between_now =
       between around_now.before inner_now around_now.after is.first (closing_name_at_path path now) (length r.module_read.source.tokens) (identifiers role.Declaring (body_at_path path now))
       (subst (λ xs. AreAscendingWithin 0 xs (length r.module_read.source.tokens)) (sym (module-tokens meant_now now) ∙ ap tokens around_now.whole) (leaves_ascend r.module_read is.new_parsed))
-      (owners_in_tree-tokens meant_now None (body_at_path path now)) is.first_identifier_of_new_body
+      (identifier_owners_in_tree-tokens meant_now None (body_at_path path now)) is.first_identifier_of_new_body
 
   -- ---- the identifiers before the body and after it
 
-  stay : map (placed (moved_token_index s)) around_before.before ≡ around_before.before
+  stay : map (placed (shifted_token_index s)) around_before.before ≡ around_before.before
   stay = stays s around_before.before (weaker (λ x. x.0 < is.first) (λ x. x.0 < s.prefix) (λ x h. omega (arith, h, is.front)) around_before.before between_before.below)
 
   abbrev rest_before : List (ℕ × Option ℕ)
@@ -200,23 +200,23 @@ module _ (old r : Resolution) (path : PathToBody) (s : CommonPrefixAndSuffix) (i
   tokens_before : tokens rest_before ≡ identifier_names (module_without_body path before)
   tokens_before = ap tokens (sym around_before.left) ∙ module-tokens meant_before (module_without_body path before)
 
-  rest_placed : rest_now ≡ map (placed (moved_token_index s)) rest_before
+  rest_placed : rest_now ≡ map (placed (shifted_token_index s)) rest_before
   rest_placed =
-      placed_alike (moved_token_index s) (ordinal_in (with_owners old)) (ordinal_in (with_owners r)) rest_now rest_before
-      (ap tokens (sym around_now.left) ∙ (module-tokens meant_now (module_without_body path now) ∙ (leaves_now ∙ ap (map (moved_token_index s)) (sym tokens_before))))
+      placed_alike (shifted_token_index s) (ordinal_in (with_owners old)) (ordinal_in (with_owners r)) rest_now rest_before
+      (ap tokens (sym around_now.left) ∙ (module-tokens meant_now (module_without_body path now) ∙ (leaves_now ∙ ap (map (shifted_token_index s)) (sym tokens_before))))
       (owners_around (ordinal_in (with_owners r)) around_now.before inner_now ((closing_name_at_path path now, None) ∷ around_now.after) (subst (AgreesWithOwnerList (ordinal_in (with_owners r))) around_now.whole (fields_have-owners r is_named)))
       (owners_around (ordinal_in (with_owners old)) around_before.before inner_before ((closing_name_at_path path before, None) ∷ around_before.after) (subst (AgreesWithOwnerList (ordinal_in (with_owners old))) around_before.whole (fields_have-owners old was_named)))
-      (subst (AllByRecursion (λ i. ordinal_in (with_owners r) (moved_token_index s i) ≡ ordinal_in (with_owners old) i)) (sym tokens_before) owners_same)
+      (subst (AllByRecursion (λ i. ordinal_in (with_owners r) (shifted_token_index s i) ≡ ordinal_in (with_owners old) i)) (sym tokens_before) owners_same)
 
-  seam : rest_now ≡ around_before.before ++ ((closing_name_at_path path now, None) ∷ map (placed (moved_token_index s)) around_before.after)
+  seam : rest_now ≡ around_before.before ++ ((closing_name_at_path path now, None) ∷ map (placed (shifted_token_index s)) around_before.after)
   seam =
       rest_placed
-      ∙ (map-append (placed (moved_token_index s)) around_before.before ((closing_name_at_path path before, None) ∷ around_before.after)
-      ∙ (λ i. stay i ++ ((sym is.closing i, None) ∷ map (placed (moved_token_index s)) around_before.after)))
+      ∙ (map-append (placed (shifted_token_index s)) around_before.before ((closing_name_at_path path before, None) ∷ around_before.after)
+      ∙ (λ i. stay i ++ ((sym is.closing i, None) ∷ map (placed (shifted_token_index s)) around_before.after)))
 
-  sides : (around_now.before ≡ around_before.before) × (around_now.after ≡ map (placed (moved_token_index s)) around_before.after)
+  sides : (around_now.before ≡ around_before.before) × (around_now.after ≡ map (placed (shifted_token_index s)) around_before.after)
   sides =
-      same_seam (closing_name_at_path path now) None around_now.before around_before.before around_now.after (map (placed (moved_token_index s)) around_before.after)
+      same_seam (closing_name_at_path path now) None around_now.before around_before.before around_now.after (map (placed (shifted_token_index s)) around_before.after)
       (weaker (λ x. x.0 < is.first) (λ x. x.0 < closing_name_at_path path now) (λ x h. omega (arith, h, between_now.reaches)) around_now.before between_now.below)
       (weaker (λ x. x.0 < is.first) (λ x. x.0 < closing_name_at_path path now) (λ x h. omega (arith, h, between_now.reaches)) around_before.before between_before.below)
       seam
@@ -224,39 +224,39 @@ module _ (old r : Resolution) (path : PathToBody) (s : CommonPrefixAndSuffix) (i
   few : length r.module_read.source.tokens < 2 ^ 64
   few = let small = few_tokens r.module_read.source is.new_scan in omega (arith, small)
 
-  after_same : fields_with_owners around_now.after ≡ map (moved_field s) (fields_with_owners around_before.after)
+  after_same : fields_with_owners around_now.after ≡ map (field_with_shifted_token s) (fields_with_owners around_before.after)
   after_same =
       let low : AllByRecursion (λ x. x.0 < length r.module_read.source.tokens) around_now.after = weaker (λ x. (closing_name_at_path path now + 1 ≤ x.0) × (x.0 < length r.module_read.source.tokens)) (λ x. x.0 < length r.module_read.source.tokens) (λ x h. h.1) around_now.after between_now.above in
-      let there = of_made (placed (moved_token_index s)) (λ x. x.0 < length r.module_read.source.tokens) around_before.after (subst (AllByRecursion (λ x. x.0 < length r.module_read.source.tokens)) sides.1 low) in
-      let small = weaker (λ x. moved_token_index s x.0 < length r.module_read.source.tokens) (λ x. moved_token_index s x.0 < 2 ^ 64) (λ x h. omega (arith, h, few)) around_before.after there in
+      let there = of_made (placed (shifted_token_index s)) (λ x. x.0 < length r.module_read.source.tokens) around_before.after (subst (AllByRecursion (λ x. x.0 < length r.module_read.source.tokens)) sides.1 low) in
+      let small = weaker (λ x. shifted_token_index s x.0 < length r.module_read.source.tokens) (λ x. shifted_token_index s x.0 < 2 ^ 64) (λ x h. omega (arith, h, few)) around_before.after there in
       ap fields_with_owners sides.1
-      ∙ (among_placed (moved_token_index s) around_before.after ∙ same_places s (fields_with_owners around_before.after) (among_each (λ t. moved_token_index s t < 2 ^ 64) around_before.after small))
+      ∙ (among_placed (shifted_token_index s) around_before.after ∙ same_places s (fields_with_owners around_before.after) (among_each (λ t. shifted_token_index s t < 2 ^ 64) around_before.after small))
 
   -- ---- the lists
 
   all_before : field_identifiers old ≡ fields_with_owners around_before.before ++ (fields_with_owners inner_before ++ fields_with_owners around_before.after)
   all_before = ap fields_with_owners around_before.whole ∙ fields_around around_before.before inner_before around_before.after (closing_name_at_path path before)
 
-  all_now : field_identifiers r ≡ fields_with_owners around_before.before ++ (fields_in_tree meant_now (body_at_path path now) ++ map (moved_field s) (fields_with_owners around_before.after))
+  all_now : field_identifiers r ≡ fields_with_owners around_before.before ++ (fields_in_tree meant_now (body_at_path path now) ++ map (field_with_shifted_token s) (fields_with_owners around_before.after))
   all_now =
       ap fields_with_owners around_now.whole
       ∙ (fields_around around_now.before inner_now around_now.after (closing_name_at_path path now)
       ∙ (λ i. fields_with_owners (sides.0 i) ++ (fields_in_tree-fields meant_now (body_at_path path now) i ++ after_same i)))
 
-  kept_before : fields_before is.first (field_identifiers old) ≡ fields_with_owners around_before.before
+  kept_before : fields_before_token is.first (field_identifiers old) ≡ fields_with_owners around_before.before
   kept_before =
       let b = between_before in
-      ap (fields_before is.first) all_before
+      ap (fields_before_token is.first) all_before
       ∙ keeps_first (λ x. nat_lt x.token is.first) (fields_with_owners around_before.before) (fields_with_owners inner_before) (fields_with_owners around_before.after)
       (among_each (λ t. nat_lt t is.first ≡ true) around_before.before (weaker (λ x. x.0 < is.first) (λ x. nat_lt x.0 is.first ≡ true) (λ x h. lt-ltb x.0 is.first h) around_before.before b.below))
       (among_each (λ t. nat_lt t is.first ≡ false) inner_before (weaker (λ x. (is.first ≤ x.0) × (x.0 < closing_name_at_path path before)) (λ x. nat_lt x.0 is.first ≡ false) (λ x h. le-ltb x.0 is.first h.0) inner_before b.inside))
       (among_each (λ t. nat_lt t is.first ≡ false) around_before.after (weaker (λ x. (closing_name_at_path path before + 1 ≤ x.0) × (x.0 < length old.module_read.source.tokens)) (λ x. nat_lt x.0 is.first ≡ false) (λ x h. le-ltb x.0 is.first (omega (arith, h.0, b.reaches))) around_before.after b.above))
 
-  kept_after : fields_at_or_after (closing_name_at_path path before) (field_identifiers old) ≡ fields_with_owners around_before.after
+  kept_after : fields_at_or_after_token (closing_name_at_path path before) (field_identifiers old) ≡ fields_with_owners around_before.after
   kept_after =
       let b = between_before in
       let c : ℕ = closing_name_at_path path before in
-      ap (fields_at_or_after c) all_before
+      ap (fields_at_or_after_token c) all_before
       ∙ keeps_last (λ x. nat_le c x.token) (fields_with_owners around_before.before) (fields_with_owners inner_before) (fields_with_owners around_before.after)
       (among_each (λ t. nat_le c t ≡ false) around_before.before (weaker (λ x. x.0 < is.first) (λ x. nat_le c x.0 ≡ false) (λ x h. lt-leb c x.0 (omega (arith, h, b.reaches))) around_before.before b.below))
       (among_each (λ t. nat_le c t ≡ false) inner_before (weaker (λ x. (is.first ≤ x.0) × (x.0 < c)) (λ x. nat_le c x.0 ≡ false) (λ x h. lt-leb c x.0 h.1) inner_before b.inside))
@@ -273,35 +273,35 @@ module _ (old r : Resolution) (path : PathToBody) (s : CommonPrefixAndSuffix) (i
 
   -- ---- the declared fields
 
-  declared_now : declared_fields r.module_read ≡ map (field_placed (moved_token_index s)) (declared_fields old.module_read)
+  declared_now : declared_fields r.module_read ≡ map (field_placed (shifted_token_index s)) (declared_fields old.module_read)
   declared_now =
       sym (declared_without path now)
       ∙ (ap (λ t. fields_declared_in_block 0 (module_block t)) is.outside
-      ∙ (declared_placed (moved_token_index s) (module_without_body path before) ∙ ap (map (field_placed (moved_token_index s))) (declared_without path before)))
+      ∙ (declared_placed (shifted_token_index s) (module_without_body path before) ∙ ap (map (field_placed (shifted_token_index s))) (declared_without path before)))
 
   all_few : AllByRecursion (λ x. x.token < 2 ^ 64) (field_identifiers r)
   all_few =
       let top : ℕ = length r.module_read.source.tokens in
       let rise = subst (λ xs. AreAscendingWithin 0 xs top) (sym (module-tokens meant_now now)) (leaves_ascend r.module_read is.new_parsed) in
-      among_each (λ t. t < 2 ^ 64) (owners_in_resolution r) (weaker (Between 0 top) (λ x. x.0 < 2 ^ 64) (λ x h. omega (arith, h.1, few)) (owners_in_resolution r) (all_between 0 (owners_in_resolution r) top rise))
+      among_each (λ t. t < 2 ^ 64) (identifier_owners_in_resolution r) (weaker (Between 0 top) (λ x. x.0 < 2 ^ 64) (λ x h. omega (arith, h.1, few)) (identifier_owners_in_resolution r) (all_between 0 (identifier_owners_in_resolution r) top rise))
 
-  declared_few : AllByRecursion (λ x. moved_token_index s x.token < 2 ^ 64) (declared_fields old.module_read)
+  declared_few : AllByRecursion (λ x. shifted_token_index s x.token < 2 ^ 64) (declared_fields old.module_read)
   declared_few =
-      of_made (field_placed (moved_token_index s)) (λ x. x.token < 2 ^ 64) (declared_fields old.module_read)
+      of_made (field_placed (shifted_token_index s)) (λ x. x.token < 2 ^ 64) (declared_fields old.module_read)
       (subst (AllByRecursion (λ x. x.token < 2 ^ 64)) declared_now
       (declared_among meant_now (λ x. x.token < 2 ^ 64) now (subst (AllByRecursion (λ x. x.token < 2 ^ 64)) (module-fields meant_now now) all_few)))
 
   -- The lists that are made from the old fields are the module's fields.
-  pub fields_elsewhere : (fields f : FieldLists) (t : Tables) → AreFieldListsOf old fields → ((k : ℕ) → declared_object_in t k ≡ declared_object (named_tree_of r.module_read) k)
+  pub fields_elsewhere : (fields f : FieldLists) (t : DeclarationTableView) → AreFieldListsOf old fields → ((k : ℕ) → declared_object_in t k ≡ declared_object (named_tree_of r.module_read) k)
       → (statements : Tree ℕ (maybe body)) → statements ≡ body_at_path path now → (first closing : ℕ) → token_of_first_identifier (identifiers role.Declaring (body_at_path path now)) ≡ Some first → closing ≡ closing_name_at_path path now
-      → f.declared ≡ map (moved_field s) fields.declared
-      → f.all ≡ fields_before first fields.all ++ (fields_in_tree (meanings_by_token (declared_object_in t) r) statements ++ map (moved_field s) (fields_at_or_after (old_token_index s closing) fields.all))
+      → f.declared ≡ map (field_with_shifted_token s) fields.declared
+      → f.all ≡ fields_before_token first fields.all ++ (fields_in_tree (meanings_by_token (declared_object_in t) r) statements ++ map (field_with_shifted_token s) (fields_at_or_after_token (old_token_index s closing) fields.all))
       → AreFieldListsOf r f
   fields_elsewhere fields f t were holds statements here first closing begins closes of_declared of_all =
       let same : first ≡ is.first = ap (λ o. unwrap_or o first) (sym begins ∙ is.first_identifier_of_new_body) in
       let at : old_token_index s closing ≡ closing_name_at_path path before = ap (old_token_index s) closes ∙ closing_before in (
-        of_declared ∙ (ap (map (moved_field s)) were.0 ∙ (sym (same_places s (declared_fields old.module_read) declared_few) ∙ sym declared_now)),
+        of_declared ∙ (ap (map (field_with_shifted_token s)) were.0 ∙ (sym (same_places s (declared_fields old.module_read) declared_few) ∙ sym declared_now)),
         of_all
-            ∙ ((λ i. fields_before (same i) (were.1 i) ++ (fields_in_tree (meanings_by_token (λ k. holds k i) r) (here i) ++ map (moved_field s) (fields_at_or_after (at i) (were.1 i))))
-            ∙ ((λ i. kept_before i ++ (fields_in_tree meant_now (body_at_path path now) ++ map (moved_field s) (kept_after i))) ∙ sym all_now)),
+            ∙ ((λ i. fields_before_token (same i) (were.1 i) ++ (fields_in_tree (meanings_by_token (λ k. holds k i) r) (here i) ++ map (field_with_shifted_token s) (fields_at_or_after_token (at i) (were.1 i))))
+            ∙ ((λ i. kept_before i ++ (fields_in_tree meant_now (body_at_path path now) ++ map (field_with_shifted_token s) (kept_after i))) ∙ sym all_now)),
       )

@@ -18,9 +18,9 @@ use Rattle.ob0_language_types.specs.Declarations.{constructors_before_procedure_
 use Rattle.ob0_language_types.specs.Environments.{meanings, outermost_environment}
 use Rattle.ob0_language_types.specs.Expressions.{Meanings, Object, a_constant, a_procedure, a_standard, a_type, a_variable, evaluate}
 use Rattle.ob0_language_types.specs.Typing.{addition_type, array_length, negation_type, constant_of, constant_value, constant_meanings, constructor_count, denoted_type, denoted_group_fields, denoted_further_fields, element_type, outcome_value, group_constructor_count, multiplication_type, type_of_variable_or_constant, relation_type, sign_type, type_after_selectors, type_of, type_of_addends, type_of_factor, type_of_multipliers, type_of_simple, type_of_term, value_type, prepend_fields, type_within_limits}
-use Rattle.ob0_language_types.specs.WellTyped.{Signature, TypeEnvironment, TypeMeanings, TypedParameter, WellTyped, bind_names, bind_typed_parameters, block_is_well_typed, declare_typed_variables, passes_type_check, bind_procedure, procedure_is_well_typed, procedures_are_well_typed, section_mode, typed_parameters}
+use Rattle.ob0_language_types.specs.WellTyped.{Signature, TypeEnvironment, TypeMeanings, TypedParameter, WellTyped, bind_names, bind_typed_parameters, block_is_well_typed, declare_typed_variables, passes_type_check, bind_procedure, procedure_is_well_typed, procedures_are_well_typed, parameter_section_mode, typed_parameters}
 use Rattle.ob0_language_values.specs.Values.{FieldShapes, Shape, Value, array_shape, boolean_shape, elements, integer_shape, members, number, record_shape, truth}
-use Rattle.ob0_language_fields.specs.Fields.{FieldRenaming, type_including_selector, rename_fields, rename_fields_in_block, rename_fields_in_formals, rename_fields_in_group, rename_fields_in_groups, rename_fields_in_procedure, rename_fields_in_procedures, rename_fields_in_section, rename_fields_in_sections, rename_fields_in_type, rename_fields_in_type_section, rename_fields_in_types, rename_fields_in_variable_section, rename_fields_in_variables, rename_fields_in_module}
+use Rattle.ob0_language_fields.specs.Fields.{FieldRenaming, type_including_selector, rename_fields, rename_fields_in_block, rename_fields_in_formals, rename_fields_in_group, rename_fields_in_groups, rename_fields_in_procedure, rename_fields_in_procedures, rename_fields_in_parameter_section, rename_fields_in_parameter_sections, rename_fields_in_type, rename_fields_in_type_section, rename_fields_in_types, rename_fields_in_variable_section, rename_fields_in_variables, rename_fields_in_module}
 use Rattle.ob0_types_fields.specs.Owners.{renaming_by_record}
 use Rattle.ob0_language_fields.specs.Renaming.{RecordFields, records}
 use Rattle.ob0_language_fields.proofs.AgreeingFields.{NamesAgree, RecordsAgree}
@@ -30,7 +30,7 @@ use Rattle.ob0_language_types.specs.Bindings.{declared_object}
 use Rattle.ob0_language_types.proofs.Conditions.{both_true, hold-true, of_some}
 use Rattle.ob0_language_types.proofs.TypedElsewhere.{then_some}
 use Rattle.ob0_types_fields.specs.Identifiers.{FieldsMatchGrammar, token_indexes, field_role_tokens}
-use Rattle.ob0_types_fields.specs.Owned.{AgreesWithOwnerList, fields_with_owners, owners_in_resolution, meanings_by_token}
+use Rattle.ob0_types_fields.specs.Owned.{AgreesWithOwnerList, fields_with_owners, identifier_owners_in_resolution, meanings_by_token}
 use Rattle.ob0_tree.proofs.MappedIdentifiers.{beside_role, both, identifiers-mapped_tree}
 use Rattle.ob0_types_fields.proofs.OwnedModules.{agreeing_table_is_owner_table-holds}
 use Rattle.ob0_types_fields.proofs.OwnedTokens.{fields_have-owners, module-tokens, tokens, with_owners}
@@ -296,16 +296,16 @@ variable_section-marked : (env : TypeEnvironment Name) (k : ℕ) (vs : Tree Name
 variable_section-marked env k none after h = refl
 variable_section-marked env k (one (declares_variables vs)) after h = variables-marked env k vs after h
 
-section-marked : (m : TypeMeanings Name) (k : ℕ) (f : Tree Name section) (s : Shape) → denoted_type m k (parameter_section_type f) ≡ Some s → ids (rename_fields_in_section every k f) ≡ marked (ids f)
+section-marked : (m : TypeMeanings Name) (k : ℕ) (f : Tree Name section) (s : Shape) → denoted_type m k (parameter_section_type f) ≡ Some s → ids (rename_fields_in_parameter_section every k f) ≡ marked (ids f)
 section-marked m k (value_section ns u) s h = both mark_at (ids ns) (ids u) (names_declared ns) (type-marked m k u s h)
 section-marked m k (variable_section ns u) s h = both mark_at (ids ns) (ids u) (names_declared ns) (type-marked m k u s h)
 
-sections-marked : (env : TypeEnvironment Name) (k : ℕ) (fs : Tree Name (items further_section)) (ps : List (TypedParameter Name)) → typed_parameters naming_by_spelling env k fs ≡ Some ps → ids (rename_fields_in_sections every k fs) ≡ marked (ids fs)
+sections-marked : (env : TypeEnvironment Name) (k : ℕ) (fs : Tree Name (items further_section)) (ps : List (TypedParameter Name)) → typed_parameters naming_by_spelling env k fs ≡ Some ps → ids (rename_fields_in_parameter_sections every k fs) ≡ marked (ids fs)
 unfolding typed_parameters
 sections-marked env k end ps h = refl
 sections-marked env k (more (then_section f) fs) ps h =
-    let (s, es, h₁) = then_some (denoted_type (meanings naming_by_spelling env) k (parameter_section_type f)) (λ s. option_and_then (λ rest. Some (map (parameter_of (section_mode f) s) (parameter_section_names f) ++ rest)) (typed_parameters naming_by_spelling (bind_names (parameter_section_names f) (a_variable s) env) (k + constructor_count (parameter_section_type f)) fs)) ps h in
-    let (rest, er, h₂) = then_some (typed_parameters naming_by_spelling (bind_names (parameter_section_names f) (a_variable s) env) (k + constructor_count (parameter_section_type f)) fs) (λ rest. Some (map (parameter_of (section_mode f) s) (parameter_section_names f) ++ rest)) ps h₁ in
+    let (s, es, h₁) = then_some (denoted_type (meanings naming_by_spelling env) k (parameter_section_type f)) (λ s. option_and_then (λ rest. Some (map (parameter_of (parameter_section_mode f) s) (parameter_section_names f) ++ rest)) (typed_parameters naming_by_spelling (bind_names (parameter_section_names f) (a_variable s) env) (k + constructor_count (parameter_section_type f)) fs)) ps h in
+    let (rest, er, h₂) = then_some (typed_parameters naming_by_spelling (bind_names (parameter_section_names f) (a_variable s) env) (k + constructor_count (parameter_section_type f)) fs) (λ rest. Some (map (parameter_of (parameter_section_mode f) s) (parameter_section_names f) ++ rest)) ps h₁ in
     both mark_at (ids f) (ids fs) (section-marked (meanings naming_by_spelling env) k f s es)
     (sections-marked (bind_names (parameter_section_names f) (a_variable s) env) (k + constructor_count (parameter_section_type f)) fs rest er)
 
@@ -401,9 +401,9 @@ listed_fields source table [] (y ∷ ys) e has h = absurd (cc)
 listed_fields source table (x ∷ xs) [] e has h = absurd (cc)
 listed_fields source table ((i, o) ∷ xs) ((r, j) ∷ ys) e has h =
     let same : i ≡ j = (heads e).0 in
-    let owners_in_tree : table j ≡ o = ap table (sym same) ∙ has.0 in
+    let identifier_owners_in_tree : table j ≡ o = ap table (sym same) ∙ has.0 in
     let written : mark r (token_text_at source j) ≡ owner_writes source table j = ap (λ z. z.1) (heads h).0 in
-    by_role r o same (matched (token_text_at source j) r o (written ∙ ap (λ o. renaming_by_record (λ k x. again x) o (token_text_at source j)) owners_in_tree))
+    by_role r o same (matched (token_text_at source j) r o (written ∙ ap (λ o. renaming_by_record (λ k x. again x) o (token_text_at source j)) identifier_owners_in_tree))
     (listed_fields source table xs ys (heads e).1 has.1 (heads h).1)
   where
     by_role : (r : Role) (o : Option ℕ) → i ≡ j → Matches r o → token_indexes (fields_with_owners xs) ≡ field_role_tokens ys → token_indexes (fields_with_owners ((i, o) ∷ xs)) ≡ field_role_tokens ((r, j) ∷ ys)
@@ -423,11 +423,11 @@ unfolding WellTyped
 fields_match_grammar-holds r named fits =
     let m : ParsedModule = r.module_read in
     let owners : List (Option ℕ) = with_owners r in
-    let has : AgreesWithOwnerList (ordinal_in owners) (owners_in_resolution r) = fields_have-owners r named in
+    let has : AgreesWithOwnerList (ordinal_in owners) (identifier_owners_in_resolution r) = fields_have-owners r named in
     let by_table = agreeing_table_is_owner_table-holds r owners named fits has (λ k x. again x) in
     let written : marked (ids (named_tree_of m)) ≡ ids (mapped_tree (owner_writes m.source (ordinal_in owners)) (token_value_at m.source) (tree_of m)) =
     sym (module-marked (named_tree_of m) fits.1) ∙ (ap ids (module-alike every by_record (named_tree_of m) (alike-records (records (named_tree_of m))) fits.1) ∙ ap ids by_table) in
-    listed_fields m.source (ordinal_in owners) (owners_in_resolution r) (identifiers role.Declaring (tree_of m))
+    listed_fields m.source (ordinal_in owners) (identifier_owners_in_resolution r) (identifiers role.Declaring (tree_of m))
     (module-tokens (meanings_by_token (declared_object (named_tree_of m)) r) (tree_of m)) has
     (ap marked (sym (identifiers-mapped_tree (token_text_at m.source) (token_value_at m.source) role.Declaring (tree_of m)))
     ∙ (written ∙ identifiers-mapped_tree (owner_writes m.source (ordinal_in owners)) (token_value_at m.source) role.Declaring (tree_of m)))

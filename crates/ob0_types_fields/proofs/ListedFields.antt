@@ -6,7 +6,7 @@ use Rattle.ob0_tree.specs.ParsedModule.{ParsedModule, named_tree_of, tree_of}
 use Rattle.ob0_tree.specs.Places.{token_text_at}
 use Rattle.ob0_scope_table.specs.Resolution.{IsResolution, Resolution}
 use Rattle.ob0_language_types.specs.Bindings.{declared_object}
-use Rattle.ob0_types_table.specs.KnownTables.{Tables, declared_object_in}
+use Rattle.ob0_types_table.specs.KnownTables.{DeclarationTableView, declared_object_in}
 use Rattle.ob0_language_types.specs.WellTyped.{WellTyped}
 use Rattle.ob0_types_fields.specs.declared.field_name.FieldName.{FieldName}
 use Rattle.ob0_types_fields.specs.Identifiers.{declared_fields, field_declaring_token, field_identifiers, first_token, tokens_of_field}
@@ -22,7 +22,7 @@ none_selected m (x ∷ xs) none all =
     ∙ ap (λ (declared : List FieldName). is_some (first_token (tokens_of_field m.source x.owner (token_text_at m.source x.token) declared))) none))
 
 pub listed_fields : (r : Resolution) → IsResolution r → WellTyped (named_tree_of r.module_read)
-    → (t : Tables) → ((k : ℕ) → declared_object_in t k ≡ declared_object (named_tree_of r.module_read) k) → AreFieldListsOf r (field_lists_of t r)
+    → (t : DeclarationTableView) → ((k : ℕ) → declared_object_in t k ≡ declared_object (named_tree_of r.module_read) k) → AreFieldListsOf r (field_lists_of t r)
 listed_fields r named fits t holds = (refl, one (length (declared_fields r.module_read) == 0) refl)
   where
     m : ParsedModule

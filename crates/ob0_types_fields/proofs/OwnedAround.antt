@@ -7,7 +7,7 @@ use Rattle.ob0_language_types.specs.Expressions.{Meanings}
 use Rattle.ob0_language_names.specs.Parts.{formal_sections, section_types, section_variables}
 use Rattle.ob0_language_values.specs.Values.{Shape}
 use Rattle.ob0_scope_table.specs.BodyReplaced.{PathToBody, block_without_body, body_at_path_in_procedures, body_at_path, body_at_path_in_block, body_at_path_in_procedure, closing_name_at_path_in_procedures, closing_name_at_path, closing_name_at_path_in_block, closing_name_at_path_in_procedure, procedure_without_body, procedures_without_body, module_without_body}
-use Rattle.ob0_types_fields.specs.Owned.{owners_in_tree, owners_in_block, owners_in_formals, owners_in_module, owners_in_procedure, owners_in_procedures, owners_in_type_section, owners_in_variable_section, identifiers_without_owners}
+use Rattle.ob0_types_fields.specs.Owned.{identifier_owners_in_tree, identifier_owners_in_block, identifier_owners_in_formals, identifier_owners_in_module, identifier_owners_in_procedure, identifier_owners_in_procedures, identifier_owners_in_type_section, identifier_owners_in_variable_section, identifiers_without_owners}
 
 -- ---- leaving out statements doesn't change the number of words ARRAY and RECORD
 
@@ -72,21 +72,21 @@ closed own = (own, None) ∷ []
 module _ {Q : Type 0} (m : Meanings ℕ Shape Q) where
   mutual
     pub block_split : (path : PathToBody) (k own : ℕ) (b : Tree ℕ block)
-        → IsAround (owners_in_block m k b ++ closed own) (owners_in_block m k (block_without_body path b) ++ closed own) (owners_in_tree m None (body_at_path_in_block path b)) (closing_name_at_path_in_block path own b)
+        → IsAround (identifier_owners_in_block m k b ++ closed own) (identifier_owners_in_block m k (block_without_body path b) ++ closed own) (identifier_owners_in_tree m None (body_at_path_in_block path b)) (closing_name_at_path_in_block path own b)
     block_split [] k own (forms_block (declares cs ts vs ps) statements) =
         let b : Tree ℕ block = forms_block (declares cs ts vs ps) statements in
-        let D : List (ℕ × Option ℕ) = identifiers_without_owners cs ++ (owners_in_type_section k ts ++ (owners_in_variable_section (constructors_before_variables k b) vs ++ owners_in_procedures m (constructors_before_procedures k b) ps)) in
-        record { before = D; after = []; whole = append_assoc D (owners_in_tree m None statements) (closed own); left = ap (λ l. l ++ closed own) (append-nil D) }
+        let D : List (ℕ × Option ℕ) = identifiers_without_owners cs ++ (identifier_owners_in_type_section k ts ++ (identifier_owners_in_variable_section (constructors_before_variables k b) vs ++ identifier_owners_in_procedures m (constructors_before_procedures k b) ps)) in
+        record { before = D; after = []; whole = append_assoc D (identifier_owners_in_tree m None statements) (closed own); left = ap (λ l. l ++ closed own) (append-nil D) }
     block_split (j ∷ path) k own (forms_block (declares cs ts vs ps) statements) =
         let b : Tree ℕ block = forms_block (declares cs ts vs ps) statements in
-        let inner : List (ℕ × Option ℕ) = owners_in_tree m None (body_at_path_in_procedures j path ps) in
+        let inner : List (ℕ × Option ℕ) = identifier_owners_in_tree m None (body_at_path_in_procedures j path ps) in
         let c : ℕ = closing_name_at_path_in_procedures j path own ps in
         let C : List (ℕ × Option ℕ) = identifiers_without_owners cs in
-        let T : List (ℕ × Option ℕ) = owners_in_type_section k ts in
-        let V : List (ℕ × Option ℕ) = owners_in_variable_section (constructors_before_variables k b) vs in
-        let S : List (ℕ × Option ℕ) = owners_in_tree m None statements in
-        let full : List (ℕ × Option ℕ) = owners_in_procedures m (constructors_before_procedures k b) ps in
-        let less : List (ℕ × Option ℕ) = owners_in_procedures m (constructors_before_procedures k b) (procedures_without_body j path ps) in
+        let T : List (ℕ × Option ℕ) = identifier_owners_in_type_section k ts in
+        let V : List (ℕ × Option ℕ) = identifier_owners_in_variable_section (constructors_before_variables k b) vs in
+        let S : List (ℕ × Option ℕ) = identifier_owners_in_tree m None statements in
+        let full : List (ℕ × Option ℕ) = identifier_owners_in_procedures m (constructors_before_procedures k b) ps in
+        let less : List (ℕ × Option ℕ) = identifier_owners_in_procedures m (constructors_before_procedures k b) (procedures_without_body j path ps) in
         as_these inner c (regrouped C T V full S (closed own)) (regrouped C T V less S (closed own))
         (in_front (T ++ (V ++ (full ++ (S ++ closed own)))) (T ++ (V ++ (less ++ (S ++ closed own)))) inner C c
         (in_front (V ++ (full ++ (S ++ closed own))) (V ++ (less ++ (S ++ closed own))) inner T c
@@ -94,35 +94,35 @@ module _ {Q : Type 0} (m : Meanings ℕ Shape Q) where
         (procedures_split j path (constructors_before_procedures k b) own ps S))))
 
     pub procedures_split : (j : ℕ) (path : PathToBody) (k own : ℕ) (ps : Tree ℕ (items procedure)) (tail : List (ℕ × Option ℕ))
-        → IsAround (owners_in_procedures m k ps ++ (tail ++ closed own)) (owners_in_procedures m k (procedures_without_body j path ps) ++ (tail ++ closed own)) (owners_in_tree m None (body_at_path_in_procedures j path ps)) (closing_name_at_path_in_procedures j path own ps)
+        → IsAround (identifier_owners_in_procedures m k ps ++ (tail ++ closed own)) (identifier_owners_in_procedures m k (procedures_without_body j path ps) ++ (tail ++ closed own)) (identifier_owners_in_tree m None (body_at_path_in_procedures j path ps)) (closing_name_at_path_in_procedures j path own ps)
     procedures_split zero path k own end tail = record { before = tail; after = []; whole = refl; left = refl }
     procedures_split (suc j) path k own end tail = record { before = tail; after = []; whole = refl; left = refl }
     procedures_split zero path k own (more p rest) tail =
-        let inner : List (ℕ × Option ℕ) = owners_in_tree m None (body_at_path_in_procedure path p) in
+        let inner : List (ℕ × Option ℕ) = identifier_owners_in_tree m None (body_at_path_in_procedure path p) in
         let c : ℕ = closing_name_at_path_in_procedure path p in
-        let R : List (ℕ × Option ℕ) = owners_in_procedures m (k + procedure_constructor_count p) rest in
+        let R : List (ℕ × Option ℕ) = identifier_owners_in_procedures m (k + procedure_constructor_count p) rest in
         let last : List (ℕ × Option ℕ) = tail ++ closed own in
-        as_these inner c (append_assoc (owners_in_procedure m k p) R last)
-        ((λ i. (owners_in_procedure m k (procedure_without_body path p) ++ owners_in_procedures m (k + procedure_counted path p i) rest) ++ last) ∙ append_assoc (owners_in_procedure m k (procedure_without_body path p)) R last)
-        (followed_by (owners_in_procedure m k p) (owners_in_procedure m k (procedure_without_body path p)) inner (R ++ last) c (procedure_split path k p))
+        as_these inner c (append_assoc (identifier_owners_in_procedure m k p) R last)
+        ((λ i. (identifier_owners_in_procedure m k (procedure_without_body path p) ++ identifier_owners_in_procedures m (k + procedure_counted path p i) rest) ++ last) ∙ append_assoc (identifier_owners_in_procedure m k (procedure_without_body path p)) R last)
+        (followed_by (identifier_owners_in_procedure m k p) (identifier_owners_in_procedure m k (procedure_without_body path p)) inner (R ++ last) c (procedure_split path k p))
     procedures_split (suc j) path k own (more p rest) tail =
-        let inner : List (ℕ × Option ℕ) = owners_in_tree m None (body_at_path_in_procedures j path rest) in
+        let inner : List (ℕ × Option ℕ) = identifier_owners_in_tree m None (body_at_path_in_procedures j path rest) in
         let c : ℕ = closing_name_at_path_in_procedures j path own rest in
-        let P : List (ℕ × Option ℕ) = owners_in_procedure m k p in
+        let P : List (ℕ × Option ℕ) = identifier_owners_in_procedure m k p in
         let n : ℕ = k + procedure_constructor_count p in
-        let full : List (ℕ × Option ℕ) = owners_in_procedures m n rest in
-        let less : List (ℕ × Option ℕ) = owners_in_procedures m n (procedures_without_body j path rest) in
+        let full : List (ℕ × Option ℕ) = identifier_owners_in_procedures m n rest in
+        let less : List (ℕ × Option ℕ) = identifier_owners_in_procedures m n (procedures_without_body j path rest) in
         let last : List (ℕ × Option ℕ) = tail ++ closed own in
         as_these inner c (append_assoc P full last) (append_assoc P less last)
         (in_front (full ++ last) (less ++ last) inner P c (procedures_split j path n own rest tail))
 
     pub procedure_split : (path : PathToBody) (k : ℕ) (p : Tree ℕ (item procedure))
-        → IsAround (owners_in_procedure m k p) (owners_in_procedure m k (procedure_without_body path p)) (owners_in_tree m None (body_at_path_in_procedure path p)) (closing_name_at_path_in_procedure path p)
+        → IsAround (identifier_owners_in_procedure m k p) (identifier_owners_in_procedure m k (procedure_without_body path p)) (identifier_owners_in_tree m None (body_at_path_in_procedure path p)) (closing_name_at_path_in_procedure path p)
     procedure_split path k (declares_procedure x fs b closing) =
         let j : ℕ = constructors_before_procedure_block k (declares_procedure x fs b closing) in
-        let head : List (ℕ × Option ℕ) = (x, None) ∷ owners_in_formals k fs in
-        in_front (owners_in_block m j b ++ closed closing) (owners_in_block m j (block_without_body path b) ++ closed closing) (owners_in_tree m None (body_at_path_in_block path b)) head (closing_name_at_path_in_block path closing b) (block_split path j closing b)
+        let head : List (ℕ × Option ℕ) = (x, None) ∷ identifier_owners_in_formals k fs in
+        in_front (identifier_owners_in_block m j b ++ closed closing) (identifier_owners_in_block m j (block_without_body path b) ++ closed closing) (identifier_owners_in_tree m None (body_at_path_in_block path b)) head (closing_name_at_path_in_block path closing b) (block_split path j closing b)
 
-  pub module_split : (path : PathToBody) (t : Tree ℕ module_text) → IsAround (owners_in_module m t) (owners_in_module m (module_without_body path t)) (owners_in_tree m None (body_at_path path t)) (closing_name_at_path path t)
+  pub module_split : (path : PathToBody) (t : Tree ℕ module_text) → IsAround (identifier_owners_in_module m t) (identifier_owners_in_module m (module_without_body path t)) (identifier_owners_in_tree m None (body_at_path path t)) (closing_name_at_path path t)
   module_split path (is_module x b closing) =
-      in_front (owners_in_block m 0 b ++ closed closing) (owners_in_block m 0 (block_without_body path b) ++ closed closing) (owners_in_tree m None (body_at_path_in_block path b)) ((x, None) ∷ []) (closing_name_at_path_in_block path closing b) (block_split path 0 closing b)
+      in_front (identifier_owners_in_block m 0 b ++ closed closing) (identifier_owners_in_block m 0 (block_without_body path b) ++ closed closing) (identifier_owners_in_tree m None (body_at_path_in_block path b)) ((x, None) ∷ []) (closing_name_at_path_in_block path closing b) (block_split path 0 closing b)

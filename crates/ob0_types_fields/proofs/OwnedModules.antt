@@ -6,7 +6,7 @@
 -- its ordinal (`Right`). In descending bindings each binding is found at its ordinal (`bound_right`), so the bindings
 -- of the whole module are `Right`. Splitting the lists gives the same for each part.
 use Rattle.std.proofs.Common.{◌≡◌, ℕ, suc, ◌+◌, true, false, List, [], ◌∷◌, ◌++◌, map, Some, None, Option, option_map, option_and_then, unwrap_or, refl, sym, ap, ◌∙◌, subst, arith, le_refl, le_of_lt, append-nil}
-use Rattle.ob0_tree.specs.Tree.{Tree, block, body, constants, declares, declares_procedure, end, formals, forms_block, is_module, item, items, Item, mapped_tree, maybe, more, occurrences, procedure, type_definitions, variables}
+use Rattle.ob0_tree.specs.Tree.{Tree, block, body, constants, declares, declares_procedure, end, formals, forms_block, is_module, item, items, GrammarItem, mapped_tree, maybe, more, occurrences, procedure, type_definitions, variables}
 use Rattle.ob0_tree.specs.ParsedModule.{ParsedModule, named_tree_of, tree_of}
 use Rattle.ob0_tree.specs.Places.{token_text_at, token_value_at}
 use Rattle.ob0_language_names.specs.Names.{Label, Name, naming_by_label, naming_by_spelling, declared, same_name}
@@ -14,9 +14,8 @@ use Rattle.ob0_language_names.specs.Occurrences.{label_ordinal}
 use Rattle.ob0_language_names.specs.Parts.{block_procedures, block_statements, block_variables, formal_names, formal_sections, module_block, procedure_block, section_types, section_variables}
 use Rattle.ob0_scope_table.specs.Resolution.{Resolution, ordinal_in}
 use Rattle.ob0_scope_table.proofs.Bound.{label_back}
-use Rattle.ob0_language_names.specs.Scopes.{Scope, ordinal_after_block, ordinal_after_names, ordinal_after_procedure, ordinal_after_procedures, label_from_ordinal, declare_names, declare_procedure_names, first_procedure_ordinal, first_type_ordinal, first_variable_ordinal, numbered, ordinal_of, scope_before_procedures, relabel_block, relabel_formals, relabel_procedures, relabel_sections, relabel_uses, scope_before_types, scope_before_variables, label_of}
-use Rattle.ob0_language_names.proofs.OccurrenceNames.{occurrences-map_names}
-use Rattle.ob0_language_names.proofs.OccurrencesMapped.{occurrences-mapped_tree}
+use Rattle.ob0_language_names.specs.Scopes.{Scope, ordinal_after_block, ordinal_after_names, ordinal_after_procedure, ordinal_after_procedures, label_from_ordinal, declare_names, declare_procedure_names, first_procedure_ordinal, first_type_ordinal, first_variable_ordinal, numbered, ordinal_in_scope, scope_before_procedures, relabel_block, relabel_formals, relabel_procedures, relabel_parameter_sections, relabel_uses, scope_before_types, scope_before_variables, label_of}
+use Rattle.ob0_language_names.proofs.OccurrencesMapped.{occurrences-mapped}
 use Rattle.ob0_language_names.proofs.Ordinals.{le-ordinal_after_procedure}
 use Rattle.ob0_language_names.proofs.Peeling.{heads}
 use Rattle.ob0_language_names.proofs.Relabelled.{formals-section, types-section, variables-section}
@@ -36,11 +35,11 @@ use Rattle.ob0_language_types.proofs.Proved.{numbering_keeps_type_check-holds}
 use Rattle.ob0_language_types.proofs.TypesByOrdinal.{TypeNoted, TypedBelow, TypedBelow-weaken, TypedWithin, bind_typed_parameters-by_name, bind_typed_parameters-by_ordinal, body_is_well_typed-agrees, declarations_typed, label_typed, label_typed-formals, noted_parameters, noted_parameters-within, parameters_typed, typed_by_name, typed_by_ordinal, typed_names, typed_outermost, typed_scope}
 use Rattle.ob0_language_types.proofs.ConstantsDeclared as blocks
 use Rattle.ob0_language_types.proofs.ConstantsDeclared.{block-listed, block-parts, predeclared-below}
-use Rattle.ob0_language_fields.specs.Fields.{environment_after_heading, environment_after_procedures, environment_after_variables, parameters_of, rename_fields, rename_fields_in_block, rename_fields_in_procedures, rename_fields_in_variable_section}
+use Rattle.ob0_language_fields.specs.Fields.{environment_after_heading, environment_after_procedures, environment_after_variables, typed_parameters_of_procedure, rename_fields, rename_fields_in_block, rename_fields_in_procedures, rename_fields_in_variable_section}
 use Rattle.ob0_types_fields.specs.Owners.{renaming_by_record}
-use Rattle.ob0_types_fields.specs.Owned.{AgreesWithOwnerList, AgreeingTableIsOwnerTable, owners_in_tree, owners_in_block, owners_in_formals, owners_in_procedure, owners_in_procedures, owners_in_type_section, owners_in_variable_section, meanings_by_token, identifiers_without_owners}
-use Rattle.ob0_types_fields.proofs.OwnedStatements.{Alike, SameTypes, owners_in_tree-alike, owners_split, recorded, recorded-alike, recorded-mapped_tree, identifiers_without_owners-all}
-use Rattle.ob0_types_fields.proofs.OwnedTypes.{counted_formals_section, counted_procedure, counted_type_section, counted_variable_section, formals-owners_in_tree, type_section-owners_in_tree, variable_section-owners_in_tree}
+use Rattle.ob0_types_fields.specs.Owned.{AgreesWithOwnerList, AgreeingTableIsOwnerTable, identifier_owners_in_tree, identifier_owners_in_block, identifier_owners_in_formals, identifier_owners_in_procedure, identifier_owners_in_procedures, identifier_owners_in_type_section, identifier_owners_in_variable_section, meanings_by_token, identifiers_without_owners}
+use Rattle.ob0_types_fields.proofs.OwnedStatements.{Alike, SameTypes, identifier_owners_in_tree-alike, owners_split, recorded, recorded-alike, recorded-mapped_tree, identifiers_without_owners-all}
+use Rattle.ob0_types_fields.proofs.OwnedTypes.{counted_formals_section, counted_procedure, counted_type_section, counted_variable_section, formals-identifier_owners_in_tree, type_section-identifier_owners_in_tree, variable_section-identifier_owners_in_tree}
 use Rattle.ob0_language_fields.proofs.MeaningsByName.{object_in}
 use Rattle.ob0_types_fields.proofs.Selecting.{body-selects, here}
 use Rattle.ob0_types_fields.proofs.DeclaredInOrder.{Descends, Grown, Right, block_grows, bound_right, descends_join, heading_grows, right_join, right_split}
@@ -110,25 +109,25 @@ entered noted j k below statements fs b closing rest h =
     let fs' : Tree Label (maybe formals) = relabel_formals naming_by_spelling (label_from_ordinal naming_by_spelling) (typed_scope noted) (suc k) fs in
     let p = procedure-parts env j statements (declared k) fs' b closing rest h in
     let f = found (λ ps. ps) (label_typed (suc k)) (λ ps. typed_names ps ≡ formal_names (formal_sections fs)) (typed_parameters naming_by_spelling (typed_by_name noted) j (formal_sections fs))
-    (typed_parameters naming_by_label env j (relabel_sections naming_by_spelling (label_from_ordinal naming_by_spelling) (typed_scope noted) (suc k) (formal_sections fs)))
+    (typed_parameters naming_by_label env j (relabel_parameter_sections naming_by_spelling (label_from_ordinal naming_by_spelling) (typed_scope noted) (suc k) (formal_sections fs)))
     (parameters_typed naming_by_spelling j (suc k) noted (TypedBelow-weaken k (suc k) noted (le_of_lt (le_refl (suc k))) below) (formal_sections fs)) p.0
     (ap (typed_parameters naming_by_label env j) (sym (formals-section naming_by_spelling (label_from_ordinal naming_by_spelling) (typed_scope noted) (suc k) fs)) ∙ p.1) in
     record { listed = f.0; by_name = f.1; names = f.3; parts = subst (FitParts env j statements (declared k) fs' b closing rest) (sym f.2) p.2 }
 
 -- The object that a name is bound to is the object of the name's ordinal.
 object-right : (objects : ℕ → Option (Object Shape Signature)) (noted : TypeNoted Name) → Right objects (typed_by_ordinal noted) → (x : Name)
-    → newest_object (environment_from_binding naming_by_spelling (typed_by_name noted) x) ≡ option_and_then objects (ordinal_of naming_by_spelling (typed_scope noted) x)
+    → newest_object (environment_from_binding naming_by_spelling (typed_by_name noted) x) ≡ option_and_then objects (ordinal_in_scope naming_by_spelling (typed_scope noted) x)
 object-right objects [] right x = refl
 object-right objects (b ∷ noted) right x =
     elim (same_name x b.name) as (λ v. newest_object (elim v [ true ↦ (b.name, b.object) ∷ typed_by_name noted | false ↦ environment_from_binding naming_by_spelling (typed_by_name noted) x ])
-    ≡ option_and_then objects (elim v [ true ↦ Some b.ordinal | false ↦ ordinal_of naming_by_spelling (typed_scope noted) x ]))
+    ≡ option_and_then objects (elim v [ true ↦ Some b.ordinal | false ↦ ordinal_in_scope naming_by_spelling (typed_scope noted) x ]))
     [ true ↦ sym right.0 | false ↦ object-right objects noted right.1 x ]
 
-abbrev first_item : {N : Type 0} {i : Item} → Tree N (item i) → Tree N (items i) → Tree N (item i)
+abbrev first_item : {N : Type 0} {i : GrammarItem} → Tree N (item i) → Tree N (items i) → Tree N (item i)
 first_item d end = d
 first_item d (more t ts) = t
 
-abbrev rest_items : {N : Type 0} {i : Item} → Tree N (items i) → Tree N (items i)
+abbrev rest_items : {N : Type 0} {i : GrammarItem} → Tree N (items i) → Tree N (items i)
 rest_items end = end
 rest_items (more t ts) = ts
 
@@ -163,7 +162,7 @@ module _ (l : ℕ → Name → Name) (at : ℕ → Option ℕ) (text : ℕ → N
   alike-listed noted right [] e = tt
   alike-listed noted right (x ∷ xs) e =
       let h = heads e in
-      let same : ordinal_of naming_by_spelling (typed_scope noted) (text x) ≡ ordinal x = sym (label_back (ordinal_of naming_by_spelling (typed_scope noted) (text x)) (text x)) ∙ (ap label_ordinal h.0 ∙ label_back (ordinal x) (text x)) in
+      let same : ordinal_in_scope naming_by_spelling (typed_scope noted) (text x) ≡ ordinal x = sym (label_back (ordinal_in_scope naming_by_spelling (typed_scope noted) (text x)) (text x)) ∙ (ap label_ordinal h.0 ∙ label_back (ordinal x) (text x)) in
       (ap type_of_variable_or_constant (object-right objects noted right (text x) ∙ ap (option_and_then objects) same), alike-listed noted right xs h.1)
 
   body-alike : (noted : TypeNoted Name) → Right objects (typed_by_ordinal noted) → (st : Tree ℕ (maybe body)) → relabel_uses naming_by_spelling (label_from_ordinal naming_by_spelling) (typed_scope noted) (mapped_tree text value st) ≡ mapped_tree label value st
@@ -171,7 +170,7 @@ module _ (l : ℕ → Name → Name) (at : ℕ → Option ℕ) (text : ℕ → N
   body-alike noted right st e =
       let look : Name → Label = label_of naming_by_spelling (label_from_ordinal naming_by_spelling) (typed_scope noted) in
       alike-listed noted right (occurrences st)
-      (ap (map look) (sym (occurrences-mapped_tree text value st)) ∙ (sym (occurrences-map_names look (label_from_ordinal naming_by_spelling None) (mapped_tree text value st)) ∙ (ap occurrences e ∙ occurrences-mapped_tree label value st)))
+      (ap (map look) (sym (occurrences-mapped text text value st)) ∙ (sym (occurrences-mapped look (label_from_ordinal naming_by_spelling None) (λ n. n) (mapped_tree text value st)) ∙ (ap occurrences e ∙ occurrences-mapped label label value st)))
 
   same-types : (meaning : TypeMeanings Name) (xs : List ℕ) → Alike meaning by_token xs → SameTypes (here meaning.object_for text value) by_token xs
   same-types meaning [] h = tt
@@ -180,7 +179,7 @@ module _ (l : ℕ → Name → Name) (at : ℕ → Option ℕ) (text : ℕ → N
   record BlockHeld (noted : TypeNoted Name) (j k : ℕ) (b : Tree ℕ block) : Type 0 where
     pub descends : Descends (ordinal_after_block k (mapped_tree text value b)) (block_bindings naming_by_label (typed_by_ordinal noted) j (relabel_block naming_by_spelling (label_from_ordinal naming_by_spelling) (typed_scope noted) k (mapped_tree text value b))) k
     pub written : Right objects (typed_by_ordinal noted) → Right objects (block_bindings naming_by_label (typed_by_ordinal noted) j (relabel_block naming_by_spelling (label_from_ordinal naming_by_spelling) (typed_scope noted) k (mapped_tree text value b)))
-        → relabel_block naming_by_spelling (label_from_ordinal naming_by_spelling) (typed_scope noted) k (mapped_tree text value b) ≡ mapped_tree label value b → AgreesWithOwnerList at (owners_in_block by_token j b)
+        → relabel_block naming_by_spelling (label_from_ordinal naming_by_spelling) (typed_scope noted) k (mapped_tree text value b) ≡ mapped_tree label value b → AgreesWithOwnerList at (identifier_owners_in_block by_token j b)
         → rename_fields_in_block (renaming_by_record l) (typed_by_name noted) j (mapped_tree text value b) ≡ mapped_tree (λ i. renaming_by_record l (at i) (text i)) value b
 
   record ProceduresHeld (noted : TypeNoted Name) (j k : ℕ) (statements : Tree Label (maybe body)) (ps : Tree ℕ (items procedure)) : Type 0 where
@@ -191,7 +190,7 @@ module _ (l : ℕ → Name → Name) (at : ℕ → Option ℕ) (text : ℕ → N
     pub fits : body_is_well_typed naming_by_label (typed_by_ordinal last) statements ≡ true
     pub scoped : typed_scope last ≡ declare_procedure_names k (mapped_tree text value ps) (typed_scope noted)
     pub written : Right objects (typed_by_ordinal noted) → Right objects (procedures_bindings naming_by_label (typed_by_ordinal noted) j (relabel_procedures naming_by_spelling (label_from_ordinal naming_by_spelling) (typed_scope noted) k (mapped_tree text value ps)))
-        → relabel_procedures naming_by_spelling (label_from_ordinal naming_by_spelling) (typed_scope noted) k (mapped_tree text value ps) ≡ mapped_tree label value ps → AgreesWithOwnerList at (owners_in_procedures by_token j ps)
+        → relabel_procedures naming_by_spelling (label_from_ordinal naming_by_spelling) (typed_scope noted) k (mapped_tree text value ps) ≡ mapped_tree label value ps → AgreesWithOwnerList at (identifier_owners_in_procedures by_token j ps)
         → (rename_fields_in_procedures (renaming_by_record l) (typed_by_name noted) j (mapped_tree text value ps) ≡ mapped_tree (λ i. renaming_by_record l (at i) (text i)) value ps) × Right objects (typed_by_ordinal last)
 
   no-procedures : (noted : TypeNoted Name) (j k : ℕ) → TypedBelow k noted → (statements : Tree Label (maybe body)) → procedures_are_well_typed naming_by_label (typed_by_ordinal noted) j statements end ≡ true → ProceduresHeld noted j k statements end
@@ -211,15 +210,15 @@ module _ (l : ℕ → Name → Name) (at : ℕ → Option ℕ) (text : ℕ → N
 
   statements-written : (noted last : TypeNoted Name) (n : ℕ) → TypedBelow n last → Right objects (typed_by_ordinal last) → (scope : Scope Name) → typed_scope last ≡ scope → (st : Tree ℕ (maybe body))
       → body_is_well_typed naming_by_label (typed_by_ordinal last) (relabel_uses naming_by_spelling (label_from_ordinal naming_by_spelling) scope (mapped_tree text value st)) ≡ true → relabel_uses naming_by_spelling (label_from_ordinal naming_by_spelling) scope (mapped_tree text value st) ≡ mapped_tree label value st
-      → AgreesWithOwnerList at (owners_in_tree by_token None st) → rename_fields (renaming_by_record l) (meanings naming_by_spelling (typed_by_name last)) None (mapped_tree text value st) ≡ mapped_tree (λ i. renaming_by_record l (at i) (text i)) value st
+      → AgreesWithOwnerList at (identifier_owners_in_tree by_token None st) → rename_fields (renaming_by_record l) (meanings naming_by_spelling (typed_by_name last)) None (mapped_tree text value st) ≡ mapped_tree (λ i. renaming_by_record l (at i) (text i)) value st
   statements-written noted last n below right scope scoped st fits numbered has =
       let alike = body-alike last right st (ap (λ s. relabel_uses naming_by_spelling (label_from_ordinal naming_by_spelling) s (mapped_tree text value st)) scoped ∙ numbered) in
       let fitting : body_is_well_typed naming_by_spelling (typed_by_name last) (mapped_tree text value st) ≡ true =
       sym (body_is_well_typed-agrees naming_by_spelling n last below (mapped_tree text value st)) ∙ ((λ i. body_is_well_typed naming_by_label (typed_by_ordinal last) (relabel_uses naming_by_spelling (label_from_ordinal naming_by_spelling) (scoped i) (mapped_tree text value st))) ∙ fits) in
       let by_name : Meanings ℕ Shape Signature = here (object_in (typed_by_name last)) text value in
       let types = same-types (meanings naming_by_spelling (typed_by_name last)) (occurrences st) alike in
-      let selecting : owners_in_tree by_token None st ≡ recorded by_token None st =
-      sym (owners_in_tree-alike by_name by_token (λ x. refl) None st types) ∙ (body-selects (typed_by_name last) text value st fitting ∙ recorded-alike by_name by_token (λ x. refl) None st types) in
+      let selecting : identifier_owners_in_tree by_token None st ≡ recorded by_token None st =
+      sym (identifier_owners_in_tree-alike by_name by_token (λ x. refl) None st types) ∙ (body-selects (typed_by_name last) text value st fitting ∙ recorded-alike by_name by_token (λ x. refl) None st types) in
       recorded-mapped_tree l at (meanings naming_by_spelling (typed_by_name last)) by_token value None st (subst (AgreesWithOwnerList at) selecting has) alike
 
   block-joined : (noted : TypeNoted Name) (j k : ℕ) (cs : Tree ℕ (maybe constants)) (ts : Tree ℕ (maybe type_definitions)) (vs : Tree ℕ (maybe variables)) (ps : Tree ℕ (items procedure)) (st : Tree ℕ (maybe body))
@@ -243,29 +242,29 @@ module _ (l : ℕ → Name → Name) (at : ℕ → Option ℕ) (text : ℕ → N
         written = λ right all numbered has.
             let two = right_split objects P o.grown.bound (subst (Right objects) all_listed all) in
             let right_last : Right objects (typed_by_ordinal o.last) = subst (Right objects) (sym o.grown.is) (right_join objects o.grown.bound (typed_by_ordinal noted) two.1 right) in
-            let B : List (ℕ × Option ℕ) = owners_in_variable_section (constructors_before_variables j b) vs in
-            let C : List (ℕ × Option ℕ) = owners_in_procedures by_token (constructors_before_procedures j b) ps in
-            let s0 = owners_split at (identifiers_without_owners cs ++ (owners_in_type_section j ts ++ (B ++ C))) (owners_in_tree by_token None st) has in
-            let s1 = owners_split at (identifiers_without_owners cs) (owners_in_type_section j ts ++ (B ++ C)) s0.0 in
-            let s2 = owners_split at (owners_in_type_section j ts) (B ++ C) s1.1 in
+            let B : List (ℕ × Option ℕ) = identifier_owners_in_variable_section (constructors_before_variables j b) vs in
+            let C : List (ℕ × Option ℕ) = identifier_owners_in_procedures by_token (constructors_before_procedures j b) ps in
+            let s0 = owners_split at (identifiers_without_owners cs ++ (identifier_owners_in_type_section j ts ++ (B ++ C))) (identifier_owners_in_tree by_token None st) has in
+            let s1 = owners_split at (identifiers_without_owners cs) (identifier_owners_in_type_section j ts ++ (B ++ C)) s0.0 in
+            let s2 = owners_split at (identifier_owners_in_type_section j ts) (B ++ C) s1.1 in
             let s3 = owners_split at B C s2.1 in
             let r = q.written right_last two.0 (ap (λ s. relabel_procedures naming_by_spelling (label_from_ordinal naming_by_spelling) s kp nps) o.within.0 ∙ ap block_procedures numbered) s3.1 in
             let following_all : typed_scope q.last ≡ declare_procedure_names kp nps (scope_before_procedures k nb scope) = q.scoped ∙ ap (declare_procedure_names kp nps) o.within.0 in
             let variables-written : rename_fields_in_variable_section (renaming_by_record l) (constructors_before_variables j nb) (mapped_tree text value vs) ≡ mapped_tree (λ i. renaming_by_record l (at i) (text i)) value vs =
-            (λ i. rename_fields_in_variable_section (renaming_by_record l) (j + counted_type_section text value ts i) (mapped_tree text value vs)) ∙ variable_section-owners_in_tree l at text value (constructors_before_variables j b) vs s3.0 in
+            (λ i. rename_fields_in_variable_section (renaming_by_record l) (j + counted_type_section text value ts i) (mapped_tree text value vs)) ∙ variable_section-identifier_owners_in_tree l at text value (constructors_before_variables j b) vs s3.0 in
             let procedures-written : rename_fields_in_procedures (renaming_by_record l) (environment_after_variables (typed_by_name noted) j nb) (constructors_before_procedures j nb) nps ≡ mapped_tree (λ i. renaming_by_record l (at i) (text i)) value ps =
             (λ i. rename_fields_in_procedures (renaming_by_record l) (o.named i) (counted i) nps) ∙ r.0 in
             let environment : environment_after_procedures (environment_after_variables (typed_by_name noted) j nb) (constructors_before_procedures j nb) nps ≡ typed_by_name q.last = (λ i. environment_after_procedures (o.named i) (counted i) nps) ∙ q.following in
             let body-written : rename_fields (renaming_by_record l) (meanings naming_by_spelling (environment_after_procedures (environment_after_variables (typed_by_name noted) j nb) (constructors_before_procedures j nb) nps)) None (mapped_tree text value st) ≡ mapped_tree (λ i. renaming_by_record l (at i) (text i)) value st =
             ap (λ e. rename_fields (renaming_by_record l) (meanings naming_by_spelling e) None (mapped_tree text value st)) environment
             ∙ statements-written noted q.last (ordinal_after_procedures kp nps) q.below r.1 (declare_procedure_names kp nps (scope_before_procedures k nb scope)) following_all st q.fits (ap block_statements numbered) s0.1 in
-            λ i. forms_block (declares (identifiers_without_owners-all l at text value cs s1.0 i) (type_section-owners_in_tree l at text value j ts s2.0 i) (variables-written i) (procedures-written i)) (body-written i);
+            λ i. forms_block (declares (identifiers_without_owners-all l at text value cs s1.0 i) (type_section-identifier_owners_in_tree l at text value j ts s2.0 i) (variables-written i) (procedures-written i)) (body-written i);
       }
 
   -- the facts about a procedure that are needed for its block and for the later procedures
   record Entry (noted : TypeNoted Name) (j k : ℕ) (statements : Tree Label (maybe body)) (x : ℕ) (fs : Tree ℕ (maybe formals)) (b : Tree ℕ block) (closing : ℕ) (rest : Tree ℕ (items procedure)) : Type 0 where
     pub listed : List (TypedParameter Name)
-    pub pars : parameters_of (typed_by_name noted) j (mapped_tree text value (declares_procedure x fs b closing)) ≡ listed
+    pub pars : typed_parameters_of_procedure (typed_by_name noted) j (mapped_tree text value (declares_procedure x fs b closing)) ≡ listed
     pub inner_scope : typed_scope (inside_of noted k (text x) listed) ≡ declare_names (suc k) (formal_names (formal_sections (mapped_tree text value fs))) ((text x, k) ∷ typed_scope noted)
     pub inner_below : TypedBelow (ordinal_after_names (suc k) (formal_names (formal_sections (mapped_tree text value fs)))) (inside_of noted k (text x) listed)
     pub front : Descends (ordinal_after_names (suc k) (formal_names (formal_sections (mapped_tree text value fs)))) (bind_typed_parameters (label_typed (suc k) listed) (bind_procedure (declared k) (label_typed (suc k) listed) [])) k
@@ -347,17 +346,17 @@ module _ (l : ℕ → Name → Name) (at : ℕ → Option ℕ) (text : ℕ → N
             let parts = right_split objects (bind_typed_parameters qs []) (bind_procedure (declared k) qs []) (subst (Right objects) (bind_typed_parameters-append qs [] (bind_procedure (declared k) qs [])) three.1) in
             let right_own : Right objects (typed_by_ordinal own) = subst (Right objects) (sym (own_is noted k (text x) t.listed)) (parts.1.0, right) in
             let right_inner : Right objects (typed_by_ordinal inner) = subst (Right objects) (sym (inside_is noted k (text x) t.listed ∙ bind_typed_parameters-append qs (bind_procedure (declared k) qs []) env)) (right_join objects H env three.1 right) in
-            let s0 = owners_split at (owners_in_procedure by_token j p) (owners_in_procedures by_token (j + procedure_constructor_count p) rest) has in
-            let s1 = owners_split at (owners_in_formals j fs) (owners_in_block by_token (constructors_before_procedure_block j p) b ++ ((closing, None) ∷ [])) s0.0.1 in
-            let s2 = owners_split at (owners_in_block by_token (constructors_before_procedure_block j p) b) ((closing, None) ∷ []) s1.1 in
+            let s0 = owners_split at (identifier_owners_in_procedure by_token j p) (identifier_owners_in_procedures by_token (j + procedure_constructor_count p) rest) has in
+            let s1 = owners_split at (identifier_owners_in_formals j fs) (identifier_owners_in_block by_token (constructors_before_procedure_block j p) b ++ ((closing, None) ∷ [])) s0.0.1 in
+            let s2 = owners_split at (identifier_owners_in_block by_token (constructors_before_procedure_block j p) b) ((closing, None) ∷ []) s1.1 in
             let w = later.written right_own two.0 (ap rest_items numbered) s0.1 in
-            let block-written : rename_fields_in_block (renaming_by_record l) (bind_typed_parameters (parameters_of (typed_by_name noted) j np) (environment_after_heading (typed_by_name noted) j np)) (constructors_before_procedure_block j np) nb ≡ mapped_tree (λ i. renaming_by_record l (at i) (text i)) value b =
+            let block-written : rename_fields_in_block (renaming_by_record l) (bind_typed_parameters (typed_parameters_of_procedure (typed_by_name noted) j np) (environment_after_heading (typed_by_name noted) j np)) (constructors_before_procedure_block j np) nb ≡ mapped_tree (λ i. renaming_by_record l (at i) (text i)) value b =
             (λ i. rename_fields_in_block (renaming_by_record l) (bind_typed_parameters (t.pars i) (bind_procedure (text x) (t.pars i) (typed_by_name noted))) (j + counted_formals_section text value fs i) nb)
             ∙ (ap (λ z. rename_fields_in_block (renaming_by_record l) z (constructors_before_procedure_block j p) nb) (bind_typed_parameters-by_name (suc k) t.listed own)
             ∙ inside.written right_inner three.0 (ap (λ s. relabel_block naming_by_spelling (label_from_ordinal naming_by_spelling) s m nb) t.inner_scope ∙ ap (λ z. procedure_block (first_item (mapped_tree label value p) z)) numbered) s2.0) in
             let rest-written : rename_fields_in_procedures (renaming_by_record l) (environment_after_heading (typed_by_name noted) j np) (j + procedure_constructor_count np) nrest ≡ mapped_tree (λ i. renaming_by_record l (at i) (text i)) value rest =
             (λ i. rename_fields_in_procedures (renaming_by_record l) (bind_procedure (text x) (t.pars i) (typed_by_name noted)) (j + counted_procedure text value p i) nrest) ∙ w.0 in (
-              λ i. more (declares_procedure (renaming_by_record l (sym s0.0.0 i) (text x)) (formals-owners_in_tree l at text value j fs s1.0 i) (block-written i) (renaming_by_record l (sym s2.1.0 i) (text closing))) (rest-written i),
+              λ i. more (declares_procedure (renaming_by_record l (sym s0.0.0 i) (text x)) (formals-identifier_owners_in_tree l at text value j fs s1.0 i) (block-written i) (renaming_by_record l (sym s2.1.0 i) (text closing))) (rest-written i),
               w.1,
             );
       }
@@ -411,6 +410,6 @@ agreeing_table_is_owner_table-holds r owners named fits has = λ l.
     let n : ℕ = ordinal_after_block 7 (mapped_tree text value b) in
     let right : Right objects (all ++ outermost_environment naming_by_label) = bound_right n (all ++ outermost_environment naming_by_label) (descends_join n 7 0 all (outermost_environment naming_by_label) held.descends outermost-descends) in
     let two = right_split objects all (outermost_environment naming_by_label) right in
-    let s = owners_split (ordinal_in owners) (owners_in_block (meanings_by_token objects r) 0 b) ((p.closing, None) ∷ []) has.1 in
+    let s = owners_split (ordinal_in owners) (identifier_owners_in_block (meanings_by_token objects r) 0 b) ((p.closing, None) ∷ []) has.1 in
     let block-written = held.written two.1 two.0 (ap module_block named.numbering) s.0 in
     λ i. is_module (renaming_by_record l (sym has.0 i) (text p.name)) (block-written i) (renaming_by_record l (sym s.1.0 i) (text p.closing))

@@ -3,7 +3,7 @@
 use Rattle.std.proofs.Common.{◌≡◌, ℕ, List, [], ◌∷◌, ◌++◌, None, Option, option_and_then, refl, ap, ◌∙◌, sym}
 use Rattle.ob0_tree.specs.declared.tree.Role.{Role}
 use Rattle.ob0_tree.specs.declared.tree.Role.TheVariants as role
-use Rattle.ob0_tree.specs.Tree.{Sort, Tree, Item, item, adds, array_type, assigns, begins, branches, calls, compares, declares, declares_constant, declares_constants, declares_procedure, declares_type, declares_types, declares_variable, declares_variables, designator, else_branch, elsif_branch, empty, end, field, forms_block, identifiers, index, integer, is_module, listed, mapped_tree, more, multiplies, named_type, negation, no_arguments, no_fields, no_formals, none, occurrences, one, parenthesised, product, record_type, relates, repeat_loop, runs, some_arguments, some_fields, some_formals, sum, then_argument, then_fields, then_name, then_section, then_statement, value_section, variable_section, while_loop}
+use Rattle.ob0_tree.specs.Tree.{Sort, Tree, GrammarItem, item, adds, array_type, assigns, begins, branches, calls, compares, declares, declares_constant, declares_constants, declares_procedure, declares_type, declares_types, declares_variable, declares_variables, designator, else_branch, elsif_branch, empty, end, field, forms_block, identifiers, index, integer, is_module, listed, mapped_tree, more, multiplies, named_type, negation, no_arguments, no_fields, no_formals, none, occurrences, one, parenthesised, product, record_type, relates, repeat_loop, runs, some_arguments, some_fields, some_formals, sum, then_argument, then_fields, then_name, then_section, then_statement, value_section, variable_section, while_loop}
 use Rattle.ob0_language_names.specs.Names.{Name}
 use Rattle.ob0_language_types.specs.Expressions.{Meanings}
 use Rattle.ob0_language_types.specs.Typing.{field_type, type_of_variable_or_constant}
@@ -11,7 +11,7 @@ use Rattle.ob0_language_types.specs.WellTyped.{TypeMeanings}
 use Rattle.ob0_language_values.specs.Values.{Shape}
 use Rattle.ob0_language_fields.specs.Fields.{type_including_selector, record_ordinal, rename_fields}
 use Rattle.ob0_types_fields.specs.Owners.{renaming_by_record}
-use Rattle.ob0_types_fields.specs.Owned.{AgreesWithOwnerList, owners_in_tree, owner, type_after_selector, identifiers_without_owners, unowned_identifiers}
+use Rattle.ob0_types_fields.specs.Owned.{AgreesWithOwnerList, identifier_owners_in_tree, owner, type_after_selector, identifiers_without_owners, unowned_identifiers}
 
 pub owners_split : (at : ℕ → Option ℕ) (xs ys : List (ℕ × Option ℕ)) → AgreesWithOwnerList at (xs ++ ys) → AgreesWithOwnerList at xs × AgreesWithOwnerList at ys
 owners_split at [] ys h = (tt, h)
@@ -147,7 +147,7 @@ alike_split : {P : Type 0} (meaning : TypeMeanings Name) (m : Meanings ℕ Shape
 alike_split meaning m [] ys h = (tt, h)
 alike_split meaning m (x ∷ xs) ys h = let rest = alike_split meaning m xs ys h.1 in ((h.0, rest.0), rest.1)
 
-following-mapped_tree : {P : Type 0} {i : Item} (m : Meanings ℕ Shape P) (value : ℕ → ℕ) (s : Option Shape) (t : Tree ℕ (item i)) → type_including_selector s (mapped_tree m.written value t) ≡ type_after_selector m s t
+following-mapped_tree : {P : Type 0} {i : GrammarItem} (m : Meanings ℕ Shape P) (value : ℕ → ℕ) (s : Option Shape) (t : Tree ℕ (item i)) → type_including_selector s (mapped_tree m.written value t) ≡ type_after_selector m s t
 following-mapped_tree m value s (relates a b) = refl
 following-mapped_tree m value s (adds a b) = refl
 following-mapped_tree m value s (multiplies a b) = refl
@@ -311,7 +311,7 @@ types_split : {P Q : Type 0} (m : Meanings ℕ Shape P) (n : Meanings ℕ Shape 
 types_split m n [] ys h = (tt, h)
 types_split m n (x ∷ xs) ys h = let rest = types_split m n xs ys h.1 in ((h.0, rest.0), rest.1)
 
-type_after_selector-same : {P Q : Type 0} {i : Item} (m : Meanings ℕ Shape P) (n : Meanings ℕ Shape Q) (same : (x : ℕ) → m.written x ≡ n.written x) (s : Option Shape) (t : Tree ℕ (item i)) → type_after_selector m s t ≡ type_after_selector n s t
+type_after_selector-same : {P Q : Type 0} {i : GrammarItem} (m : Meanings ℕ Shape P) (n : Meanings ℕ Shape Q) (same : (x : ℕ) → m.written x ≡ n.written x) (s : Option Shape) (t : Tree ℕ (item i)) → type_after_selector m s t ≡ type_after_selector n s t
 type_after_selector-same m n same s (relates a b) = refl
 type_after_selector-same m n same s (adds a b) = refl
 type_after_selector-same m n same s (multiplies a b) = refl
@@ -337,84 +337,84 @@ type_after_selector-same m n same s (declares_variables a) = refl
 type_after_selector-same m n same s (declares_procedure a b c d) = refl
 type_after_selector-same m n same s (begins a) = refl
 
-pub owners_in_tree-alike : {P Q : Type 0} {sort : Sort} (m : Meanings ℕ Shape P) (n : Meanings ℕ Shape Q) (same : (x : ℕ) → m.written x ≡ n.written x) (s : Option Shape) (t : Tree ℕ sort) → SameTypes m n (occurrences t) → owners_in_tree m s t ≡ owners_in_tree n s t
-owners_in_tree-alike m n same s none e = refl
-owners_in_tree-alike m n same s (one a) e = λ i. owners_in_tree-alike m n same None a e i
-owners_in_tree-alike m n same s end e = refl
-owners_in_tree-alike m n same s (more a b) e =
+pub identifier_owners_in_tree-alike : {P Q : Type 0} {sort : Sort} (m : Meanings ℕ Shape P) (n : Meanings ℕ Shape Q) (same : (x : ℕ) → m.written x ≡ n.written x) (s : Option Shape) (t : Tree ℕ sort) → SameTypes m n (occurrences t) → identifier_owners_in_tree m s t ≡ identifier_owners_in_tree n s t
+identifier_owners_in_tree-alike m n same s none e = refl
+identifier_owners_in_tree-alike m n same s (one a) e = λ i. identifier_owners_in_tree-alike m n same None a e i
+identifier_owners_in_tree-alike m n same s end e = refl
+identifier_owners_in_tree-alike m n same s (more a b) e =
     let q = types_split m n (occurrences a) (occurrences b) e in
-    λ i. owners_in_tree-alike m n same s a q.0 i ++ (((λ i. owners_in_tree m (type_after_selector-same m n same s a i) b) ∙ owners_in_tree-alike m n same (type_after_selector n s a) b q.1) i)
-owners_in_tree-alike m n same s (compares a b) e =
+    λ i. identifier_owners_in_tree-alike m n same s a q.0 i ++ (((λ i. identifier_owners_in_tree m (type_after_selector-same m n same s a i) b) ∙ identifier_owners_in_tree-alike m n same (type_after_selector n s a) b q.1) i)
+identifier_owners_in_tree-alike m n same s (compares a b) e =
     let q0 = types_split m n (occurrences a) (occurrences b) e in
-    λ i. owners_in_tree-alike m n same None a q0.0 i ++ (owners_in_tree-alike m n same None b q0.1 i)
-owners_in_tree-alike m n same s (relates a b) e = λ i. owners_in_tree-alike m n same None b e i
-owners_in_tree-alike m n same s (sum a b c) e =
+    λ i. identifier_owners_in_tree-alike m n same None a q0.0 i ++ (identifier_owners_in_tree-alike m n same None b q0.1 i)
+identifier_owners_in_tree-alike m n same s (relates a b) e = λ i. identifier_owners_in_tree-alike m n same None b e i
+identifier_owners_in_tree-alike m n same s (sum a b c) e =
     let q0 = types_split m n (occurrences b) (occurrences c) e in
-    λ i. owners_in_tree-alike m n same None b q0.0 i ++ (owners_in_tree-alike m n same None c q0.1 i)
-owners_in_tree-alike m n same s (adds a b) e = λ i. owners_in_tree-alike m n same None b e i
-owners_in_tree-alike m n same s (product a b) e =
+    λ i. identifier_owners_in_tree-alike m n same None b q0.0 i ++ (identifier_owners_in_tree-alike m n same None c q0.1 i)
+identifier_owners_in_tree-alike m n same s (adds a b) e = λ i. identifier_owners_in_tree-alike m n same None b e i
+identifier_owners_in_tree-alike m n same s (product a b) e =
     let q0 = types_split m n (occurrences a) (occurrences b) e in
-    λ i. owners_in_tree-alike m n same None a q0.0 i ++ (owners_in_tree-alike m n same None b q0.1 i)
-owners_in_tree-alike m n same s (multiplies a b) e = λ i. owners_in_tree-alike m n same None b e i
-owners_in_tree-alike m n same s (designator a b) e = λ i. (a, None) ∷ (((ap (λ z. owners_in_tree m z b) e.0 ∙ owners_in_tree-alike m n same (type_of_variable_or_constant (n.object_for a)) b e.1) i))
-owners_in_tree-alike m n same s (integer a) e = refl
-owners_in_tree-alike m n same s (parenthesised a) e = λ i. owners_in_tree-alike m n same None a e i
-owners_in_tree-alike m n same s (negation a) e = λ i. owners_in_tree-alike m n same None a e i
-owners_in_tree-alike m n same s (field a) e = λ i. (a, owner s (same a i)) ∷ []
-owners_in_tree-alike m n same s (index a) e = λ i. owners_in_tree-alike m n same None a e i
-owners_in_tree-alike m n same s empty e = refl
-owners_in_tree-alike m n same s (assigns a b c) e =
+    λ i. identifier_owners_in_tree-alike m n same None a q0.0 i ++ (identifier_owners_in_tree-alike m n same None b q0.1 i)
+identifier_owners_in_tree-alike m n same s (multiplies a b) e = λ i. identifier_owners_in_tree-alike m n same None b e i
+identifier_owners_in_tree-alike m n same s (designator a b) e = λ i. (a, None) ∷ (((ap (λ z. identifier_owners_in_tree m z b) e.0 ∙ identifier_owners_in_tree-alike m n same (type_of_variable_or_constant (n.object_for a)) b e.1) i))
+identifier_owners_in_tree-alike m n same s (integer a) e = refl
+identifier_owners_in_tree-alike m n same s (parenthesised a) e = λ i. identifier_owners_in_tree-alike m n same None a e i
+identifier_owners_in_tree-alike m n same s (negation a) e = λ i. identifier_owners_in_tree-alike m n same None a e i
+identifier_owners_in_tree-alike m n same s (field a) e = λ i. (a, owner s (same a i)) ∷ []
+identifier_owners_in_tree-alike m n same s (index a) e = λ i. identifier_owners_in_tree-alike m n same None a e i
+identifier_owners_in_tree-alike m n same s empty e = refl
+identifier_owners_in_tree-alike m n same s (assigns a b c) e =
     let q0 = types_split m n (occurrences b) (occurrences c) e.1 in
-    λ i. (a, None) ∷ (((ap (λ z. owners_in_tree m z b) e.0 ∙ owners_in_tree-alike m n same (type_of_variable_or_constant (n.object_for a)) b q0.0) i) ++ (owners_in_tree-alike m n same None c q0.1 i))
-owners_in_tree-alike m n same s (calls a b) e = λ i. (a, None) ∷ (owners_in_tree-alike m n same None b e.1 i)
-owners_in_tree-alike m n same s (branches a b c d) e =
+    λ i. (a, None) ∷ (((ap (λ z. identifier_owners_in_tree m z b) e.0 ∙ identifier_owners_in_tree-alike m n same (type_of_variable_or_constant (n.object_for a)) b q0.0) i) ++ (identifier_owners_in_tree-alike m n same None c q0.1 i))
+identifier_owners_in_tree-alike m n same s (calls a b) e = λ i. (a, None) ∷ (identifier_owners_in_tree-alike m n same None b e.1 i)
+identifier_owners_in_tree-alike m n same s (branches a b c d) e =
     let q0 = types_split m n (occurrences a) (occurrences b ++ (occurrences c ++ (occurrences d))) e in
     let q1 = types_split m n (occurrences b) (occurrences c ++ (occurrences d)) q0.1 in
     let q2 = types_split m n (occurrences c) (occurrences d) q1.1 in
-    λ i. owners_in_tree-alike m n same None a q0.0 i ++ (owners_in_tree-alike m n same None b q1.0 i ++ (owners_in_tree-alike m n same None c q2.0 i ++ (owners_in_tree-alike m n same None d q2.1 i)))
-owners_in_tree-alike m n same s (while_loop a b) e =
+    λ i. identifier_owners_in_tree-alike m n same None a q0.0 i ++ (identifier_owners_in_tree-alike m n same None b q1.0 i ++ (identifier_owners_in_tree-alike m n same None c q2.0 i ++ (identifier_owners_in_tree-alike m n same None d q2.1 i)))
+identifier_owners_in_tree-alike m n same s (while_loop a b) e =
     let q0 = types_split m n (occurrences a) (occurrences b) e in
-    λ i. owners_in_tree-alike m n same None a q0.0 i ++ (owners_in_tree-alike m n same None b q0.1 i)
-owners_in_tree-alike m n same s (repeat_loop a b) e =
+    λ i. identifier_owners_in_tree-alike m n same None a q0.0 i ++ (identifier_owners_in_tree-alike m n same None b q0.1 i)
+identifier_owners_in_tree-alike m n same s (repeat_loop a b) e =
     let q0 = types_split m n (occurrences a) (occurrences b) e in
-    λ i. owners_in_tree-alike m n same None a q0.0 i ++ (owners_in_tree-alike m n same None b q0.1 i)
-owners_in_tree-alike m n same s no_arguments e = refl
-owners_in_tree-alike m n same s (some_arguments a b) e =
+    λ i. identifier_owners_in_tree-alike m n same None a q0.0 i ++ (identifier_owners_in_tree-alike m n same None b q0.1 i)
+identifier_owners_in_tree-alike m n same s no_arguments e = refl
+identifier_owners_in_tree-alike m n same s (some_arguments a b) e =
     let q0 = types_split m n (occurrences a) (occurrences b) e in
-    λ i. owners_in_tree-alike m n same None a q0.0 i ++ (owners_in_tree-alike m n same None b q0.1 i)
-owners_in_tree-alike m n same s (then_argument a) e = λ i. owners_in_tree-alike m n same None a e i
-owners_in_tree-alike m n same s (runs a b) e =
+    λ i. identifier_owners_in_tree-alike m n same None a q0.0 i ++ (identifier_owners_in_tree-alike m n same None b q0.1 i)
+identifier_owners_in_tree-alike m n same s (then_argument a) e = λ i. identifier_owners_in_tree-alike m n same None a e i
+identifier_owners_in_tree-alike m n same s (runs a b) e =
     let q0 = types_split m n (occurrences a) (occurrences b) e in
-    λ i. owners_in_tree-alike m n same None a q0.0 i ++ (owners_in_tree-alike m n same None b q0.1 i)
-owners_in_tree-alike m n same s (then_statement a) e = λ i. owners_in_tree-alike m n same None a e i
-owners_in_tree-alike m n same s (elsif_branch a b) e =
+    λ i. identifier_owners_in_tree-alike m n same None a q0.0 i ++ (identifier_owners_in_tree-alike m n same None b q0.1 i)
+identifier_owners_in_tree-alike m n same s (then_statement a) e = λ i. identifier_owners_in_tree-alike m n same None a e i
+identifier_owners_in_tree-alike m n same s (elsif_branch a b) e =
     let q0 = types_split m n (occurrences a) (occurrences b) e in
-    λ i. owners_in_tree-alike m n same None a q0.0 i ++ (owners_in_tree-alike m n same None b q0.1 i)
-owners_in_tree-alike m n same s (else_branch a) e = λ i. owners_in_tree-alike m n same None a e i
-owners_in_tree-alike m n same s (listed a b) e = refl
-owners_in_tree-alike m n same s (then_name a) e = refl
-owners_in_tree-alike m n same s (named_type a) e = refl
-owners_in_tree-alike m n same s (array_type a b) e = refl
-owners_in_tree-alike m n same s (record_type a b) e = refl
-owners_in_tree-alike m n same s no_fields e = refl
-owners_in_tree-alike m n same s (some_fields a b) e = refl
-owners_in_tree-alike m n same s (then_fields a) e = refl
-owners_in_tree-alike m n same s no_formals e = refl
-owners_in_tree-alike m n same s (some_formals a b) e = refl
-owners_in_tree-alike m n same s (value_section a b) e = refl
-owners_in_tree-alike m n same s (variable_section a b) e = refl
-owners_in_tree-alike m n same s (then_section a) e = refl
-owners_in_tree-alike m n same s (declares_constant a b) e = refl
-owners_in_tree-alike m n same s (declares_constants a) e = refl
-owners_in_tree-alike m n same s (declares_type a b) e = refl
-owners_in_tree-alike m n same s (declares_types a) e = refl
-owners_in_tree-alike m n same s (declares_variable a b) e = refl
-owners_in_tree-alike m n same s (declares_variables a) e = refl
-owners_in_tree-alike m n same s (declares_procedure a b c d) e = refl
-owners_in_tree-alike m n same s (declares a b c d) e = refl
-owners_in_tree-alike m n same s (begins a) e = λ i. owners_in_tree-alike m n same None a e i
-owners_in_tree-alike m n same s (forms_block a b) e = refl
-owners_in_tree-alike m n same s (is_module a b c) e = refl
+    λ i. identifier_owners_in_tree-alike m n same None a q0.0 i ++ (identifier_owners_in_tree-alike m n same None b q0.1 i)
+identifier_owners_in_tree-alike m n same s (else_branch a) e = λ i. identifier_owners_in_tree-alike m n same None a e i
+identifier_owners_in_tree-alike m n same s (listed a b) e = refl
+identifier_owners_in_tree-alike m n same s (then_name a) e = refl
+identifier_owners_in_tree-alike m n same s (named_type a) e = refl
+identifier_owners_in_tree-alike m n same s (array_type a b) e = refl
+identifier_owners_in_tree-alike m n same s (record_type a b) e = refl
+identifier_owners_in_tree-alike m n same s no_fields e = refl
+identifier_owners_in_tree-alike m n same s (some_fields a b) e = refl
+identifier_owners_in_tree-alike m n same s (then_fields a) e = refl
+identifier_owners_in_tree-alike m n same s no_formals e = refl
+identifier_owners_in_tree-alike m n same s (some_formals a b) e = refl
+identifier_owners_in_tree-alike m n same s (value_section a b) e = refl
+identifier_owners_in_tree-alike m n same s (variable_section a b) e = refl
+identifier_owners_in_tree-alike m n same s (then_section a) e = refl
+identifier_owners_in_tree-alike m n same s (declares_constant a b) e = refl
+identifier_owners_in_tree-alike m n same s (declares_constants a) e = refl
+identifier_owners_in_tree-alike m n same s (declares_type a b) e = refl
+identifier_owners_in_tree-alike m n same s (declares_types a) e = refl
+identifier_owners_in_tree-alike m n same s (declares_variable a b) e = refl
+identifier_owners_in_tree-alike m n same s (declares_variables a) e = refl
+identifier_owners_in_tree-alike m n same s (declares_procedure a b c d) e = refl
+identifier_owners_in_tree-alike m n same s (declares a b c d) e = refl
+identifier_owners_in_tree-alike m n same s (begins a) e = λ i. identifier_owners_in_tree-alike m n same None a e i
+identifier_owners_in_tree-alike m n same s (forms_block a b) e = refl
+identifier_owners_in_tree-alike m n same s (is_module a b c) e = refl
 
 pub recorded-alike : {P Q : Type 0} {sort : Sort} (m : Meanings ℕ Shape P) (n : Meanings ℕ Shape Q) (same : (x : ℕ) → m.written x ≡ n.written x) (s : Option Shape) (t : Tree ℕ sort) → SameTypes m n (occurrences t) → recorded m s t ≡ recorded n s t
 recorded-alike m n same s none e = refl

@@ -15,7 +15,7 @@ use Rattle.ob0_language_types.specs.Declarations.{constructors_before_procedure_
 use Rattle.ob0_language_types.specs.Expressions.{Meanings}
 use Rattle.ob0_language_types.specs.Typing.{constructor_count, group_constructor_count, type_of_variable_or_constant}
 use Rattle.ob0_language_values.specs.Values.{Shape}
-use Rattle.ob0_types_fields.specs.Owned.{AgreesWithOwnerList, TableWithEnteredOwnersIsOwnerTable, fields_with_owners, owners_in_tree, owners_in_block, owners_in_formals, owners_in_group, owners_in_groups, owners_in_module, owners_in_procedure, owners_in_procedures, owners_in_parameter_section, owners_in_parameter_sections, owners_in_resolution, owners_in_type, owners_in_type_section, owners_in_types, owners_in_variable_section, owners_in_variables, type_after_selector, identifiers_without_owners, unowned_identifiers, table_with_owners}
+use Rattle.ob0_types_fields.specs.Owned.{AgreesWithOwnerList, TableWithEnteredOwnersIsOwnerTable, fields_with_owners, identifier_owners_in_tree, identifier_owners_in_block, identifier_owners_in_formals, identifier_owners_in_group, identifier_owners_in_groups, identifier_owners_in_module, identifier_owners_in_procedure, identifier_owners_in_procedures, identifier_owners_in_parameter_section, identifier_owners_in_parameter_sections, identifier_owners_in_resolution, identifier_owners_in_type, identifier_owners_in_type_section, identifier_owners_in_types, identifier_owners_in_variable_section, identifier_owners_in_variables, type_after_selector, identifiers_without_owners, unowned_identifiers, table_with_owners}
 use Rattle.ob0_types_fields.proofs.OwnedModules.{agreeing_table_is_owner_table-holds}
 
 abbrev pub tokens : List (ℕ × Option ℕ) → List ℕ
@@ -31,60 +31,60 @@ both-tokens [] ys (u ∷ us) vs e f = absurd (cc)
 both-tokens (x ∷ xs) ys [] vs e f = absurd (cc)
 both-tokens (x ∷ xs) ys (u ∷ us) vs e f = map-append (λ x. x.0) (x ∷ xs) ys ∙ ((λ i. e i ++ f i) ∙ sym (map-append (λ x. x.1) (u ∷ us) vs))
 
-pub owners_in_tree-tokens : {P : Type 0} {sort : Sort} (m : Meanings ℕ Shape P) (s : Option Shape) (t : Tree ℕ sort) → tokens (owners_in_tree m s t) ≡ names_without_roles (identifiers role.Declaring t)
-owners_in_tree-tokens m s none = refl
-owners_in_tree-tokens m s (one a) = owners_in_tree-tokens m None a
-owners_in_tree-tokens m s end = refl
-owners_in_tree-tokens m s (more a b) = both-tokens (owners_in_tree m s a) (owners_in_tree m (type_after_selector m s a) b) (identifiers role.Declaring a) (identifiers role.Declaring b) (owners_in_tree-tokens m s a) (owners_in_tree-tokens m (type_after_selector m s a) b)
-owners_in_tree-tokens m s (compares a b) = both-tokens (owners_in_tree m None a) (owners_in_tree m None b) (identifiers role.Declaring a) (identifiers role.Declaring b) (owners_in_tree-tokens m None a) (owners_in_tree-tokens m None b)
-owners_in_tree-tokens m s (relates a b) = owners_in_tree-tokens m None b
-owners_in_tree-tokens m s (sum a b c) = both-tokens (owners_in_tree m None b) (owners_in_tree m None c) (identifiers role.Declaring b) (identifiers role.Declaring c) (owners_in_tree-tokens m None b) (owners_in_tree-tokens m None c)
-owners_in_tree-tokens m s (adds a b) = owners_in_tree-tokens m None b
-owners_in_tree-tokens m s (product a b) = both-tokens (owners_in_tree m None a) (owners_in_tree m None b) (identifiers role.Declaring a) (identifiers role.Declaring b) (owners_in_tree-tokens m None a) (owners_in_tree-tokens m None b)
-owners_in_tree-tokens m s (multiplies a b) = owners_in_tree-tokens m None b
-owners_in_tree-tokens m s (designator a b) = ap (λ z. a ∷ z) (owners_in_tree-tokens m (type_of_variable_or_constant (m.object_for a)) b)
-owners_in_tree-tokens m s (integer a) = refl
-owners_in_tree-tokens m s (parenthesised a) = owners_in_tree-tokens m None a
-owners_in_tree-tokens m s (negation a) = owners_in_tree-tokens m None a
-owners_in_tree-tokens m s (field a) = refl
-owners_in_tree-tokens m s (index a) = owners_in_tree-tokens m None a
-owners_in_tree-tokens m s empty = refl
-owners_in_tree-tokens m s (assigns a b c) = ap (λ z. a ∷ z) (both-tokens (owners_in_tree m (type_of_variable_or_constant (m.object_for a)) b) (owners_in_tree m None c) (identifiers role.Declaring b) (identifiers role.Declaring c) (owners_in_tree-tokens m (type_of_variable_or_constant (m.object_for a)) b) (owners_in_tree-tokens m None c))
-owners_in_tree-tokens m s (calls a b) = ap (λ z. a ∷ z) (owners_in_tree-tokens m None b)
-owners_in_tree-tokens m s (branches a b c d) = both-tokens (owners_in_tree m None a) (owners_in_tree m None b ++ (owners_in_tree m None c ++ (owners_in_tree m None d))) (identifiers role.Declaring a) (identifiers role.Declaring b ++ (identifiers role.Declaring c ++ (identifiers role.Declaring d))) (owners_in_tree-tokens m None a) (both-tokens (owners_in_tree m None b) (owners_in_tree m None c ++ (owners_in_tree m None d)) (identifiers role.Declaring b) (identifiers role.Declaring c ++ (identifiers role.Declaring d)) (owners_in_tree-tokens m None b) (both-tokens (owners_in_tree m None c) (owners_in_tree m None d) (identifiers role.Declaring c) (identifiers role.Declaring d) (owners_in_tree-tokens m None c) (owners_in_tree-tokens m None d)))
-owners_in_tree-tokens m s (while_loop a b) = both-tokens (owners_in_tree m None a) (owners_in_tree m None b) (identifiers role.Declaring a) (identifiers role.Declaring b) (owners_in_tree-tokens m None a) (owners_in_tree-tokens m None b)
-owners_in_tree-tokens m s (repeat_loop a b) = both-tokens (owners_in_tree m None a) (owners_in_tree m None b) (identifiers role.Declaring a) (identifiers role.Declaring b) (owners_in_tree-tokens m None a) (owners_in_tree-tokens m None b)
-owners_in_tree-tokens m s no_arguments = refl
-owners_in_tree-tokens m s (some_arguments a b) = both-tokens (owners_in_tree m None a) (owners_in_tree m None b) (identifiers role.Declaring a) (identifiers role.Declaring b) (owners_in_tree-tokens m None a) (owners_in_tree-tokens m None b)
-owners_in_tree-tokens m s (then_argument a) = owners_in_tree-tokens m None a
-owners_in_tree-tokens m s (runs a b) = both-tokens (owners_in_tree m None a) (owners_in_tree m None b) (identifiers role.Declaring a) (identifiers role.Declaring b) (owners_in_tree-tokens m None a) (owners_in_tree-tokens m None b)
-owners_in_tree-tokens m s (then_statement a) = owners_in_tree-tokens m None a
-owners_in_tree-tokens m s (elsif_branch a b) = both-tokens (owners_in_tree m None a) (owners_in_tree m None b) (identifiers role.Declaring a) (identifiers role.Declaring b) (owners_in_tree-tokens m None a) (owners_in_tree-tokens m None b)
-owners_in_tree-tokens m s (else_branch a) = owners_in_tree-tokens m None a
-owners_in_tree-tokens m s (listed a b) = identifiers_without_owners-tokens (identifiers role.Declaring (listed a b))
-owners_in_tree-tokens m s (then_name a) = identifiers_without_owners-tokens (identifiers role.Declaring (then_name a))
-owners_in_tree-tokens m s (named_type a) = identifiers_without_owners-tokens (identifiers role.Declaring (named_type a))
-owners_in_tree-tokens m s (array_type a b) = identifiers_without_owners-tokens (identifiers role.Declaring (array_type a b))
-owners_in_tree-tokens m s (record_type a b) = identifiers_without_owners-tokens (identifiers role.Declaring (record_type a b))
-owners_in_tree-tokens m s no_fields = identifiers_without_owners-tokens (identifiers role.Declaring no_fields)
-owners_in_tree-tokens m s (some_fields a b) = identifiers_without_owners-tokens (identifiers role.Declaring (some_fields a b))
-owners_in_tree-tokens m s (then_fields a) = identifiers_without_owners-tokens (identifiers role.Declaring (then_fields a))
-owners_in_tree-tokens m s no_formals = identifiers_without_owners-tokens (identifiers role.Declaring no_formals)
-owners_in_tree-tokens m s (some_formals a b) = identifiers_without_owners-tokens (identifiers role.Declaring (some_formals a b))
-owners_in_tree-tokens m s (value_section a b) = identifiers_without_owners-tokens (identifiers role.Declaring (value_section a b))
-owners_in_tree-tokens m s (variable_section a b) = identifiers_without_owners-tokens (identifiers role.Declaring (variable_section a b))
-owners_in_tree-tokens m s (then_section a) = identifiers_without_owners-tokens (identifiers role.Declaring (then_section a))
-owners_in_tree-tokens m s (declares_constant a b) = identifiers_without_owners-tokens (identifiers role.Declaring (declares_constant a b))
-owners_in_tree-tokens m s (declares_constants a) = identifiers_without_owners-tokens (identifiers role.Declaring (declares_constants a))
-owners_in_tree-tokens m s (declares_type a b) = identifiers_without_owners-tokens (identifiers role.Declaring (declares_type a b))
-owners_in_tree-tokens m s (declares_types a) = identifiers_without_owners-tokens (identifiers role.Declaring (declares_types a))
-owners_in_tree-tokens m s (declares_variable a b) = identifiers_without_owners-tokens (identifiers role.Declaring (declares_variable a b))
-owners_in_tree-tokens m s (declares_variables a) = identifiers_without_owners-tokens (identifiers role.Declaring (declares_variables a))
-owners_in_tree-tokens m s (declares_procedure a b c d) = identifiers_without_owners-tokens (identifiers role.Declaring (declares_procedure a b c d))
-owners_in_tree-tokens m s (declares a b c d) = identifiers_without_owners-tokens (identifiers role.Declaring (declares a b c d))
-owners_in_tree-tokens m s (begins a) = owners_in_tree-tokens m None a
-owners_in_tree-tokens m s (forms_block a b) = identifiers_without_owners-tokens (identifiers role.Declaring (forms_block a b))
-owners_in_tree-tokens m s (is_module a b c) = identifiers_without_owners-tokens (identifiers role.Declaring (is_module a b c))
+pub identifier_owners_in_tree-tokens : {P : Type 0} {sort : Sort} (m : Meanings ℕ Shape P) (s : Option Shape) (t : Tree ℕ sort) → tokens (identifier_owners_in_tree m s t) ≡ names_without_roles (identifiers role.Declaring t)
+identifier_owners_in_tree-tokens m s none = refl
+identifier_owners_in_tree-tokens m s (one a) = identifier_owners_in_tree-tokens m None a
+identifier_owners_in_tree-tokens m s end = refl
+identifier_owners_in_tree-tokens m s (more a b) = both-tokens (identifier_owners_in_tree m s a) (identifier_owners_in_tree m (type_after_selector m s a) b) (identifiers role.Declaring a) (identifiers role.Declaring b) (identifier_owners_in_tree-tokens m s a) (identifier_owners_in_tree-tokens m (type_after_selector m s a) b)
+identifier_owners_in_tree-tokens m s (compares a b) = both-tokens (identifier_owners_in_tree m None a) (identifier_owners_in_tree m None b) (identifiers role.Declaring a) (identifiers role.Declaring b) (identifier_owners_in_tree-tokens m None a) (identifier_owners_in_tree-tokens m None b)
+identifier_owners_in_tree-tokens m s (relates a b) = identifier_owners_in_tree-tokens m None b
+identifier_owners_in_tree-tokens m s (sum a b c) = both-tokens (identifier_owners_in_tree m None b) (identifier_owners_in_tree m None c) (identifiers role.Declaring b) (identifiers role.Declaring c) (identifier_owners_in_tree-tokens m None b) (identifier_owners_in_tree-tokens m None c)
+identifier_owners_in_tree-tokens m s (adds a b) = identifier_owners_in_tree-tokens m None b
+identifier_owners_in_tree-tokens m s (product a b) = both-tokens (identifier_owners_in_tree m None a) (identifier_owners_in_tree m None b) (identifiers role.Declaring a) (identifiers role.Declaring b) (identifier_owners_in_tree-tokens m None a) (identifier_owners_in_tree-tokens m None b)
+identifier_owners_in_tree-tokens m s (multiplies a b) = identifier_owners_in_tree-tokens m None b
+identifier_owners_in_tree-tokens m s (designator a b) = ap (λ z. a ∷ z) (identifier_owners_in_tree-tokens m (type_of_variable_or_constant (m.object_for a)) b)
+identifier_owners_in_tree-tokens m s (integer a) = refl
+identifier_owners_in_tree-tokens m s (parenthesised a) = identifier_owners_in_tree-tokens m None a
+identifier_owners_in_tree-tokens m s (negation a) = identifier_owners_in_tree-tokens m None a
+identifier_owners_in_tree-tokens m s (field a) = refl
+identifier_owners_in_tree-tokens m s (index a) = identifier_owners_in_tree-tokens m None a
+identifier_owners_in_tree-tokens m s empty = refl
+identifier_owners_in_tree-tokens m s (assigns a b c) = ap (λ z. a ∷ z) (both-tokens (identifier_owners_in_tree m (type_of_variable_or_constant (m.object_for a)) b) (identifier_owners_in_tree m None c) (identifiers role.Declaring b) (identifiers role.Declaring c) (identifier_owners_in_tree-tokens m (type_of_variable_or_constant (m.object_for a)) b) (identifier_owners_in_tree-tokens m None c))
+identifier_owners_in_tree-tokens m s (calls a b) = ap (λ z. a ∷ z) (identifier_owners_in_tree-tokens m None b)
+identifier_owners_in_tree-tokens m s (branches a b c d) = both-tokens (identifier_owners_in_tree m None a) (identifier_owners_in_tree m None b ++ (identifier_owners_in_tree m None c ++ (identifier_owners_in_tree m None d))) (identifiers role.Declaring a) (identifiers role.Declaring b ++ (identifiers role.Declaring c ++ (identifiers role.Declaring d))) (identifier_owners_in_tree-tokens m None a) (both-tokens (identifier_owners_in_tree m None b) (identifier_owners_in_tree m None c ++ (identifier_owners_in_tree m None d)) (identifiers role.Declaring b) (identifiers role.Declaring c ++ (identifiers role.Declaring d)) (identifier_owners_in_tree-tokens m None b) (both-tokens (identifier_owners_in_tree m None c) (identifier_owners_in_tree m None d) (identifiers role.Declaring c) (identifiers role.Declaring d) (identifier_owners_in_tree-tokens m None c) (identifier_owners_in_tree-tokens m None d)))
+identifier_owners_in_tree-tokens m s (while_loop a b) = both-tokens (identifier_owners_in_tree m None a) (identifier_owners_in_tree m None b) (identifiers role.Declaring a) (identifiers role.Declaring b) (identifier_owners_in_tree-tokens m None a) (identifier_owners_in_tree-tokens m None b)
+identifier_owners_in_tree-tokens m s (repeat_loop a b) = both-tokens (identifier_owners_in_tree m None a) (identifier_owners_in_tree m None b) (identifiers role.Declaring a) (identifiers role.Declaring b) (identifier_owners_in_tree-tokens m None a) (identifier_owners_in_tree-tokens m None b)
+identifier_owners_in_tree-tokens m s no_arguments = refl
+identifier_owners_in_tree-tokens m s (some_arguments a b) = both-tokens (identifier_owners_in_tree m None a) (identifier_owners_in_tree m None b) (identifiers role.Declaring a) (identifiers role.Declaring b) (identifier_owners_in_tree-tokens m None a) (identifier_owners_in_tree-tokens m None b)
+identifier_owners_in_tree-tokens m s (then_argument a) = identifier_owners_in_tree-tokens m None a
+identifier_owners_in_tree-tokens m s (runs a b) = both-tokens (identifier_owners_in_tree m None a) (identifier_owners_in_tree m None b) (identifiers role.Declaring a) (identifiers role.Declaring b) (identifier_owners_in_tree-tokens m None a) (identifier_owners_in_tree-tokens m None b)
+identifier_owners_in_tree-tokens m s (then_statement a) = identifier_owners_in_tree-tokens m None a
+identifier_owners_in_tree-tokens m s (elsif_branch a b) = both-tokens (identifier_owners_in_tree m None a) (identifier_owners_in_tree m None b) (identifiers role.Declaring a) (identifiers role.Declaring b) (identifier_owners_in_tree-tokens m None a) (identifier_owners_in_tree-tokens m None b)
+identifier_owners_in_tree-tokens m s (else_branch a) = identifier_owners_in_tree-tokens m None a
+identifier_owners_in_tree-tokens m s (listed a b) = identifiers_without_owners-tokens (identifiers role.Declaring (listed a b))
+identifier_owners_in_tree-tokens m s (then_name a) = identifiers_without_owners-tokens (identifiers role.Declaring (then_name a))
+identifier_owners_in_tree-tokens m s (named_type a) = identifiers_without_owners-tokens (identifiers role.Declaring (named_type a))
+identifier_owners_in_tree-tokens m s (array_type a b) = identifiers_without_owners-tokens (identifiers role.Declaring (array_type a b))
+identifier_owners_in_tree-tokens m s (record_type a b) = identifiers_without_owners-tokens (identifiers role.Declaring (record_type a b))
+identifier_owners_in_tree-tokens m s no_fields = identifiers_without_owners-tokens (identifiers role.Declaring no_fields)
+identifier_owners_in_tree-tokens m s (some_fields a b) = identifiers_without_owners-tokens (identifiers role.Declaring (some_fields a b))
+identifier_owners_in_tree-tokens m s (then_fields a) = identifiers_without_owners-tokens (identifiers role.Declaring (then_fields a))
+identifier_owners_in_tree-tokens m s no_formals = identifiers_without_owners-tokens (identifiers role.Declaring no_formals)
+identifier_owners_in_tree-tokens m s (some_formals a b) = identifiers_without_owners-tokens (identifiers role.Declaring (some_formals a b))
+identifier_owners_in_tree-tokens m s (value_section a b) = identifiers_without_owners-tokens (identifiers role.Declaring (value_section a b))
+identifier_owners_in_tree-tokens m s (variable_section a b) = identifiers_without_owners-tokens (identifiers role.Declaring (variable_section a b))
+identifier_owners_in_tree-tokens m s (then_section a) = identifiers_without_owners-tokens (identifiers role.Declaring (then_section a))
+identifier_owners_in_tree-tokens m s (declares_constant a b) = identifiers_without_owners-tokens (identifiers role.Declaring (declares_constant a b))
+identifier_owners_in_tree-tokens m s (declares_constants a) = identifiers_without_owners-tokens (identifiers role.Declaring (declares_constants a))
+identifier_owners_in_tree-tokens m s (declares_type a b) = identifiers_without_owners-tokens (identifiers role.Declaring (declares_type a b))
+identifier_owners_in_tree-tokens m s (declares_types a) = identifiers_without_owners-tokens (identifiers role.Declaring (declares_types a))
+identifier_owners_in_tree-tokens m s (declares_variable a b) = identifiers_without_owners-tokens (identifiers role.Declaring (declares_variable a b))
+identifier_owners_in_tree-tokens m s (declares_variables a) = identifiers_without_owners-tokens (identifiers role.Declaring (declares_variables a))
+identifier_owners_in_tree-tokens m s (declares_procedure a b c d) = identifiers_without_owners-tokens (identifiers role.Declaring (declares_procedure a b c d))
+identifier_owners_in_tree-tokens m s (declares a b c d) = identifiers_without_owners-tokens (identifiers role.Declaring (declares a b c d))
+identifier_owners_in_tree-tokens m s (begins a) = identifier_owners_in_tree-tokens m None a
+identifier_owners_in_tree-tokens m s (forms_block a b) = identifiers_without_owners-tokens (identifiers role.Declaring (forms_block a b))
+identifier_owners_in_tree-tokens m s (is_module a b c) = identifiers_without_owners-tokens (identifiers role.Declaring (is_module a b c))
 
 further-tokens : (k : ℕ) (ns : Tree ℕ (items further_name)) → tokens (map (λ x. (x, Some k)) (further_names ns)) ≡ names_without_roles (identifiers role.FieldName ns)
 further-tokens k end = refl
@@ -97,82 +97,82 @@ plain-tokens : {sort : Sort} (t : Tree ℕ sort) → tokens (identifiers_without
 plain-tokens t = identifiers_without_owners-tokens (identifiers role.Declaring t)
 
 mutual
-  type-tokens : (k : ℕ) (t : Tree ℕ written_type) → tokens (owners_in_type k t) ≡ names_without_roles (identifiers role.Declaring t)
+  type-tokens : (k : ℕ) (t : Tree ℕ written_type) → tokens (identifier_owners_in_type k t) ≡ names_without_roles (identifiers role.Declaring t)
   type-tokens k (named_type x) = refl
-  type-tokens k (array_type e t) = both-tokens (identifiers_without_owners e) (owners_in_type (suc k) t) (identifiers role.Declaring e) (identifiers role.Declaring t) (plain-tokens e) (type-tokens (suc k) t)
+  type-tokens k (array_type e t) = both-tokens (identifiers_without_owners e) (identifier_owners_in_type (suc k) t) (identifiers role.Declaring e) (identifiers role.Declaring t) (plain-tokens e) (type-tokens (suc k) t)
   type-tokens k (record_type g rest) =
-      both-tokens (owners_in_group k (suc k) g) (owners_in_groups k (suc k + group_constructor_count g) rest) (identifiers role.Declaring g) (identifiers role.Declaring rest) (group-tokens k (suc k) g) (groups-tokens k (suc k + group_constructor_count g) rest)
+      both-tokens (identifier_owners_in_group k (suc k) g) (identifier_owners_in_groups k (suc k + group_constructor_count g) rest) (identifiers role.Declaring g) (identifiers role.Declaring rest) (group-tokens k (suc k) g) (groups-tokens k (suc k + group_constructor_count g) rest)
 
-  group-tokens : (r k : ℕ) (g : Tree ℕ fields) → tokens (owners_in_group r k g) ≡ names_without_roles (identifiers role.Declaring g)
+  group-tokens : (r k : ℕ) (g : Tree ℕ fields) → tokens (identifier_owners_in_group r k g) ≡ names_without_roles (identifiers role.Declaring g)
   group-tokens r k no_fields = refl
-  group-tokens r k (some_fields ns t) = both-tokens (map (λ x. (x, Some r)) (names_in_list ns)) (owners_in_type k t) (identifiers role.FieldName ns) (identifiers role.Declaring t) (names-tokens r ns) (type-tokens k t)
+  group-tokens r k (some_fields ns t) = both-tokens (map (λ x. (x, Some r)) (names_in_list ns)) (identifier_owners_in_type k t) (identifiers role.FieldName ns) (identifiers role.Declaring t) (names-tokens r ns) (type-tokens k t)
 
-  groups-tokens : (r k : ℕ) (gs : Tree ℕ (items further_fields)) → tokens (owners_in_groups r k gs) ≡ names_without_roles (identifiers role.Declaring gs)
+  groups-tokens : (r k : ℕ) (gs : Tree ℕ (items further_fields)) → tokens (identifier_owners_in_groups r k gs) ≡ names_without_roles (identifiers role.Declaring gs)
   groups-tokens r k end = refl
   groups-tokens r k (more (then_fields g) rest) =
-      both-tokens (owners_in_group r k g) (owners_in_groups r (k + group_constructor_count g) rest) (identifiers role.Declaring g) (identifiers role.Declaring rest) (group-tokens r k g) (groups-tokens r (k + group_constructor_count g) rest)
+      both-tokens (identifier_owners_in_group r k g) (identifier_owners_in_groups r (k + group_constructor_count g) rest) (identifiers role.Declaring g) (identifiers role.Declaring rest) (group-tokens r k g) (groups-tokens r (k + group_constructor_count g) rest)
 
-types-tokens : (k : ℕ) (ds : Tree ℕ (items type_definition)) → tokens (owners_in_types k ds) ≡ names_without_roles (identifiers role.Declaring ds)
+types-tokens : (k : ℕ) (ds : Tree ℕ (items type_definition)) → tokens (identifier_owners_in_types k ds) ≡ names_without_roles (identifiers role.Declaring ds)
 types-tokens k end = refl
 types-tokens k (more (declares_type x u) ds) =
-    ap (λ z. x ∷ z) (both-tokens (owners_in_type k u) (owners_in_types (k + constructor_count u) ds) (identifiers role.Declaring u) (identifiers role.Declaring ds) (type-tokens k u) (types-tokens (k + constructor_count u) ds))
+    ap (λ z. x ∷ z) (both-tokens (identifier_owners_in_type k u) (identifier_owners_in_types (k + constructor_count u) ds) (identifiers role.Declaring u) (identifiers role.Declaring ds) (type-tokens k u) (types-tokens (k + constructor_count u) ds))
 
-type_section-tokens : (k : ℕ) (ts : Tree ℕ (maybe type_definitions)) → tokens (owners_in_type_section k ts) ≡ names_without_roles (identifiers role.Declaring ts)
+type_section-tokens : (k : ℕ) (ts : Tree ℕ (maybe type_definitions)) → tokens (identifier_owners_in_type_section k ts) ≡ names_without_roles (identifiers role.Declaring ts)
 type_section-tokens k none = refl
 type_section-tokens k (one (declares_types ts)) = types-tokens k ts
 
-typed-tokens : (k : ℕ) (ns : Tree ℕ names) (u : Tree ℕ written_type) → tokens (identifiers_without_owners ns ++ owners_in_type k u) ≡ names_without_roles (identifiers role.Declaring ns ++ identifiers role.Declaring u)
-typed-tokens k ns u = both-tokens (identifiers_without_owners ns) (owners_in_type k u) (identifiers role.Declaring ns) (identifiers role.Declaring u) (plain-tokens ns) (type-tokens k u)
+typed-tokens : (k : ℕ) (ns : Tree ℕ names) (u : Tree ℕ written_type) → tokens (identifiers_without_owners ns ++ identifier_owners_in_type k u) ≡ names_without_roles (identifiers role.Declaring ns ++ identifiers role.Declaring u)
+typed-tokens k ns u = both-tokens (identifiers_without_owners ns) (identifier_owners_in_type k u) (identifiers role.Declaring ns) (identifiers role.Declaring u) (plain-tokens ns) (type-tokens k u)
 
-variables-tokens : (k : ℕ) (gs : Tree ℕ (items variable)) → tokens (owners_in_variables k gs) ≡ names_without_roles (identifiers role.Declaring gs)
+variables-tokens : (k : ℕ) (gs : Tree ℕ (items variable)) → tokens (identifier_owners_in_variables k gs) ≡ names_without_roles (identifiers role.Declaring gs)
 variables-tokens k end = refl
 variables-tokens k (more (declares_variable ns u) gs) =
-    both-tokens (identifiers_without_owners ns ++ owners_in_type k u) (owners_in_variables (k + constructor_count u) gs) (identifiers role.Declaring ns ++ identifiers role.Declaring u) (identifiers role.Declaring gs) (typed-tokens k ns u) (variables-tokens (k + constructor_count u) gs)
+    both-tokens (identifiers_without_owners ns ++ identifier_owners_in_type k u) (identifier_owners_in_variables (k + constructor_count u) gs) (identifiers role.Declaring ns ++ identifiers role.Declaring u) (identifiers role.Declaring gs) (typed-tokens k ns u) (variables-tokens (k + constructor_count u) gs)
 
-variable_section-tokens : (k : ℕ) (vs : Tree ℕ (maybe variables)) → tokens (owners_in_variable_section k vs) ≡ names_without_roles (identifiers role.Declaring vs)
+variable_section-tokens : (k : ℕ) (vs : Tree ℕ (maybe variables)) → tokens (identifier_owners_in_variable_section k vs) ≡ names_without_roles (identifiers role.Declaring vs)
 variable_section-tokens k none = refl
 variable_section-tokens k (one (declares_variables vs)) = variables-tokens k vs
 
-section-tokens : (k : ℕ) (f : Tree ℕ section) → tokens (owners_in_parameter_section k f) ≡ names_without_roles (identifiers role.Declaring f)
+section-tokens : (k : ℕ) (f : Tree ℕ section) → tokens (identifier_owners_in_parameter_section k f) ≡ names_without_roles (identifiers role.Declaring f)
 section-tokens k (value_section ns u) = typed-tokens k ns u
 section-tokens k (variable_section ns u) = typed-tokens k ns u
 
-sections-tokens : (k : ℕ) (fs : Tree ℕ (items further_section)) → tokens (owners_in_parameter_sections k fs) ≡ names_without_roles (identifiers role.Declaring fs)
+sections-tokens : (k : ℕ) (fs : Tree ℕ (items further_section)) → tokens (identifier_owners_in_parameter_sections k fs) ≡ names_without_roles (identifiers role.Declaring fs)
 sections-tokens k end = refl
 sections-tokens k (more (then_section f) fs) =
-    both-tokens (owners_in_parameter_section k f) (owners_in_parameter_sections (k + constructor_count (parameter_section_type f)) fs) (identifiers role.Declaring f) (identifiers role.Declaring fs) (section-tokens k f) (sections-tokens (k + constructor_count (parameter_section_type f)) fs)
+    both-tokens (identifier_owners_in_parameter_section k f) (identifier_owners_in_parameter_sections (k + constructor_count (parameter_section_type f)) fs) (identifiers role.Declaring f) (identifiers role.Declaring fs) (section-tokens k f) (sections-tokens (k + constructor_count (parameter_section_type f)) fs)
 
-formals-tokens : (k : ℕ) (fs : Tree ℕ (maybe formals)) → tokens (owners_in_formals k fs) ≡ names_without_roles (identifiers role.Declaring fs)
+formals-tokens : (k : ℕ) (fs : Tree ℕ (maybe formals)) → tokens (identifier_owners_in_formals k fs) ≡ names_without_roles (identifiers role.Declaring fs)
 formals-tokens k none = refl
 formals-tokens k (one no_formals) = refl
 formals-tokens k (one (some_formals f fs)) =
-    both-tokens (owners_in_parameter_section k f) (owners_in_parameter_sections (k + constructor_count (parameter_section_type f)) fs) (identifiers role.Declaring f) (identifiers role.Declaring fs) (section-tokens k f) (sections-tokens (k + constructor_count (parameter_section_type f)) fs)
+    both-tokens (identifier_owners_in_parameter_section k f) (identifier_owners_in_parameter_sections (k + constructor_count (parameter_section_type f)) fs) (identifiers role.Declaring f) (identifiers role.Declaring fs) (section-tokens k f) (sections-tokens (k + constructor_count (parameter_section_type f)) fs)
 
 mutual
-  block-tokens : {P : Type 0} (m : Meanings ℕ Shape P) (k : ℕ) (b : Tree ℕ block) → tokens (owners_in_block m k b) ≡ names_without_roles (identifiers role.Declaring b)
+  block-tokens : {P : Type 0} (m : Meanings ℕ Shape P) (k : ℕ) (b : Tree ℕ block) → tokens (identifier_owners_in_block m k b) ≡ names_without_roles (identifiers role.Declaring b)
   block-tokens m k (forms_block (declares cs ts vs ps) st) =
       let b : Tree ℕ block = forms_block (declares cs ts vs ps) st in
-      let V : List (ℕ × Option ℕ) = owners_in_variable_section (constructors_before_variables k b) vs in
-      let Q : List (ℕ × Option ℕ) = owners_in_procedures m (constructors_before_procedures k b) ps in
-      both-tokens (identifiers_without_owners cs ++ (owners_in_type_section k ts ++ (V ++ Q))) (owners_in_tree m None st) (identifiers role.Declaring cs ++ (identifiers role.Declaring ts ++ (identifiers role.Declaring vs ++ identifiers role.Declaring ps))) (identifiers role.Declaring st)
-      (both-tokens (identifiers_without_owners cs) (owners_in_type_section k ts ++ (V ++ Q)) (identifiers role.Declaring cs) (identifiers role.Declaring ts ++ (identifiers role.Declaring vs ++ identifiers role.Declaring ps)) (plain-tokens cs)
-      (both-tokens (owners_in_type_section k ts) (V ++ Q) (identifiers role.Declaring ts) (identifiers role.Declaring vs ++ identifiers role.Declaring ps) (type_section-tokens k ts)
+      let V : List (ℕ × Option ℕ) = identifier_owners_in_variable_section (constructors_before_variables k b) vs in
+      let Q : List (ℕ × Option ℕ) = identifier_owners_in_procedures m (constructors_before_procedures k b) ps in
+      both-tokens (identifiers_without_owners cs ++ (identifier_owners_in_type_section k ts ++ (V ++ Q))) (identifier_owners_in_tree m None st) (identifiers role.Declaring cs ++ (identifiers role.Declaring ts ++ (identifiers role.Declaring vs ++ identifiers role.Declaring ps))) (identifiers role.Declaring st)
+      (both-tokens (identifiers_without_owners cs) (identifier_owners_in_type_section k ts ++ (V ++ Q)) (identifiers role.Declaring cs) (identifiers role.Declaring ts ++ (identifiers role.Declaring vs ++ identifiers role.Declaring ps)) (plain-tokens cs)
+      (both-tokens (identifier_owners_in_type_section k ts) (V ++ Q) (identifiers role.Declaring ts) (identifiers role.Declaring vs ++ identifiers role.Declaring ps) (type_section-tokens k ts)
       (both-tokens V Q (identifiers role.Declaring vs) (identifiers role.Declaring ps) (variable_section-tokens (constructors_before_variables k b) vs) (procedures-tokens m (constructors_before_procedures k b) ps))))
-      (owners_in_tree-tokens m None st)
+      (identifier_owners_in_tree-tokens m None st)
 
-  procedures-tokens : {P : Type 0} (m : Meanings ℕ Shape P) (k : ℕ) (ps : Tree ℕ (items procedure)) → tokens (owners_in_procedures m k ps) ≡ names_without_roles (identifiers role.Declaring ps)
+  procedures-tokens : {P : Type 0} (m : Meanings ℕ Shape P) (k : ℕ) (ps : Tree ℕ (items procedure)) → tokens (identifier_owners_in_procedures m k ps) ≡ names_without_roles (identifiers role.Declaring ps)
   procedures-tokens m k end = refl
   procedures-tokens m k (more (declares_procedure x fs b closing) rest) =
       let p : Tree ℕ (item procedure) = declares_procedure x fs b closing in
       let last : List (ℕ × Option ℕ) = (closing, None) ∷ [] in
-      both-tokens (owners_in_procedure m k p) (owners_in_procedures m (k + procedure_constructor_count p) rest) (identifiers role.Declaring p) (identifiers role.Declaring rest)
-      (ap (λ z. x ∷ z) (both-tokens (owners_in_formals k fs) (owners_in_block m (constructors_before_procedure_block k p) b ++ last) (identifiers role.Declaring fs) (identifiers role.Declaring b ++ ((role.ClosingName, closing) ∷ [])) (formals-tokens k fs)
-      (both-tokens (owners_in_block m (constructors_before_procedure_block k p) b) last (identifiers role.Declaring b) ((role.ClosingName, closing) ∷ []) (block-tokens m (constructors_before_procedure_block k p) b) refl)))
+      both-tokens (identifier_owners_in_procedure m k p) (identifier_owners_in_procedures m (k + procedure_constructor_count p) rest) (identifiers role.Declaring p) (identifiers role.Declaring rest)
+      (ap (λ z. x ∷ z) (both-tokens (identifier_owners_in_formals k fs) (identifier_owners_in_block m (constructors_before_procedure_block k p) b ++ last) (identifiers role.Declaring fs) (identifiers role.Declaring b ++ ((role.ClosingName, closing) ∷ [])) (formals-tokens k fs)
+      (both-tokens (identifier_owners_in_block m (constructors_before_procedure_block k p) b) last (identifiers role.Declaring b) ((role.ClosingName, closing) ∷ []) (block-tokens m (constructors_before_procedure_block k p) b) refl)))
       (procedures-tokens m (k + procedure_constructor_count p) rest)
 
-pub module-tokens : {P : Type 0} (m : Meanings ℕ Shape P) (t : Tree ℕ module_text) → tokens (owners_in_module m t) ≡ identifier_names t
+pub module-tokens : {P : Type 0} (m : Meanings ℕ Shape P) (t : Tree ℕ module_text) → tokens (identifier_owners_in_module m t) ≡ identifier_names t
 module-tokens m (is_module x b closing) =
-    ap (λ z. x ∷ z) (both-tokens (owners_in_block m 0 b) ((closing, None) ∷ []) (identifiers role.Declaring b) ((role.ModuleName, closing) ∷ []) (block-tokens m 0 b) refl)
+    ap (λ z. x ∷ z) (both-tokens (identifier_owners_in_block m 0 b) ((closing, None) ∷ []) (identifiers role.Declaring b) ((role.ModuleName, closing) ∷ []) (block-tokens m 0 b) refl)
 
 -- ---- the table
 
@@ -203,15 +203,15 @@ fields_are_identifiers ((x, Some k) ∷ xs) table low high ascend within vacant 
 
 -- returns the table of owners: the empty table, with one entry per token, in which the fields of a module are entered
 abbrev pub with_owners : Resolution → List (Option ℕ)
-with_owners r = table_with_owners (replicate (length r.module_read.source.tokens) None) (fields_with_owners (owners_in_resolution r))
+with_owners r = table_with_owners (replicate (length r.module_read.source.tokens) None) (fields_with_owners (identifier_owners_in_resolution r))
 
-pub fields_have-owners : (r : Resolution) → IsResolution r → AgreesWithOwnerList (ordinal_in (with_owners r)) (owners_in_resolution r)
+pub fields_have-owners : (r : Resolution) → IsResolution r → AgreesWithOwnerList (ordinal_in (with_owners r)) (identifier_owners_in_resolution r)
 fields_have-owners r named =
     let n : ℕ = length r.module_read.source.tokens in
     let nothing : Option ℕ = None in
     let vacant : List (Option ℕ) = replicate n nothing in
     let ascend = subst (λ ts. AreAscendingWithin 0 ts n) (sym (module-tokens _ (tree_of r.module_read))) (leaves_ascend r.module_read named.parsed) in
-    fields_are_identifiers (owners_in_resolution r) vacant 0 n ascend (subst (λ z. n ≤ z) (sym (length-replicate n nothing)) (le_refl n)) (λ i l u. get_or-replicate n i nothing None u)
+    fields_are_identifiers (identifier_owners_in_resolution r) vacant 0 n ascend (subst (λ z. n ≤ z) (sym (length-replicate n nothing)) (le_refl n)) (λ i l u. get_or-replicate n i nothing None u)
 
 pub table_with_entered_owners_is_owner_table-holds : TableWithEnteredOwnersIsOwnerTable
 table_with_entered_owners_is_owner_table-holds r named fits = agreeing_table_is_owner_table-holds r (with_owners r) named fits (fields_have-owners r named)

@@ -7,9 +7,9 @@ use Rattle.ob0_language_names.specs.Names.{Name}
 use Rattle.ob0_language_names.specs.Parts.{formal_sections, further_names, names_in_list, parameter_section_type, section_types, section_variables}
 use Rattle.ob0_language_types.specs.Declarations.{block_constructor_count, formals_constructor_count, procedure_constructor_count, procedures_constructor_count, types_constructor_count, variables_constructor_count}
 use Rattle.ob0_language_types.specs.Typing.{constructor_count, group_constructor_count, groups_constructor_count}
-use Rattle.ob0_language_fields.specs.Fields.{rename_fields_in_formals, rename_fields_in_group, rename_fields_in_groups, rename_fields_in_section, rename_fields_in_sections, rename_fields_in_type, rename_fields_in_type_section, rename_fields_in_types, rename_fields_in_variable_section, rename_fields_in_variables}
+use Rattle.ob0_language_fields.specs.Fields.{rename_fields_in_formals, rename_fields_in_group, rename_fields_in_groups, rename_fields_in_parameter_section, rename_fields_in_parameter_sections, rename_fields_in_type, rename_fields_in_type_section, rename_fields_in_types, rename_fields_in_variable_section, rename_fields_in_variables}
 use Rattle.ob0_types_fields.specs.Owners.{renaming_by_record}
-use Rattle.ob0_types_fields.specs.Owned.{AgreesWithOwnerList, owners_in_formals, owners_in_group, owners_in_groups, owners_in_parameter_section, owners_in_parameter_sections, owners_in_type, owners_in_type_section, owners_in_types, owners_in_variable_section, owners_in_variables, identifiers_without_owners}
+use Rattle.ob0_types_fields.specs.Owned.{AgreesWithOwnerList, identifier_owners_in_formals, identifier_owners_in_group, identifier_owners_in_groups, identifier_owners_in_parameter_section, identifier_owners_in_parameter_sections, identifier_owners_in_type, identifier_owners_in_type_section, identifier_owners_in_types, identifier_owners_in_variable_section, identifier_owners_in_variables, identifiers_without_owners}
 use Rattle.ob0_types_fields.proofs.OwnedStatements.{owners_split, identifiers_without_owners-all}
 
 -- The number of words ARRAY and RECORD in a tree doesn't depend on the representation of its names.
@@ -78,79 +78,79 @@ module _ {M : Type 0} (f : ℕ → M) (g : ℕ → ℕ) where
     counted_procedure (declares_procedure x fs b closing) = λ i. counted_formals_section fs i + counted_block b i
 
 module _ (l : ℕ → Name → Name) (at : ℕ → Option ℕ) (text : ℕ → Name) (value : ℕ → ℕ) where
-  further-owners_in_tree : (r : ℕ) (ns : Tree ℕ (items further_name)) → AgreesWithOwnerList at (map (λ x. (x, Some r)) (further_names ns)) → map_names (λ x. x) (renaming_by_record l (Some r)) (mapped_tree text value ns) ≡ mapped_tree (λ j. renaming_by_record l (at j) (text j)) value ns
-  further-owners_in_tree r end h = refl
-  further-owners_in_tree r (more (then_name x) rest) h = λ i. more (then_name (renaming_by_record l (sym h.0 i) (text x))) (further-owners_in_tree r rest h.1 i)
+  further-identifier_owners_in_tree : (r : ℕ) (ns : Tree ℕ (items further_name)) → AgreesWithOwnerList at (map (λ x. (x, Some r)) (further_names ns)) → map_names (λ x. x) (renaming_by_record l (Some r)) (mapped_tree text value ns) ≡ mapped_tree (λ j. renaming_by_record l (at j) (text j)) value ns
+  further-identifier_owners_in_tree r end h = refl
+  further-identifier_owners_in_tree r (more (then_name x) rest) h = λ i. more (then_name (renaming_by_record l (sym h.0 i) (text x))) (further-identifier_owners_in_tree r rest h.1 i)
 
-  names-owners_in_tree : (r : ℕ) (ns : Tree ℕ names) → AgreesWithOwnerList at (map (λ x. (x, Some r)) (names_in_list ns)) → map_names (λ x. x) (renaming_by_record l (Some r)) (mapped_tree text value ns) ≡ mapped_tree (λ j. renaming_by_record l (at j) (text j)) value ns
-  names-owners_in_tree r (listed x rest) h = λ i. listed (renaming_by_record l (sym h.0 i) (text x)) (further-owners_in_tree r rest h.1 i)
+  names-identifier_owners_in_tree : (r : ℕ) (ns : Tree ℕ names) → AgreesWithOwnerList at (map (λ x. (x, Some r)) (names_in_list ns)) → map_names (λ x. x) (renaming_by_record l (Some r)) (mapped_tree text value ns) ≡ mapped_tree (λ j. renaming_by_record l (at j) (text j)) value ns
+  names-identifier_owners_in_tree r (listed x rest) h = λ i. listed (renaming_by_record l (sym h.0 i) (text x)) (further-identifier_owners_in_tree r rest h.1 i)
 
   mutual
-    pub type-owners_in_tree : (k : ℕ) (t : Tree ℕ written_type) → AgreesWithOwnerList at (owners_in_type k t) → rename_fields_in_type (renaming_by_record l) k (mapped_tree text value t) ≡ mapped_tree (λ j. renaming_by_record l (at j) (text j)) value t
-    type-owners_in_tree k (named_type x) h = λ i. named_type (renaming_by_record l (sym h.0 i) (text x))
-    type-owners_in_tree k (array_type e t) h =
-        let p = owners_split at (identifiers_without_owners e) (owners_in_type (suc k) t) h in
-        λ i. array_type (identifiers_without_owners-all l at text value e p.0 i) (type-owners_in_tree (suc k) t p.1 i)
-    type-owners_in_tree k (record_type g rest) h =
-        let p = owners_split at (owners_in_group k (suc k) g) (owners_in_groups k (suc k + group_constructor_count g) rest) h in
-        λ i. record_type (group-owners_in_tree k (suc k) g p.0 i)
-        ((ap (λ n. rename_fields_in_groups (renaming_by_record l) k (suc k + n) (mapped_tree text value rest)) (counted_group text value g) ∙ groups-owners_in_tree k (suc k + group_constructor_count g) rest p.1) i)
+    pub type-identifier_owners_in_tree : (k : ℕ) (t : Tree ℕ written_type) → AgreesWithOwnerList at (identifier_owners_in_type k t) → rename_fields_in_type (renaming_by_record l) k (mapped_tree text value t) ≡ mapped_tree (λ j. renaming_by_record l (at j) (text j)) value t
+    type-identifier_owners_in_tree k (named_type x) h = λ i. named_type (renaming_by_record l (sym h.0 i) (text x))
+    type-identifier_owners_in_tree k (array_type e t) h =
+        let p = owners_split at (identifiers_without_owners e) (identifier_owners_in_type (suc k) t) h in
+        λ i. array_type (identifiers_without_owners-all l at text value e p.0 i) (type-identifier_owners_in_tree (suc k) t p.1 i)
+    type-identifier_owners_in_tree k (record_type g rest) h =
+        let p = owners_split at (identifier_owners_in_group k (suc k) g) (identifier_owners_in_groups k (suc k + group_constructor_count g) rest) h in
+        λ i. record_type (group-identifier_owners_in_tree k (suc k) g p.0 i)
+        ((ap (λ n. rename_fields_in_groups (renaming_by_record l) k (suc k + n) (mapped_tree text value rest)) (counted_group text value g) ∙ groups-identifier_owners_in_tree k (suc k + group_constructor_count g) rest p.1) i)
 
-    group-owners_in_tree : (r k : ℕ) (g : Tree ℕ fields) → AgreesWithOwnerList at (owners_in_group r k g) → rename_fields_in_group (renaming_by_record l) r k (mapped_tree text value g) ≡ mapped_tree (λ j. renaming_by_record l (at j) (text j)) value g
-    group-owners_in_tree r k no_fields h = refl
-    group-owners_in_tree r k (some_fields ns t) h =
-        let p = owners_split at (map (λ x. (x, Some r)) (names_in_list ns)) (owners_in_type k t) h in
-        λ i. some_fields (names-owners_in_tree r ns p.0 i) (type-owners_in_tree k t p.1 i)
+    group-identifier_owners_in_tree : (r k : ℕ) (g : Tree ℕ fields) → AgreesWithOwnerList at (identifier_owners_in_group r k g) → rename_fields_in_group (renaming_by_record l) r k (mapped_tree text value g) ≡ mapped_tree (λ j. renaming_by_record l (at j) (text j)) value g
+    group-identifier_owners_in_tree r k no_fields h = refl
+    group-identifier_owners_in_tree r k (some_fields ns t) h =
+        let p = owners_split at (map (λ x. (x, Some r)) (names_in_list ns)) (identifier_owners_in_type k t) h in
+        λ i. some_fields (names-identifier_owners_in_tree r ns p.0 i) (type-identifier_owners_in_tree k t p.1 i)
 
-    groups-owners_in_tree : (r k : ℕ) (gs : Tree ℕ (items further_fields)) → AgreesWithOwnerList at (owners_in_groups r k gs) → rename_fields_in_groups (renaming_by_record l) r k (mapped_tree text value gs) ≡ mapped_tree (λ j. renaming_by_record l (at j) (text j)) value gs
-    groups-owners_in_tree r k end h = refl
-    groups-owners_in_tree r k (more (then_fields g) rest) h =
-        let p = owners_split at (owners_in_group r k g) (owners_in_groups r (k + group_constructor_count g) rest) h in
-        λ i. more (then_fields (group-owners_in_tree r k g p.0 i))
-        ((ap (λ n. rename_fields_in_groups (renaming_by_record l) r (k + n) (mapped_tree text value rest)) (counted_group text value g) ∙ groups-owners_in_tree r (k + group_constructor_count g) rest p.1) i)
+    groups-identifier_owners_in_tree : (r k : ℕ) (gs : Tree ℕ (items further_fields)) → AgreesWithOwnerList at (identifier_owners_in_groups r k gs) → rename_fields_in_groups (renaming_by_record l) r k (mapped_tree text value gs) ≡ mapped_tree (λ j. renaming_by_record l (at j) (text j)) value gs
+    groups-identifier_owners_in_tree r k end h = refl
+    groups-identifier_owners_in_tree r k (more (then_fields g) rest) h =
+        let p = owners_split at (identifier_owners_in_group r k g) (identifier_owners_in_groups r (k + group_constructor_count g) rest) h in
+        λ i. more (then_fields (group-identifier_owners_in_tree r k g p.0 i))
+        ((ap (λ n. rename_fields_in_groups (renaming_by_record l) r (k + n) (mapped_tree text value rest)) (counted_group text value g) ∙ groups-identifier_owners_in_tree r (k + group_constructor_count g) rest p.1) i)
 
-  types-owners_in_tree : (k : ℕ) (ds : Tree ℕ (items type_definition)) → AgreesWithOwnerList at (owners_in_types k ds) → rename_fields_in_types (renaming_by_record l) k (mapped_tree text value ds) ≡ mapped_tree (λ j. renaming_by_record l (at j) (text j)) value ds
-  types-owners_in_tree k end h = refl
-  types-owners_in_tree k (more (declares_type x u) ds) h =
-      let p = owners_split at (owners_in_type k u) (owners_in_types (k + constructor_count u) ds) h.1 in
-      λ i. more (declares_type (renaming_by_record l (sym h.0 i) (text x)) (type-owners_in_tree k u p.0 i))
-      ((ap (λ n. rename_fields_in_types (renaming_by_record l) (k + n) (mapped_tree text value ds)) (counted_type text value u) ∙ types-owners_in_tree (k + constructor_count u) ds p.1) i)
+  types-identifier_owners_in_tree : (k : ℕ) (ds : Tree ℕ (items type_definition)) → AgreesWithOwnerList at (identifier_owners_in_types k ds) → rename_fields_in_types (renaming_by_record l) k (mapped_tree text value ds) ≡ mapped_tree (λ j. renaming_by_record l (at j) (text j)) value ds
+  types-identifier_owners_in_tree k end h = refl
+  types-identifier_owners_in_tree k (more (declares_type x u) ds) h =
+      let p = owners_split at (identifier_owners_in_type k u) (identifier_owners_in_types (k + constructor_count u) ds) h.1 in
+      λ i. more (declares_type (renaming_by_record l (sym h.0 i) (text x)) (type-identifier_owners_in_tree k u p.0 i))
+      ((ap (λ n. rename_fields_in_types (renaming_by_record l) (k + n) (mapped_tree text value ds)) (counted_type text value u) ∙ types-identifier_owners_in_tree (k + constructor_count u) ds p.1) i)
 
-  pub type_section-owners_in_tree : (k : ℕ) (ts : Tree ℕ (maybe type_definitions)) → AgreesWithOwnerList at (owners_in_type_section k ts) → rename_fields_in_type_section (renaming_by_record l) k (mapped_tree text value ts) ≡ mapped_tree (λ j. renaming_by_record l (at j) (text j)) value ts
-  type_section-owners_in_tree k none h = refl
-  type_section-owners_in_tree k (one (declares_types ts)) h = λ i. one (declares_types (types-owners_in_tree k ts h i))
+  pub type_section-identifier_owners_in_tree : (k : ℕ) (ts : Tree ℕ (maybe type_definitions)) → AgreesWithOwnerList at (identifier_owners_in_type_section k ts) → rename_fields_in_type_section (renaming_by_record l) k (mapped_tree text value ts) ≡ mapped_tree (λ j. renaming_by_record l (at j) (text j)) value ts
+  type_section-identifier_owners_in_tree k none h = refl
+  type_section-identifier_owners_in_tree k (one (declares_types ts)) h = λ i. one (declares_types (types-identifier_owners_in_tree k ts h i))
 
-  variables-owners_in_tree : (k : ℕ) (gs : Tree ℕ (items variable)) → AgreesWithOwnerList at (owners_in_variables k gs) → rename_fields_in_variables (renaming_by_record l) k (mapped_tree text value gs) ≡ mapped_tree (λ j. renaming_by_record l (at j) (text j)) value gs
-  variables-owners_in_tree k end h = refl
-  variables-owners_in_tree k (more (declares_variable ns u) gs) h =
-      let p = owners_split at (identifiers_without_owners ns ++ owners_in_type k u) (owners_in_variables (k + constructor_count u) gs) h in
-      let q = owners_split at (identifiers_without_owners ns) (owners_in_type k u) p.0 in
-      λ i. more (declares_variable (identifiers_without_owners-all l at text value ns q.0 i) (type-owners_in_tree k u q.1 i))
-      ((ap (λ n. rename_fields_in_variables (renaming_by_record l) (k + n) (mapped_tree text value gs)) (counted_type text value u) ∙ variables-owners_in_tree (k + constructor_count u) gs p.1) i)
+  variables-identifier_owners_in_tree : (k : ℕ) (gs : Tree ℕ (items variable)) → AgreesWithOwnerList at (identifier_owners_in_variables k gs) → rename_fields_in_variables (renaming_by_record l) k (mapped_tree text value gs) ≡ mapped_tree (λ j. renaming_by_record l (at j) (text j)) value gs
+  variables-identifier_owners_in_tree k end h = refl
+  variables-identifier_owners_in_tree k (more (declares_variable ns u) gs) h =
+      let p = owners_split at (identifiers_without_owners ns ++ identifier_owners_in_type k u) (identifier_owners_in_variables (k + constructor_count u) gs) h in
+      let q = owners_split at (identifiers_without_owners ns) (identifier_owners_in_type k u) p.0 in
+      λ i. more (declares_variable (identifiers_without_owners-all l at text value ns q.0 i) (type-identifier_owners_in_tree k u q.1 i))
+      ((ap (λ n. rename_fields_in_variables (renaming_by_record l) (k + n) (mapped_tree text value gs)) (counted_type text value u) ∙ variables-identifier_owners_in_tree (k + constructor_count u) gs p.1) i)
 
-  pub variable_section-owners_in_tree : (k : ℕ) (vs : Tree ℕ (maybe variables)) → AgreesWithOwnerList at (owners_in_variable_section k vs) → rename_fields_in_variable_section (renaming_by_record l) k (mapped_tree text value vs) ≡ mapped_tree (λ j. renaming_by_record l (at j) (text j)) value vs
-  variable_section-owners_in_tree k none h = refl
-  variable_section-owners_in_tree k (one (declares_variables vs)) h = λ i. one (declares_variables (variables-owners_in_tree k vs h i))
+  pub variable_section-identifier_owners_in_tree : (k : ℕ) (vs : Tree ℕ (maybe variables)) → AgreesWithOwnerList at (identifier_owners_in_variable_section k vs) → rename_fields_in_variable_section (renaming_by_record l) k (mapped_tree text value vs) ≡ mapped_tree (λ j. renaming_by_record l (at j) (text j)) value vs
+  variable_section-identifier_owners_in_tree k none h = refl
+  variable_section-identifier_owners_in_tree k (one (declares_variables vs)) h = λ i. one (declares_variables (variables-identifier_owners_in_tree k vs h i))
 
-  section-owners_in_tree : (k : ℕ) (f : Tree ℕ section) → AgreesWithOwnerList at (owners_in_parameter_section k f) → rename_fields_in_section (renaming_by_record l) k (mapped_tree text value f) ≡ mapped_tree (λ j. renaming_by_record l (at j) (text j)) value f
-  section-owners_in_tree k (value_section ns u) h =
-      let p = owners_split at (identifiers_without_owners ns) (owners_in_type k u) h in
-      λ i. value_section (identifiers_without_owners-all l at text value ns p.0 i) (type-owners_in_tree k u p.1 i)
-  section-owners_in_tree k (variable_section ns u) h =
-      let p = owners_split at (identifiers_without_owners ns) (owners_in_type k u) h in
-      λ i. variable_section (identifiers_without_owners-all l at text value ns p.0 i) (type-owners_in_tree k u p.1 i)
+  section-identifier_owners_in_tree : (k : ℕ) (f : Tree ℕ section) → AgreesWithOwnerList at (identifier_owners_in_parameter_section k f) → rename_fields_in_parameter_section (renaming_by_record l) k (mapped_tree text value f) ≡ mapped_tree (λ j. renaming_by_record l (at j) (text j)) value f
+  section-identifier_owners_in_tree k (value_section ns u) h =
+      let p = owners_split at (identifiers_without_owners ns) (identifier_owners_in_type k u) h in
+      λ i. value_section (identifiers_without_owners-all l at text value ns p.0 i) (type-identifier_owners_in_tree k u p.1 i)
+  section-identifier_owners_in_tree k (variable_section ns u) h =
+      let p = owners_split at (identifiers_without_owners ns) (identifier_owners_in_type k u) h in
+      λ i. variable_section (identifiers_without_owners-all l at text value ns p.0 i) (type-identifier_owners_in_tree k u p.1 i)
 
-  sections-owners_in_tree : (k : ℕ) (fs : Tree ℕ (items further_section)) → AgreesWithOwnerList at (owners_in_parameter_sections k fs) → rename_fields_in_sections (renaming_by_record l) k (mapped_tree text value fs) ≡ mapped_tree (λ j. renaming_by_record l (at j) (text j)) value fs
-  sections-owners_in_tree k end h = refl
-  sections-owners_in_tree k (more (then_section f) fs) h =
-      let p = owners_split at (owners_in_parameter_section k f) (owners_in_parameter_sections (k + constructor_count (parameter_section_type f)) fs) h in
-      λ i. more (then_section (section-owners_in_tree k f p.0 i))
-      ((ap (λ n. rename_fields_in_sections (renaming_by_record l) (k + n) (mapped_tree text value fs)) (counted_section text value f) ∙ sections-owners_in_tree (k + constructor_count (parameter_section_type f)) fs p.1) i)
+  sections-identifier_owners_in_tree : (k : ℕ) (fs : Tree ℕ (items further_section)) → AgreesWithOwnerList at (identifier_owners_in_parameter_sections k fs) → rename_fields_in_parameter_sections (renaming_by_record l) k (mapped_tree text value fs) ≡ mapped_tree (λ j. renaming_by_record l (at j) (text j)) value fs
+  sections-identifier_owners_in_tree k end h = refl
+  sections-identifier_owners_in_tree k (more (then_section f) fs) h =
+      let p = owners_split at (identifier_owners_in_parameter_section k f) (identifier_owners_in_parameter_sections (k + constructor_count (parameter_section_type f)) fs) h in
+      λ i. more (then_section (section-identifier_owners_in_tree k f p.0 i))
+      ((ap (λ n. rename_fields_in_parameter_sections (renaming_by_record l) (k + n) (mapped_tree text value fs)) (counted_section text value f) ∙ sections-identifier_owners_in_tree (k + constructor_count (parameter_section_type f)) fs p.1) i)
 
-  pub formals-owners_in_tree : (k : ℕ) (fs : Tree ℕ (maybe formals)) → AgreesWithOwnerList at (owners_in_formals k fs) → rename_fields_in_formals (renaming_by_record l) k (mapped_tree text value fs) ≡ mapped_tree (λ j. renaming_by_record l (at j) (text j)) value fs
-  formals-owners_in_tree k none h = refl
-  formals-owners_in_tree k (one no_formals) h = refl
-  formals-owners_in_tree k (one (some_formals f fs)) h =
-      let p = owners_split at (owners_in_parameter_section k f) (owners_in_parameter_sections (k + constructor_count (parameter_section_type f)) fs) h in
-      λ i. one (some_formals (section-owners_in_tree k f p.0 i)
-      ((ap (λ n. rename_fields_in_sections (renaming_by_record l) (k + n) (mapped_tree text value fs)) (counted_section text value f) ∙ sections-owners_in_tree (k + constructor_count (parameter_section_type f)) fs p.1) i))
+  pub formals-identifier_owners_in_tree : (k : ℕ) (fs : Tree ℕ (maybe formals)) → AgreesWithOwnerList at (identifier_owners_in_formals k fs) → rename_fields_in_formals (renaming_by_record l) k (mapped_tree text value fs) ≡ mapped_tree (λ j. renaming_by_record l (at j) (text j)) value fs
+  formals-identifier_owners_in_tree k none h = refl
+  formals-identifier_owners_in_tree k (one no_formals) h = refl
+  formals-identifier_owners_in_tree k (one (some_formals f fs)) h =
+      let p = owners_split at (identifier_owners_in_parameter_section k f) (identifier_owners_in_parameter_sections (k + constructor_count (parameter_section_type f)) fs) h in
+      λ i. one (some_formals (section-identifier_owners_in_tree k f p.0 i)
+      ((ap (λ n. rename_fields_in_parameter_sections (renaming_by_record l) (k + n) (mapped_tree text value fs)) (counted_section text value f) ∙ sections-identifier_owners_in_tree (k + constructor_count (parameter_section_type f)) fs p.1) i))

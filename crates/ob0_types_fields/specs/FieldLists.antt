@@ -5,9 +5,9 @@ use Rattle.std.specs.List.{filter}
 use Rattle.ob0_scan.specs.declared.tokens.CommonPrefixAndSuffix.{CommonPrefixAndSuffix}
 use Rattle.ob0_tree.specs.Order.{AreAscendingWithin}
 use Rattle.ob0_tree.specs.ParsedModule.{tree_of}
-use Rattle.ob0_scope_table.specs.BodyReplaced.{moved_token_index}
+use Rattle.ob0_scope_table.specs.BodyReplaced.{shifted_token_index}
 use Rattle.ob0_scope_table.specs.Resolution.{Resolution}
-use Rattle.ob0_types_table.specs.KnownTables.{Tables, declared_object_in}
+use Rattle.ob0_types_table.specs.KnownTables.{DeclarationTableView, declared_object_in}
 use Rattle.ob0_types_fields.specs.declared.field_name.FieldName.{FieldName}
 use Rattle.ob0_types_fields.specs.Identifiers.{declared_fields, field_identifiers, token_indexes}
 use Rattle.ob0_types_fields.specs.Owned.{fields_in_module, meanings_by_token}
@@ -25,7 +25,7 @@ all_fields_if_any_declared declared all = if length declared == 0 then [] else a
 
 -- returns the two lists of field identifiers that the code's walks over a module make; `t` is the
 -- table of the module's declarations
-abbrev pub field_lists_of : Tables → Resolution → FieldLists
+abbrev pub field_lists_of : DeclarationTableView → Resolution → FieldLists
 field_lists_of t r = record {
   declared = declared_fields r.module_read;
   all =
@@ -55,22 +55,22 @@ pub record HasSameTokensIfReplaced (all before others after : List FieldName) : 
   pub same : token_indexes all ≡ token_indexes (before ++ (others ++ after))
 
 -- returns the fields of the list `xs` whose token indexes are less than `token`
-abbrev pub fields_before : ℕ → List FieldName → List FieldName
-fields_before token xs = filter (λ x. nat_lt x.token token) xs
+abbrev pub fields_before_token : ℕ → List FieldName → List FieldName
+fields_before_token token xs = filter (λ x. nat_lt x.token token) xs
 
 -- returns the fields of the list `xs` whose token indexes are `token` or more
-abbrev pub fields_at_or_after : ℕ → List FieldName → List FieldName
-fields_at_or_after token xs = filter (λ x. nat_le token x.token) xs
+abbrev pub fields_at_or_after_token : ℕ → List FieldName → List FieldName
+fields_at_or_after_token token xs = filter (λ x. nat_le token x.token) xs
 
 -- Returns the index of an unchanged token in the new text, given its index `i` in the old text. `s`
 -- specifies the unchanged tokens. Returns 2^64 - 1 if the index would be greater.
 abbrev pub new_token_index : CommonPrefixAndSuffix → ℕ → ℕ
-new_token_index s i = min (moved_token_index s i) (2 ^ 64 - 1)
+new_token_index s i = min (shifted_token_index s i) (2 ^ 64 - 1)
 
 -- returns the field identifier `x` of the old text with the index that its token has in the new
 -- text; `s` specifies the unchanged tokens
-abbrev pub moved_field : CommonPrefixAndSuffix → FieldName → FieldName
-moved_field s x = record { token = new_token_index s x.token; owner = x.owner }
+abbrev pub field_with_shifted_token : CommonPrefixAndSuffix → FieldName → FieldName
+field_with_shifted_token s x = record { token = new_token_index s x.token; owner = x.owner }
 
 -- returns the index in the old text of a token that lies after the changed tokens, given its index
 -- `i` in the new text; `s` specifies the unchanged tokens; returns 2^64 - 1 if the index would be

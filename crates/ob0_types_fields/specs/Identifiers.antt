@@ -13,16 +13,16 @@ use Rattle.ob0_tree.specs.Places.{token_text_at, token_value_at}
 use Rattle.ob0_language_names.specs.Names.{Name, same_name}
 use Rattle.ob0_language_names.specs.Parts.{formal_sections, module_block, section_types, section_variables}
 use Rattle.ob0_scope_table.specs.Resolution.{IsResolution, Resolution, span_at}
-use Rattle.ob0_scope_table.specs.Spans.{is_on_span}
+use Rattle.ob0_scope_table.specs.Spans.{is_in_span_or_at_end}
 use Rattle.ob0_language_types.specs.Declarations.{constructors_before_procedure_block, constructors_before_variables, constructors_before_procedures, procedure_constructor_count}
 use Rattle.ob0_language_types.specs.WellTyped.{WellTyped}
 use Rattle.ob0_types_fields.specs.declared.field_name.FieldName.{FieldName}
-use Rattle.ob0_types_fields.specs.Owned.{fields_with_owners, fields_in_parameter_sections, fields_in_types, fields_in_variables, owners_in_resolution}
+use Rattle.ob0_types_fields.specs.Owned.{fields_with_owners, fields_in_parameter_sections, fields_in_types, fields_in_variables, identifier_owners_in_resolution}
 use Rattle.ob0_language_fields.specs.Renaming.{with_renamed_field, is_duplicate_field}
 
 -- returns the identifiers in a module that declare or select a field, in text order
 abbrev pub field_identifiers : Resolution → List FieldName
-field_identifiers r = fields_with_owners (owners_in_resolution r)
+field_identifiers r = fields_with_owners (identifier_owners_in_resolution r)
 
 -- returns whether the identifier `found` belongs to the field `x` of the record with ordinal `k`; a record's ordinal is
 -- the number of words ARRAY and RECORD before the record
@@ -48,7 +48,7 @@ field_tokens r k x = tokens_of_field r.module_read.source k x (field_identifiers
 abbrev pub field_at_offset : TextWithTokens → ℕ → List FieldName → Option FieldName
 field_at_offset source offset [] = None
 field_at_offset source offset (x ∷ xs) =
-    if is_on_span offset (span_at source x.token) then Some x else field_at_offset source offset xs
+    if is_in_span_or_at_end offset (span_at source x.token) then Some x else field_at_offset source offset xs
 
 -- returns the token index of each identifier in a list
 abbrev pub token_indexes : List FieldName → List ℕ

@@ -4,4 +4,4 @@ pub mod Identifiers
 pub mod FieldLists
 pub mod Walk
 pub mod FieldTypes
-pub mod Search
+pub mod ConstructorSearch

@@ -5,7 +5,7 @@
 use Rattle.std.specs.Prelude.{◌≡◌, ℕ, suc, ◌+◌, List, [], ◌∷◌, ◌++◌, map, Some, None, Option, option_and_then, option_map, length, replicate, set}
 use Rattle.ob0_tree.specs.declared.tree.Role.{Role}
 use Rattle.ob0_tree.specs.declared.tree.Role.TheVariants as role
-use Rattle.ob0_tree.specs.Tree.{Sort, Tree, Item, item, items, selector, maybe, adds, array_type, assigns, begins, block, branches, calls, compares, declares, declares_procedure, declares_type, declares_types, declares_variable, declares_variables, designator, else_branch, elsif_branch, empty, end, field, fields, formals, further_fields, further_section, forms_block, identifiers, index, integer, is_module, module_text, more, multiplies, named_type, negation, no_arguments, no_fields, no_formals, none, one, parenthesised, procedure, product, record_type, relates, repeat_loop, runs, section, some_arguments, some_fields, some_formals, sum, then_argument, then_fields, then_section, then_statement, type_definition, type_definitions, value_section, variable, variable_section, variables, while_loop, written_type}
+use Rattle.ob0_tree.specs.Tree.{Sort, Tree, GrammarItem, item, items, selector, maybe, adds, array_type, assigns, begins, block, branches, calls, compares, declares, declares_procedure, declares_type, declares_types, declares_variable, declares_variables, designator, else_branch, elsif_branch, empty, end, field, fields, formals, further_fields, further_section, forms_block, identifiers, index, integer, is_module, module_text, more, multiplies, named_type, negation, no_arguments, no_fields, no_formals, none, one, parenthesised, procedure, product, record_type, relates, repeat_loop, runs, section, some_arguments, some_fields, some_formals, sum, then_argument, then_fields, then_section, then_statement, type_definition, type_definitions, value_section, variable, variable_section, variables, while_loop, written_type}
 use Rattle.ob0_tree.specs.ParsedModule.{named_tree_of, tree_of}
 use Rattle.ob0_tree.specs.Places.{token_text_at}
 use Rattle.ob0_language_names.specs.Names.{Name}
@@ -33,7 +33,7 @@ identifiers_without_owners t = unowned_identifiers (identifiers role.Declaring t
 
 -- returns the type of a designator including one more selector, given the type `s` before this selector; returns None
 -- if `s` is unknown (None) or has no such field or element; for a tree that isn't a selector, returns `s`
-abbrev pub type_after_selector : {P : Type 0} {i : Item}
+abbrev pub type_after_selector : {P : Type 0} {i : GrammarItem}
     → Meanings ℕ Shape P
     → Option Shape
     → Tree ℕ (item i)
@@ -50,44 +50,44 @@ owner (Some s) x = option_map (λ f. f.ordinal) (selected_field s x)
 
 -- Returns the identifiers of a statement or a part of a statement, with their owners. If the part is a selector or a
 -- list of selectors, `s` is the type of the designator before this part.
-abbrev pub owners_in_tree : {P : Type 0} {s : Sort}
+abbrev pub identifier_owners_in_tree : {P : Type 0} {s : Sort}
     → Meanings ℕ Shape P
     → Option Shape
     → Tree ℕ s
     → List (ℕ × Option ℕ)
-owners_in_tree m s none = []
-owners_in_tree m s (one a) = owners_in_tree m None a
-owners_in_tree m s end = []
-owners_in_tree m s (more a b) = owners_in_tree m s a ++ owners_in_tree m (type_after_selector m s a) b
-owners_in_tree m s (compares a b) = owners_in_tree m None a ++ (owners_in_tree m None b)
-owners_in_tree m s (relates a b) = owners_in_tree m None b
-owners_in_tree m s (sum a b c) = owners_in_tree m None b ++ (owners_in_tree m None c)
-owners_in_tree m s (adds a b) = owners_in_tree m None b
-owners_in_tree m s (product a b) = owners_in_tree m None a ++ (owners_in_tree m None b)
-owners_in_tree m s (multiplies a b) = owners_in_tree m None b
-owners_in_tree m s (designator a b) = (a, None) ∷ (owners_in_tree m (type_of_variable_or_constant (m.object_for a)) b)
-owners_in_tree m s (integer a) = []
-owners_in_tree m s (parenthesised a) = owners_in_tree m None a
-owners_in_tree m s (negation a) = owners_in_tree m None a
-owners_in_tree m s (field a) = (a, owner s (m.written a)) ∷ []
-owners_in_tree m s (index a) = owners_in_tree m None a
-owners_in_tree m s empty = []
-owners_in_tree m s (assigns a b c) =
-    (a, None) ∷ (owners_in_tree m (type_of_variable_or_constant (m.object_for a)) b ++ (owners_in_tree m None c))
-owners_in_tree m s (calls a b) = (a, None) ∷ (owners_in_tree m None b)
-owners_in_tree m s (branches a b c d) =
-    owners_in_tree m None a ++ (owners_in_tree m None b ++ (owners_in_tree m None c ++ (owners_in_tree m None d)))
-owners_in_tree m s (while_loop a b) = owners_in_tree m None a ++ (owners_in_tree m None b)
-owners_in_tree m s (repeat_loop a b) = owners_in_tree m None a ++ (owners_in_tree m None b)
-owners_in_tree m s no_arguments = []
-owners_in_tree m s (some_arguments a b) = owners_in_tree m None a ++ (owners_in_tree m None b)
-owners_in_tree m s (then_argument a) = owners_in_tree m None a
-owners_in_tree m s (runs a b) = owners_in_tree m None a ++ (owners_in_tree m None b)
-owners_in_tree m s (then_statement a) = owners_in_tree m None a
-owners_in_tree m s (elsif_branch a b) = owners_in_tree m None a ++ (owners_in_tree m None b)
-owners_in_tree m s (else_branch a) = owners_in_tree m None a
-owners_in_tree m s (begins a) = owners_in_tree m None a
-owners_in_tree m s t = identifiers_without_owners t
+identifier_owners_in_tree m s none = []
+identifier_owners_in_tree m s (one a) = identifier_owners_in_tree m None a
+identifier_owners_in_tree m s end = []
+identifier_owners_in_tree m s (more a b) = identifier_owners_in_tree m s a ++ identifier_owners_in_tree m (type_after_selector m s a) b
+identifier_owners_in_tree m s (compares a b) = identifier_owners_in_tree m None a ++ (identifier_owners_in_tree m None b)
+identifier_owners_in_tree m s (relates a b) = identifier_owners_in_tree m None b
+identifier_owners_in_tree m s (sum a b c) = identifier_owners_in_tree m None b ++ (identifier_owners_in_tree m None c)
+identifier_owners_in_tree m s (adds a b) = identifier_owners_in_tree m None b
+identifier_owners_in_tree m s (product a b) = identifier_owners_in_tree m None a ++ (identifier_owners_in_tree m None b)
+identifier_owners_in_tree m s (multiplies a b) = identifier_owners_in_tree m None b
+identifier_owners_in_tree m s (designator a b) = (a, None) ∷ (identifier_owners_in_tree m (type_of_variable_or_constant (m.object_for a)) b)
+identifier_owners_in_tree m s (integer a) = []
+identifier_owners_in_tree m s (parenthesised a) = identifier_owners_in_tree m None a
+identifier_owners_in_tree m s (negation a) = identifier_owners_in_tree m None a
+identifier_owners_in_tree m s (field a) = (a, owner s (m.written a)) ∷ []
+identifier_owners_in_tree m s (index a) = identifier_owners_in_tree m None a
+identifier_owners_in_tree m s empty = []
+identifier_owners_in_tree m s (assigns a b c) =
+    (a, None) ∷ (identifier_owners_in_tree m (type_of_variable_or_constant (m.object_for a)) b ++ (identifier_owners_in_tree m None c))
+identifier_owners_in_tree m s (calls a b) = (a, None) ∷ (identifier_owners_in_tree m None b)
+identifier_owners_in_tree m s (branches a b c d) =
+    identifier_owners_in_tree m None a ++ (identifier_owners_in_tree m None b ++ (identifier_owners_in_tree m None c ++ (identifier_owners_in_tree m None d)))
+identifier_owners_in_tree m s (while_loop a b) = identifier_owners_in_tree m None a ++ (identifier_owners_in_tree m None b)
+identifier_owners_in_tree m s (repeat_loop a b) = identifier_owners_in_tree m None a ++ (identifier_owners_in_tree m None b)
+identifier_owners_in_tree m s no_arguments = []
+identifier_owners_in_tree m s (some_arguments a b) = identifier_owners_in_tree m None a ++ (identifier_owners_in_tree m None b)
+identifier_owners_in_tree m s (then_argument a) = identifier_owners_in_tree m None a
+identifier_owners_in_tree m s (runs a b) = identifier_owners_in_tree m None a ++ (identifier_owners_in_tree m None b)
+identifier_owners_in_tree m s (then_statement a) = identifier_owners_in_tree m None a
+identifier_owners_in_tree m s (elsif_branch a b) = identifier_owners_in_tree m None a ++ (identifier_owners_in_tree m None b)
+identifier_owners_in_tree m s (else_branch a) = identifier_owners_in_tree m None a
+identifier_owners_in_tree m s (begins a) = identifier_owners_in_tree m None a
+identifier_owners_in_tree m s t = identifiers_without_owners t
 
 -- Returns the identifiers of a type or of a part of a type, with their owners. `k` is the number of words ARRAY and
 -- RECORD before this part. `r` is the ordinal of the record that a group of fields belongs to.
@@ -95,114 +95,114 @@ abbrev mutual
   -- returns the identifiers of a written type with their owners: its name, the identifiers in an array's length and
   -- element type, or the identifiers in a record's groups of fields; `k` is the number of words ARRAY and RECORD before
   -- the type
-  pub owners_in_type : ℕ → Tree ℕ written_type → List (ℕ × Option ℕ)
-  owners_in_type k (named_type x) = (x, None) ∷ []
-  owners_in_type k (array_type e t) = identifiers_without_owners e ++ owners_in_type (suc k) t
-  owners_in_type k (record_type g rest) =
-      owners_in_group k (suc k) g ++ owners_in_groups k (suc k + group_constructor_count g) rest
+  pub identifier_owners_in_type : ℕ → Tree ℕ written_type → List (ℕ × Option ℕ)
+  identifier_owners_in_type k (named_type x) = (x, None) ∷ []
+  identifier_owners_in_type k (array_type e t) = identifiers_without_owners e ++ identifier_owners_in_type (suc k) t
+  identifier_owners_in_type k (record_type g rest) =
+      identifier_owners_in_group k (suc k) g ++ identifier_owners_in_groups k (suc k + group_constructor_count g) rest
 
   -- returns the identifiers of a group of fields with their owners: the names of the fields, whose owner is the record
   -- with ordinal `r`, and the identifiers of their type; `k` is the number of words ARRAY and RECORD before this type
-  pub owners_in_group : ℕ → ℕ → Tree ℕ fields → List (ℕ × Option ℕ)
-  owners_in_group r k no_fields = []
-  owners_in_group r k (some_fields ns t) = map (λ x. (x, Some r)) (names_in_list ns) ++ owners_in_type k t
+  pub identifier_owners_in_group : ℕ → ℕ → Tree ℕ fields → List (ℕ × Option ℕ)
+  identifier_owners_in_group r k no_fields = []
+  identifier_owners_in_group r k (some_fields ns t) = map (λ x. (x, Some r)) (names_in_list ns) ++ identifier_owners_in_type k t
 
   -- returns the identifiers in a record's groups of fields after the first group, with their owners; the record has
   -- ordinal `r`, and `k` is the number of words ARRAY and RECORD before these groups
-  pub owners_in_groups : ℕ → ℕ → Tree ℕ (items further_fields) → List (ℕ × Option ℕ)
-  owners_in_groups r k end = []
-  owners_in_groups r k (more (then_fields g) rest) =
-      owners_in_group r k g ++ owners_in_groups r (k + group_constructor_count g) rest
+  pub identifier_owners_in_groups : ℕ → ℕ → Tree ℕ (items further_fields) → List (ℕ × Option ℕ)
+  identifier_owners_in_groups r k end = []
+  identifier_owners_in_groups r k (more (then_fields g) rest) =
+      identifier_owners_in_group r k g ++ identifier_owners_in_groups r (k + group_constructor_count g) rest
 
 -- returns the identifiers of type declarations with their owners; `k` is the number of words ARRAY and RECORD before
 -- the declarations
-abbrev pub owners_in_types : ℕ → Tree ℕ (items type_definition) → List (ℕ × Option ℕ)
-owners_in_types k end = []
-owners_in_types k (more (declares_type x u) ds) =
-    (x, None) ∷ (owners_in_type k u ++ owners_in_types (k + constructor_count u) ds)
+abbrev pub identifier_owners_in_types : ℕ → Tree ℕ (items type_definition) → List (ℕ × Option ℕ)
+identifier_owners_in_types k end = []
+identifier_owners_in_types k (more (declares_type x u) ds) =
+    (x, None) ∷ (identifier_owners_in_type k u ++ identifier_owners_in_types (k + constructor_count u) ds)
 
 -- returns the identifiers of a TYPE section with their owners; `k` is the number of words ARRAY and RECORD before the
 -- section
-abbrev pub owners_in_type_section : ℕ → Tree ℕ (maybe type_definitions) → List (ℕ × Option ℕ)
-owners_in_type_section k none = []
-owners_in_type_section k (one (declares_types ts)) = owners_in_types k ts
+abbrev pub identifier_owners_in_type_section : ℕ → Tree ℕ (maybe type_definitions) → List (ℕ × Option ℕ)
+identifier_owners_in_type_section k none = []
+identifier_owners_in_type_section k (one (declares_types ts)) = identifier_owners_in_types k ts
 
 -- returns the identifiers of variable declarations with their owners; `k` is the number of words ARRAY and RECORD
 -- before the declarations
-abbrev pub owners_in_variables : ℕ → Tree ℕ (items variable) → List (ℕ × Option ℕ)
-owners_in_variables k end = []
-owners_in_variables k (more (declares_variable ns u) gs) =
-    (identifiers_without_owners ns ++ owners_in_type k u) ++ owners_in_variables (k + constructor_count u) gs
+abbrev pub identifier_owners_in_variables : ℕ → Tree ℕ (items variable) → List (ℕ × Option ℕ)
+identifier_owners_in_variables k end = []
+identifier_owners_in_variables k (more (declares_variable ns u) gs) =
+    (identifiers_without_owners ns ++ identifier_owners_in_type k u) ++ identifier_owners_in_variables (k + constructor_count u) gs
 
 -- returns the identifiers of a VAR section with their owners; `k` is the number of words ARRAY and RECORD before the
 -- section
-abbrev pub owners_in_variable_section : ℕ → Tree ℕ (maybe variables) → List (ℕ × Option ℕ)
-owners_in_variable_section k none = []
-owners_in_variable_section k (one (declares_variables vs)) = owners_in_variables k vs
+abbrev pub identifier_owners_in_variable_section : ℕ → Tree ℕ (maybe variables) → List (ℕ × Option ℕ)
+identifier_owners_in_variable_section k none = []
+identifier_owners_in_variable_section k (one (declares_variables vs)) = identifier_owners_in_variables k vs
 
 -- returns the identifiers of a section of parameters with their owners; `k` is the number of words ARRAY and RECORD
 -- before the section
-abbrev pub owners_in_parameter_section : ℕ → Tree ℕ section → List (ℕ × Option ℕ)
-owners_in_parameter_section k (value_section ns u) = identifiers_without_owners ns ++ owners_in_type k u
-owners_in_parameter_section k (variable_section ns u) = identifiers_without_owners ns ++ owners_in_type k u
+abbrev pub identifier_owners_in_parameter_section : ℕ → Tree ℕ section → List (ℕ × Option ℕ)
+identifier_owners_in_parameter_section k (value_section ns u) = identifiers_without_owners ns ++ identifier_owners_in_type k u
+identifier_owners_in_parameter_section k (variable_section ns u) = identifiers_without_owners ns ++ identifier_owners_in_type k u
 
 -- returns the identifiers of the sections of parameters after the first section, with their owners; `k` is the number
 -- of words ARRAY and RECORD before these sections
-abbrev pub owners_in_parameter_sections : ℕ → Tree ℕ (items further_section) → List (ℕ × Option ℕ)
-owners_in_parameter_sections k end = []
-owners_in_parameter_sections k (more (then_section f) fs) =
-    owners_in_parameter_section k f ++ owners_in_parameter_sections (k + constructor_count (parameter_section_type f)) fs
+abbrev pub identifier_owners_in_parameter_sections : ℕ → Tree ℕ (items further_section) → List (ℕ × Option ℕ)
+identifier_owners_in_parameter_sections k end = []
+identifier_owners_in_parameter_sections k (more (then_section f) fs) =
+    identifier_owners_in_parameter_section k f ++ identifier_owners_in_parameter_sections (k + constructor_count (parameter_section_type f)) fs
 
 -- returns the identifiers of formal parameters with their owners; `k` is the number of words ARRAY and RECORD before
 -- the parameters
-abbrev pub owners_in_formals : ℕ → Tree ℕ (maybe formals) → List (ℕ × Option ℕ)
-owners_in_formals k none = []
-owners_in_formals k (one no_formals) = []
-owners_in_formals k (one (some_formals f fs)) =
-    owners_in_parameter_section k f ++ owners_in_parameter_sections (k + constructor_count (parameter_section_type f)) fs
+abbrev pub identifier_owners_in_formals : ℕ → Tree ℕ (maybe formals) → List (ℕ × Option ℕ)
+identifier_owners_in_formals k none = []
+identifier_owners_in_formals k (one no_formals) = []
+identifier_owners_in_formals k (one (some_formals f fs)) =
+    identifier_owners_in_parameter_section k f ++ identifier_owners_in_parameter_sections (k + constructor_count (parameter_section_type f)) fs
 
 -- Returns the identifiers of a block or of procedures, with their owners. `k` is the number of words ARRAY and RECORD
 -- before the block or the procedures.
 abbrev mutual
   -- returns the identifiers of a block with their owners: first the identifiers in its declarations, then the
   -- identifiers in its statements; `k` is the number of words ARRAY and RECORD before the block
-  pub owners_in_block : {P : Type 0} → Meanings ℕ Shape P → ℕ → Tree ℕ block → List (ℕ × Option ℕ)
-  owners_in_block m k (forms_block (declares cs ts vs ps) statements) =
-      (identifiers_without_owners cs ++ (owners_in_type_section k ts
-      ++ (owners_in_variable_section (constructors_before_variables k (forms_block (declares cs ts vs ps) statements)) vs
-      ++ owners_in_procedures m (constructors_before_procedures k (forms_block (declares cs ts vs ps) statements)) ps)))
-      ++ owners_in_tree m None statements
+  pub identifier_owners_in_block : {P : Type 0} → Meanings ℕ Shape P → ℕ → Tree ℕ block → List (ℕ × Option ℕ)
+  identifier_owners_in_block m k (forms_block (declares cs ts vs ps) statements) =
+      (identifiers_without_owners cs ++ (identifier_owners_in_type_section k ts
+      ++ (identifier_owners_in_variable_section (constructors_before_variables k (forms_block (declares cs ts vs ps) statements)) vs
+      ++ identifier_owners_in_procedures m (constructors_before_procedures k (forms_block (declares cs ts vs ps) statements)) ps)))
+      ++ identifier_owners_in_tree m None statements
 
   -- returns the identifiers of the procedures of a block with their owners, in text order; `k` is the number of words
   -- ARRAY and RECORD before the procedures
-  pub owners_in_procedures : {P : Type 0}
+  pub identifier_owners_in_procedures : {P : Type 0}
       → Meanings ℕ Shape P
       → ℕ
       → Tree ℕ (items procedure)
       → List (ℕ × Option ℕ)
-  owners_in_procedures m k end = []
-  owners_in_procedures m k (more p rest) =
-      owners_in_procedure m k p ++ owners_in_procedures m (k + procedure_constructor_count p) rest
+  identifier_owners_in_procedures m k end = []
+  identifier_owners_in_procedures m k (more p rest) =
+      identifier_owners_in_procedure m k p ++ identifier_owners_in_procedures m (k + procedure_constructor_count p) rest
 
   -- returns the identifiers of a procedure with their owners: its name, then the identifiers in its parameters and its
   -- block, then its closing name; `k` is the number of words ARRAY and RECORD before the procedure
-  pub owners_in_procedure : {P : Type 0}
+  pub identifier_owners_in_procedure : {P : Type 0}
       → Meanings ℕ Shape P
       → ℕ
       → Tree ℕ (item procedure)
       → List (ℕ × Option ℕ)
-  owners_in_procedure m k (declares_procedure x fs b closing) =
+  identifier_owners_in_procedure m k (declares_procedure x fs b closing) =
       (x, None)
-      ∷ (owners_in_formals k fs
-      ++ (owners_in_block m (constructors_before_procedure_block k (declares_procedure x fs b closing)) b
+      ∷ (identifier_owners_in_formals k fs
+      ++ (identifier_owners_in_block m (constructors_before_procedure_block k (declares_procedure x fs b closing)) b
       ++ ((closing, None) ∷ [])))
 
 -- returns the identifiers of a module with their owners, in text order
-abbrev pub owners_in_module : {P : Type 0}
+abbrev pub identifier_owners_in_module : {P : Type 0}
     → Meanings ℕ Shape P
     → Tree ℕ module_text
     → List (ℕ × Option ℕ)
-owners_in_module m (is_module x b closing) = (x, None) ∷ (owners_in_block m 0 b ++ ((closing, None) ∷ []))
+identifier_owners_in_module m (is_module x b closing) = (x, None) ∷ (identifier_owners_in_block m 0 b ++ ((closing, None) ∷ []))
 
 -- Returns the meanings of the names in a resolved module. Each name is given by the index of its token. `objects` gives
 -- the object of a declaration, by the declaration's ordinal. A token that isn't bound to a declaration has no object.
@@ -217,9 +217,9 @@ meanings_by_token objects r =
     }
 
 -- returns the identifiers of a resolved module with their owners, in text order
-abbrev pub owners_in_resolution : Resolution → List (ℕ × Option ℕ)
-owners_in_resolution r =
-    owners_in_module (meanings_by_token (declared_object (named_tree_of r.module_read)) r)
+abbrev pub identifier_owners_in_resolution : Resolution → List (ℕ × Option ℕ)
+identifier_owners_in_resolution r =
+    identifier_owners_in_module (meanings_by_token (declared_object (named_tree_of r.module_read)) r)
     (tree_of r.module_read)
 
 -- states that, for each token in the list, the table gives the same owner as the list; an owner is the ordinal of a
@@ -229,14 +229,14 @@ AgreesWithOwnerList table [] = Unit {0}
 AgreesWithOwnerList table (x ∷ xs) = (table x.0 ≡ x.1) × AgreesWithOwnerList table xs
 
 -- States that a table has the owners of all field identifiers of a well-typed module (`IsOwnerTable`) if it agrees with
--- the list `owners_in_resolution`. The table agrees if it has, at the token of each identifier in the list, the same
+-- the list `identifier_owners_in_resolution`. The table agrees if it has, at the token of each identifier in the list, the same
 -- owner as the list.
 abbrev pub AgreeingTableIsOwnerTable : Type 0
 AgreeingTableIsOwnerTable =
     (r : Resolution) (owners : List (Option ℕ))
     → IsResolution r
     → WellTyped (named_tree_of r.module_read)
-    → AgreesWithOwnerList (ordinal_in owners) (owners_in_resolution r)
+    → AgreesWithOwnerList (ordinal_in owners) (identifier_owners_in_resolution r)
     → IsOwnerTable r.module_read owners
 
 -- returns the identifiers in a list that have an owner; these are the field identifiers
@@ -259,7 +259,7 @@ TableWithEnteredOwnersIsOwnerTable =
     → IsResolution r
     → WellTyped (named_tree_of r.module_read)
     → IsOwnerTable r.module_read (table_with_owners (replicate (length r.module_read.source.tokens) None)
-    (fields_with_owners (owners_in_resolution r)))
+    (fields_with_owners (identifier_owners_in_resolution r)))
 
 -- ---- the field identifiers only, in the order in which the code's walk collects them
 
@@ -406,10 +406,10 @@ abbrev pub fields_in_module : {P : Type 0} → Meanings ℕ Shape P → Tree ℕ
 fields_in_module m (is_module x b closing) = fields_in_block m 0 b
 
 -- States that the code's walk over a module (`fields_in_module`) finds exactly the identifiers of the list
--- `owners_in_resolution` that have an owner, in the same order.
+-- `identifier_owners_in_resolution` that have an owner, in the same order.
 abbrev pub WalkFindsAllFields : Type 0
 WalkFindsAllFields =
     (r : Resolution)
-    → fields_with_owners (owners_in_resolution r)
+    → fields_with_owners (identifier_owners_in_resolution r)
     ≡ fields_in_module (meanings_by_token (declared_object (named_tree_of r.module_read)) r)
     (tree_of r.module_read)

@@ -6,7 +6,7 @@ use Rattle.ob0_language_types.specs.Expressions.{Meanings}
 use Rattle.ob0_types_table.specs.declared.known.RecordShape.{RecordShape}
 use Rattle.ob0_types_table.specs.declared.known.TypeEntry.TheVariants as made
 use Rattle.ob0_types_table.specs.KnownTables.{declared_object_in, shapes_of}
-use Rattle.ob0_types_table.specs.Tables.{entry_shape}
+use Rattle.ob0_types_table.specs.DeclarationTableView.{entry_shape}
 use Rattle.ob0_language_types.specs.WellTyped.{Signature}
 use Rattle.ob0_language_values.specs.Values.{Shape}
 use Rattle.ob0_types_fields.specs.declared.field_name.FieldName.{FieldName}

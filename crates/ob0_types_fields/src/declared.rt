@@ -2,7 +2,7 @@
 
 ghost use Rattle.std.specs.Prelude.{◌≡◌, ◌≤◌, ◌++◌, ◌+◌, ◌^◌, IfOk, MatchResult};
 ghost use Rattle.ob0_language_names.specs.Parts.{formal_sections, names_in_list, section_types, section_variables};
-ghost use Rattle.ob0_tree.specs.View.{optional_field_group_of, formals_of, names_of, record_type_of, type_of, types_of, variables_of};
+ghost use Rattle.ob0_tree.specs.View.{optional_field_group_of, formals_of, names_of, record_type_of, type_of, type_section_of, variable_section_of};
 ghost use Rattle.ob0_language_types.specs.Declarations.{formals_constructor_count, types_constructor_count, variables_constructor_count};
 ghost use Rattle.ob0_language_types.specs.Typing.{constructor_count, group_constructor_count};
 ghost use Rattle.ob0_types_fields.specs.Owned.{fields_in_group, fields_at_tokens, fields_in_parameter_sections, fields_in_type, fields_in_types, fields_in_variables};
@@ -132,9 +132,9 @@ pub(crate) fn add_type_section_fields(
 ) -> Result<(), AllocError>
     ensures found { IfOk result (λ _. found.new.items
         ≡ found.old.items
-        ++ fields_in_types word_count.old (section_types (types_of listed.now))) }
+        ++ fields_in_types word_count.old (section_types (type_section_of listed.now))) }
     ensures word_count { IfOk result (λ _. word_count.new
-        ≡ word_count.old + types_constructor_count (section_types (types_of listed.now))) }
+        ≡ word_count.old + types_constructor_count (section_types (type_section_of listed.now))) }
 {
     let Some(listed) = listed else {
         return Ok(());
@@ -155,10 +155,10 @@ pub(crate) fn add_variable_section_fields(
 ) -> Result<(), AllocError>
     ensures found { IfOk result (λ _. found.new.items
         ≡ found.old.items
-        ++ fields_in_variables word_count.old (section_variables (variables_of listed.now))) }
+        ++ fields_in_variables word_count.old (section_variables (variable_section_of listed.now))) }
     ensures word_count { IfOk result (λ _. word_count.new
         ≡ word_count.old
-        + variables_constructor_count (section_variables (variables_of listed.now))) }
+        + variables_constructor_count (section_variables (variable_section_of listed.now))) }
 {
     let Some(listed) = listed else {
         return Ok(());

@@ -31,7 +31,7 @@ ghost use Rattle.ob0_language_names.specs.Names.{same_name};
 ghost use Rattle.ob0_types_table.specs.KnownTables.{declared_object_in};
 ghost use Rattle.ob0_types_fields.specs.declared.field_name.FieldName.{FieldName};
 ghost use Rattle.ob0_types_fields.specs.Identifiers.{AreInTextOrder, declared_fields, field_at_offset, first_token, field_tokens_of_record, tokens_of_field};
-ghost use Rattle.ob0_types_fields.specs.FieldLists.{HasSameTokensIfReplaced, moved_field, fields_before, fields_at_or_after, all_fields_if_any_declared, field_lists_of, old_token_index, new_token_index, overwritten_fields};
+ghost use Rattle.ob0_types_fields.specs.FieldLists.{HasSameTokensIfReplaced, field_with_shifted_token, fields_before_token, fields_at_or_after_token, all_fields_if_any_declared, field_lists_of, old_token_index, new_token_index, overwritten_fields};
 ghost use Rattle.ob0_types_fields.specs.Owned.{fields_in_module, fields_in_tree, meanings_by_token};
 
 use crate::declaring::add_block_declared_fields;
@@ -131,25 +131,25 @@ impl ModuleFields {
         place: BodyBounds,
         same: CommonPrefixAndSuffix,
     ) -> Result<ModuleFields, AllocError>
-        ensures declared { IfOk result (λ f. f.declared ≡ map (moved_field same) self.declared) }
+        ensures declared { IfOk result (λ f. f.declared ≡ map (field_with_shifted_token same) self.declared) }
         ensures all { IfOk result (λ f. f.all
-            ≡ fields_before place.first self.all
+            ≡ fields_before_token place.first self.all
             ++ (fields_in_tree (meanings_by_token (declared_object_in table.now) resolved.now)
             (body_of statements.now)
-            ++ map (moved_field same) (fields_at_or_after (old_token_index same place.closing) self.all))) }
+            ++ map (field_with_shifted_token same) (fields_at_or_after_token (old_token_index same place.closing) self.all))) }
     {
         let walk = FieldWalk { table, resolved };
         let mut all = Vec::with_capacity(alloc, self.all.len())?;
         add_fields_before(&mut all, &self.all, place.first)?;
         walk.add_body_fields(&mut all, statements)?;
-        add_moved_fields(
+        add_fields_with_shifted_tokens(
             &mut all,
             &self.all,
             old_token_index(place.closing, same),
             same,
         )?;
         let mut declared = Vec::with_capacity(alloc, self.declared.len())?;
-        add_moved_fields(&mut declared, &self.declared, 0, same)?;
+        add_fields_with_shifted_tokens(&mut declared, &self.declared, 0, same)?;
         Ok(ModuleFields { declared, all })
     }
 
@@ -273,7 +273,7 @@ fn add_fields_before(
     fields: &[FieldName],
     token: usize,
 ) -> Result<(), AllocError>
-    ensures { OnOk result (found.new.items ≡ found.old.items ++ fields_before token fields.now) }
+    ensures { OnOk result (found.new.items ≡ found.old.items ++ fields_before_token token fields.now) }
 {
     for field in fields {
         if field.token < token {
@@ -284,16 +284,16 @@ fn add_fields_before(
 }
 
 /// Appends to `found` the items of the list `fields` whose token indexes in the old text are
-/// `token` or more. Each appended item gets the index of its token in the new text. `same`
-/// specifies the unchanged tokens.
-fn add_moved_fields(
+/// `token` or more. Each appended item gets its token's index in the new text. `same` specifies the
+/// unchanged tokens.
+fn add_fields_with_shifted_tokens(
     found: &mut FieldNameList,
     fields: &[FieldName],
     token: usize,
     same: CommonPrefixAndSuffix,
 ) -> Result<(), AllocError>
     ensures { OnOk result (found.new.items
-        ≡ found.old.items ++ map (moved_field same) (fields_at_or_after token fields.now)) }
+        ≡ found.old.items ++ map (field_with_shifted_token same) (fields_at_or_after_token token fields.now)) }
 {
     for field in fields {
         if field.token >= token {

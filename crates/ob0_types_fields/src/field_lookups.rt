@@ -6,7 +6,7 @@ ghost use Rattle.std.specs.List.Sorted.{IsNonDecreasingBy, IsPartitionPoint};
 ghost use Rattle.ob0_tree.specs.Places.{token_text_at};
 ghost use Rattle.ob0_language_names.specs.Names.{same_name};
 ghost use Rattle.ob0_scope_table.specs.Resolution.{span_at};
-ghost use Rattle.ob0_scope_table.specs.Spans.{is_on_span};
+ghost use Rattle.ob0_scope_table.specs.Spans.{is_in_span_or_at_end};
 ghost use Rattle.ob0_types_fields.specs.Identifiers.{AreInTextOrder, field_at_offset, first_token, belongs_to_field, field_tokens_of_record, tokens_of_field};
 
 use crate::field_name::FieldName;
@@ -47,9 +47,9 @@ fn count_fields_ending_before(tokens: &Tokens, offset: usize, found: &[FieldName
 /// Returns the identifier `field` if it contains the byte offset `offset` or ends there, otherwise
 /// None.
 fn field_if_at_offset(tokens: &Tokens, offset: usize, field: FieldName) -> Option<FieldName>
-    ensures { result ≡ (if is_on_span offset (span_at tokens.now field.token) then Some field else None) }
+    ensures { result ≡ (if is_in_span_or_at_end offset (span_at tokens.now field.token) then Some field else None) }
 {
-    if is_on_span(offset, token_span(tokens, field.token)) {
+    if is_in_span_or_at_end(offset, token_span(tokens, field.token)) {
         Some(field)
     } else {
         None
@@ -57,8 +57,8 @@ fn field_if_at_offset(tokens: &Tokens, offset: usize, field: FieldName) -> Optio
 }
 
 /// Returns whether the byte offset `offset` lies within the span or at the span's end.
-fn is_on_span(offset: usize, span: Span) -> bool
-    ensures { result ≡ is_on_span offset span }
+fn is_in_span_or_at_end(offset: usize, span: Span) -> bool
+    ensures { result ≡ is_in_span_or_at_end offset span }
 {
     span.start as usize <= offset && offset <= span.end as usize
 }

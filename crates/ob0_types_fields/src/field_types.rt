@@ -10,18 +10,18 @@
 //! depend on the stored ordinals.
 //!
 //! Each function of the walk visits one part of the module. It takes the state of the search before
-//! this part and returns the state after this part (`Search`). So all the functions' contracts have
-//! the same form (`state_after_constructors`). When the type is found, the remaining procedures are
-//! skipped.
+//! this part and returns the state after this part (`ConstructorSearch`). So all the functions'
+//! contracts have the same form (`state_after_constructors`). When the type is found, the remaining
+//! procedures are skipped.
 
 ghost use Rattle.std.specs.Prelude.{◌≡◌, List, None, option_and_then, option_map};
-ghost use Rattle.ob0_tree.specs.View.{block_of, optional_field_group_of, formals_of, procedure_of, record_type_of, parameter_section_of, type_of, types_of, variables_of};
+ghost use Rattle.ob0_tree.specs.View.{block_of, optional_field_group_of, formals_of, procedure_of, record_type_of, parameter_section_of, type_of, type_section_of, variable_section_of};
 ghost use Rattle.ob0_language_types.specs.Typing.{element_type, field_type, type_of_object};
 ghost use Rattle.ob0_types_table.specs.KnownTables.{declared_object_in, shapes_of};
-ghost use Rattle.ob0_types_table.specs.Tables.{type_shape};
+ghost use Rattle.ob0_types_table.specs.DeclarationTableView.{type_shape};
 ghost use Rattle.ob0_language_values.specs.Values.{Shape, integer_shape};
 ghost use Rattle.ob0_types_fields.specs.FieldTypes.{constructed_types, constructed_type_by_objects, typed_field_by_objects};
-ghost use Rattle.ob0_types_fields.specs.Search.{state_after_constructors, state_after_constructor, constructor_walk_meanings, search_view, search_view_in_walk, shape_in_walk, typed_field_view};
+ghost use Rattle.ob0_types_fields.specs.ConstructorSearch.{state_after_constructors, state_after_constructor, constructor_walk_meanings, search_view, search_view_in_walk, shape_in_walk, typed_field_view};
 
 use crate::field_name::FieldName;
 use ob0_scope_table::Resolved;
@@ -68,36 +68,39 @@ fn constructed_type<'a, 't>(
         ≡ constructed_type_by_objects (declared_object_in table.now) resolved.now ordinal }
 {
     let walk = ConstructorWalk { table, resolved };
-    match walk.search_block(Search::Skipping(ordinal), resolved.module().block()) {
-        Search::Found(of) => of,
-        Search::Skipping(_) => None,
+    match walk.search_block(
+        ConstructorSearch::Skipping(ordinal),
+        resolved.module().block(),
+    ) {
+        ConstructorSearch::Found(of) => of,
+        ConstructorSearch::Skipping(_) => None,
     }
 }
 
 /// The state of a search for the word ARRAY or RECORD with a given ordinal.
 #[derive(Clone, Copy)]
-enum Search {
+enum ConstructorSearch {
     /// The word isn't found yet. The number is how many more words ARRAY and RECORD come before it.
     Skipping(usize),
     /// The word is found: the type that it constructs, or None if this type is unknown.
     Found(Option<TypeId>),
 }
 
-impl Search {
+impl ConstructorSearch {
     /// Returns the state of the search after one more word ARRAY or RECORD, given the state before
     /// this word. The word constructs the type `of`, or an unknown type if `of` is None.
-    fn after_constructor(self, of: Option<TypeId>) -> Search
+    fn after_constructor(self, of: Option<TypeId>) -> ConstructorSearch
         ensures { (shapes : List Shape)
             → search_view shapes result
             ≡ state_after_constructor (search_view shapes self) (option_map (type_shape shapes) of) }
     {
         match self {
-            Search::Found(found) => Search::Found(found),
-            Search::Skipping(n) => {
+            ConstructorSearch::Found(found) => ConstructorSearch::Found(found),
+            ConstructorSearch::Skipping(n) => {
                 if n == 0 {
-                    Search::Found(of)
+                    ConstructorSearch::Found(of)
                 } else {
-                    Search::Skipping(n - 1)
+                    ConstructorSearch::Skipping(n - 1)
                 }
             }
         }
@@ -148,7 +151,12 @@ impl<'a, 't> ConstructorWalk<'a, 't> {
     /// given the state `search` before them. `of` is the type that `t` denotes, or None if this
     /// type is unknown.
     #[cycle(types)]
-    fn search_type(&self, search: Search, of: Option<TypeId>, t: &WrittenType) -> Search
+    fn search_type(
+        &self,
+        search: ConstructorSearch,
+        of: Option<TypeId>,
+        t: &WrittenType,
+    ) -> ConstructorSearch
         ensures { search_view_in_walk self.now result
             ≡ state_after_constructors (search_view_in_walk self.now search)
             (constructed_types (constructor_walk_meanings self.now) (shape_in_walk self.now of) (type_of t.now)) }
@@ -170,7 +178,12 @@ impl<'a, 't> ConstructorWalk<'a, 't> {
     /// state `search` before them. The first of these words is the RECORD of this type. `of` is the
     /// type that the record type denotes, or None if this type is unknown.
     #[cycle(types)]
-    fn search_record(&self, search: Search, of: Option<TypeId>, r: &RecordType) -> Search
+    fn search_record(
+        &self,
+        search: ConstructorSearch,
+        of: Option<TypeId>,
+        r: &RecordType,
+    ) -> ConstructorSearch
         ensures { search_view_in_walk self.now result
             ≡ state_after_constructors (search_view_in_walk self.now search)
             (constructed_types (constructor_walk_meanings self.now) (shape_in_walk self.now of) (record_type_of r.now)) }
@@ -185,7 +198,12 @@ impl<'a, 't> ConstructorWalk<'a, 't> {
     /// Returns the state of the search after the type of a group of fields (`x, y: T`). `of` is the
     /// type of the record that contains the group, or None if this type is unknown.
     #[cycle(types)]
-    fn search_group(&self, search: Search, of: Option<TypeId>, f: &OptionalFieldGroup) -> Search
+    fn search_group(
+        &self,
+        search: ConstructorSearch,
+        of: Option<TypeId>,
+        f: &OptionalFieldGroup,
+    ) -> ConstructorSearch
         ensures { search_view_in_walk self.now result
             ≡ state_after_constructors (search_view_in_walk self.now search)
             (constructed_types (constructor_walk_meanings self.now) (shape_in_walk self.now of) (optional_field_group_of f.now)) }
@@ -199,10 +217,14 @@ impl<'a, 't> ConstructorWalk<'a, 't> {
         }
     }
 
-    fn search_type_section(&self, search: Search, declared: &Option<Vec<TypeDeclaration>>) -> Search
+    fn search_type_section(
+        &self,
+        search: ConstructorSearch,
+        declared: &Option<Vec<TypeDeclaration>>,
+    ) -> ConstructorSearch
         ensures { search_view_in_walk self.now result
             ≡ state_after_constructors (search_view_in_walk self.now search)
-            (constructed_types (constructor_walk_meanings self.now) None (types_of declared.now)) }
+            (constructed_types (constructor_walk_meanings self.now) None (type_section_of declared.now)) }
     {
         let Some(declared) = declared else {
             return search;
@@ -216,12 +238,12 @@ impl<'a, 't> ConstructorWalk<'a, 't> {
 
     fn search_variable_section(
         &self,
-        search: Search,
+        search: ConstructorSearch,
         declared: &Option<Vec<VariableDeclaration>>,
-    ) -> Search
+    ) -> ConstructorSearch
         ensures { search_view_in_walk self.now result
             ≡ state_after_constructors (search_view_in_walk self.now search)
-            (constructed_types (constructor_walk_meanings self.now) None (variables_of declared.now)) }
+            (constructed_types (constructor_walk_meanings self.now) None (variable_section_of declared.now)) }
     {
         let Some(declared) = declared else {
             return search;
@@ -233,7 +255,11 @@ impl<'a, 't> ConstructorWalk<'a, 't> {
         search
     }
 
-    fn search_formals(&self, search: Search, sections: &Option<Vec<ParameterSection>>) -> Search
+    fn search_formals(
+        &self,
+        search: ConstructorSearch,
+        sections: &Option<Vec<ParameterSection>>,
+    ) -> ConstructorSearch
         ensures { search_view_in_walk self.now result
             ≡ state_after_constructors (search_view_in_walk self.now search)
             (constructed_types (constructor_walk_meanings self.now) None (formals_of sections.now)) }
@@ -249,7 +275,11 @@ impl<'a, 't> ConstructorWalk<'a, 't> {
     }
 
     /// Returns the state of the search after the type of one section of parameters.
-    fn search_parameter_section(&self, search: Search, s: &ParameterSection) -> Search
+    fn search_parameter_section(
+        &self,
+        search: ConstructorSearch,
+        s: &ParameterSection,
+    ) -> ConstructorSearch
         ensures { search_view_in_walk self.now result
             ≡ state_after_constructors (search_view_in_walk self.now search)
             (constructed_types (constructor_walk_meanings self.now) None (parameter_section_of s.now)) }
@@ -259,7 +289,7 @@ impl<'a, 't> ConstructorWalk<'a, 't> {
 
     /// Returns the state of the search after all declarations of a block, including its procedures.
     #[cycle(blocks)]
-    fn search_block(&self, search: Search, b: &Block) -> Search
+    fn search_block(&self, search: ConstructorSearch, b: &Block) -> ConstructorSearch
         ensures { search_view_in_walk self.now result
             ≡ state_after_constructors (search_view_in_walk self.now search)
             (constructed_types (constructor_walk_meanings self.now) None (block_of b.now)) }
@@ -273,14 +303,14 @@ impl<'a, 't> ConstructorWalk<'a, 't> {
     }
 
     #[cycle(blocks)]
-    fn search_procedure(&self, search: Search, p: &Procedure) -> Search
+    fn search_procedure(&self, search: ConstructorSearch, p: &Procedure) -> ConstructorSearch
         ensures { search_view_in_walk self.now result
             ≡ state_after_constructors (search_view_in_walk self.now search)
             (constructed_types (constructor_walk_meanings self.now) None (procedure_of p.now)) }
     {
         match search {
-            Search::Found(of) => Search::Found(of),
-            Search::Skipping(_) => self.search_block(
+            ConstructorSearch::Found(of) => ConstructorSearch::Found(of),
+            ConstructorSearch::Skipping(_) => self.search_block(
                 self.search_formals(search, &p.formals),
                 &p.block,
             ),

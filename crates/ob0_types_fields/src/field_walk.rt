@@ -14,7 +14,7 @@ ghost use Rattle.std.specs.Prelude.{◌≡◌, ◌++◌, ◌+◌, IfOk, Some, op
 ghost use Rattle.ob0_tree.specs.View.{expression_of, compound_expression_of, simple_expression_of, term_of, factor_of, designator_of, selector_of, assignment_of, call_of, arguments_of_vec, statement_of, if_of, elsifs_of_vec, sequence_of_vec, body_of, block_of, procedure_of};
 ghost use Rattle.ob0_language_types.specs.Declarations.{block_constructor_count, procedure_constructor_count};
 ghost use Rattle.ob0_types_table.specs.KnownTables.{shapes_of};
-ghost use Rattle.ob0_types_table.specs.Tables.{type_shape};
+ghost use Rattle.ob0_types_table.specs.DeclarationTableView.{type_shape};
 ghost use Rattle.ob0_language_types.specs.Typing.{element_type, field_type, type_of_variable_or_constant};
 ghost use Rattle.ob0_language_values.specs.Values.{integer_shape};
 ghost use Rattle.ob0_types_fields.specs.Owned.{field_if_owned, fields_in_tree, fields_in_block, fields_in_procedure, owner, type_after_selector};
@@ -27,7 +27,7 @@ use ob0_tree::{
     Assignment, Block, Call, CompoundExpression, Designator, Elsif, Expression, Factor, If,
     Procedure, Repeat, Selector, SimpleExpression, Statement, Term, While, token_text_at,
 };
-use ob0_types_table::{DeclarationTable, Object, Parts, RecordShape, TypeId, scalar_type};
+use ob0_types_table::{DeclarationTable, Object, RecordShape, TypeId, TypeWithParts, scalar_type};
 use std::alloc::AllocError;
 
 /// The module whose fields are collected, with the table of its declarations.
@@ -79,11 +79,11 @@ impl<'a, 't> FieldWalk<'a, 't> {
             return Ok(None);
         };
         match self.table.parts(base) {
-            Parts::Record(shape) => self.add_record_selection(found, shape, name),
-            Parts::Integer => Ok(None),
-            Parts::Boolean => Ok(None),
-            Parts::Array(_) => Ok(None),
-            Parts::Faulty => Ok(None),
+            TypeWithParts::Record(shape) => self.add_record_selection(found, shape, name),
+            TypeWithParts::Integer => Ok(None),
+            TypeWithParts::Boolean => Ok(None),
+            TypeWithParts::Array(_) => Ok(None),
+            TypeWithParts::Faulty => Ok(None),
         }
     }
 

@@ -9,9 +9,9 @@ ghost use Rattle.ob0_types_fields.specs.Owned.{WalkFindsAllFields, AgreeingTable
 ghost use Rattle.ob0_types_fields.specs.Owners.{RenamingFollowsOwners};
 
 /// Proves that a table is an owner table (`IsOwnerTable`) of a well-typed module if it agrees with
-/// the list `owners_in_resolution`. For each identifier of the module, this list gives the ordinal
-/// of the field's record, or None if the identifier isn't a field identifier. The table must have
-/// the same at the identifier's token.
+/// the list `identifier_owners_in_resolution`. For each identifier of the module, this list gives
+/// the ordinal of the field's record, or None if the identifier isn't a field identifier. The table
+/// must have the same at the identifier's token.
 pub fn agreeing_table_is_owner_table()
     ensures { AgreeingTableIsOwnerTable }
 {}

@@ -11,7 +11,7 @@ use Rattle.ob0_scope_table.specs.Resolution.{Resolution}
 use Rattle.ob0_types_table.specs.Designators.{labelled_expressions}
 use Rattle.ob0_scope_table.specs.LabelledTrees.{tree_with_labels}
 use Rattle.ob0_language_types.specs.Arguments.{call_arguments, further_arguments}
-use Rattle.ob0_language_types.specs.WellTyped.{Mode, by_place, by_value, section_mode}
+use Rattle.ob0_language_types.specs.WellTyped.{Mode, by_place, by_value, parameter_section_mode}
 
 pub section-names : (r : Resolution) (s : ParameterSection) → parameter_section_names (tree_with_labels r (parameter_section_of s)) ≡ names_in_list (tree_with_labels r (names_of s.names))
 section-names r s = by_mode s.by_reference
@@ -21,10 +21,10 @@ section-names r s = by_mode s.by_reference
     by_mode false = refl
 
 -- The mode of a section follows from its VAR mark, for any function from this mark to modes.
-pub section-mode : (mode_of : Bool → Mode) → mode_of true ≡ by_place → mode_of false ≡ by_value → (r : Resolution) (s : ParameterSection) → section_mode (tree_with_labels r (parameter_section_of s)) ≡ mode_of s.by_reference
-section-mode mode_of marked unmarked r s = by_mode s.by_reference
+pub section-mode : (mode_from_flag : Bool → Mode) → mode_from_flag true ≡ by_place → mode_from_flag false ≡ by_value → (r : Resolution) (s : ParameterSection) → parameter_section_mode (tree_with_labels r (parameter_section_of s)) ≡ mode_from_flag s.by_reference
+section-mode mode_from_flag marked unmarked r s = by_mode s.by_reference
   where
-    by_mode : (b : Bool) → section_mode (tree_with_labels r (cond b (variable_section (names_of s.names) (type_of s.written)) (value_section (names_of s.names) (type_of s.written)))) ≡ mode_of b
+    by_mode : (b : Bool) → parameter_section_mode (tree_with_labels r (cond b (variable_section (names_of s.names) (type_of s.written)) (value_section (names_of s.names) (type_of s.written)))) ≡ mode_from_flag b
     by_mode true = sym marked
     by_mode false = sym unmarked
 

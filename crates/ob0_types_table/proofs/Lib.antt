@@ -1,4 +1,4 @@
-pub mod Tables
+pub mod DeclarationTableView
 pub mod FirstFields
 pub mod Sighted
 pub mod SameShapes

@@ -9,7 +9,7 @@ use Rattle.ob0_scan.specs.declared.lexeme.LexemeKind.{LexemeKind}
 use Rattle.ob0_scan.specs.declared.lexeme.LexemeKind.TheVariants as lexeme
 use Rattle.ob0_scan.specs.Classes.{IsLexemeOfKind}
 use Rattle.ob0_scan.specs.Lexed.{AreLeadingLexemes, Lexeme}
-use Rattle.ob0_scan.specs.TextWithTokens.{IsScan, TextWithTokens, span_from, tokens_of_lexeme, tokens_from}
+use Rattle.ob0_scan.specs.TextWithTokens.{IsScan, TextWithTokens, span_from, tokens_of_lexeme, tokens_of_lexemes_from}
 use Rattle.ob0_tree.specs.Places.{token_value_at, token_value_or_zero, integer_value_or_zero}
 
 pub token_value_at-read : (s : TextWithTokens) (i : ℕ) (d : Token) → i < length s.tokens → token_value_at s i ≡ integer_value_or_zero (get_or s.tokens i d).kind
@@ -31,10 +31,10 @@ small_then lexeme.Comment text span rest d h small i less = small i less
 small_then (lexeme.Token kind) text span rest d h small zero less = small_kind kind text h
 small_then (lexeme.Token kind) text span rest d h small (suc i) less = small i (omega arith)
 
-small_from : (start : ℕ) (ls : List Lexeme) (after : List ℕ) (d : Token) → AreLeadingLexemes ls after → (i : ℕ) → i < length (tokens_from start ls) → integer_value_or_zero (get_or (tokens_from start ls) i d).kind ≤ 2147483647
+small_from : (start : ℕ) (ls : List Lexeme) (after : List ℕ) (d : Token) → AreLeadingLexemes ls after → (i : ℕ) → i < length (tokens_of_lexemes_from start ls) → integer_value_or_zero (get_or (tokens_of_lexemes_from start ls) i d).kind ≤ 2147483647
 small_from start [] after d h i less = absurd (omega arith)
 small_from start (l ∷ ls) after d h i less =
-    small_then l.kind l.text (span_from start (length l.text)) (tokens_from (start + length l.text) ls) d h.0.belongs (small_from (start + length l.text) ls after d h.1) i less
+    small_then l.kind l.text (span_from start (length l.text)) (tokens_of_lexemes_from (start + length l.text) ls) d h.0.belongs (small_from (start + length l.text) ls after d h.1) i less
 
 pub small_number : (s : TextWithTokens) → IsScan s → (i : ℕ) (d : Token) → i < length s.tokens → integer_value_or_zero (get_or s.tokens i d).kind ≤ 2147483647
 small_number s scan i d less =

@@ -9,11 +9,11 @@ use Rattle.ob0_tree.specs.declared.tree.Expression.{Expression}
 use Rattle.ob0_language_names.specs.Names.{Label}
 use Rattle.ob0_scope_table.specs.Resolution.{Resolution}
 use Rattle.ob0_scope_table.specs.LabelledTrees.{tree_with_labels}
-use Rattle.ob0_language_types.specs.Selected.{selectors_in}
+use Rattle.ob0_language_types.specs.Selected.{selectors_of_designator}
 
 -- returns a designator's name and its selectors
 abbrev pub designator_parts : Designator → ℕ × Tree ℕ (items selector)
-designator_parts d = ((out-Designator d).name, selectors_in d)
+designator_parts d = ((out-Designator d).name, selectors_of_designator d)
 
 -- returns the name and the selectors of a factor that is a designator; None for any other factor
 abbrev pub designator_of_factor : {N : Type 0}

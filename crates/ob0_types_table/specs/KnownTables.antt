@@ -5,19 +5,19 @@ use Rattle.ob0_language_values.specs.Values.{Shape}
 use Rattle.ob0_types_table.specs.declared.known.TypeEntry as code
 use Rattle.ob0_types_table.specs.declared.known.Object as declaration
 use Rattle.ob0_language_types.specs.Expressions.{Object}
-use Rattle.ob0_types_table.specs.Tables.{object_view, extended_shapes}
+use Rattle.ob0_types_table.specs.DeclarationTableView.{object_view, extended_shapes}
 use Rattle.ob0_language_types.specs.WellTyped.{Signature}
 
 -- a table: the entries of the array and record types, and the object of each declaration, by ordinal, or None if the
 -- declaration has no object
-pub record Tables : Type 0 where
+pub record DeclarationTableView : Type 0 where
   pub shapes : List code.TypeEntry
   pub objects : List (Option declaration.Object)
 
 -- returns the shapes of the table's entries, in order; each entry refers only to earlier ones
-abbrev pub shapes_of : Tables → List Shape
+abbrev pub shapes_of : DeclarationTableView → List Shape
 shapes_of t = extended_shapes [] t.shapes
 
 -- returns the object of the declaration with this ordinal, as an object of the definitions; None if there is none
-abbrev pub declared_object_in : Tables → ℕ → Option (Object Shape Signature)
+abbrev pub declared_object_in : DeclarationTableView → ℕ → Option (Object Shape Signature)
 declared_object_in t k = option_and_then (object_view (shapes_of t)) (slice_index_or t.objects k None)

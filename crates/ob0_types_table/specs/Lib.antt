@@ -1,7 +1,7 @@
 pub mod FieldIndex
 pub mod FieldPlaces
-pub mod Tables
+pub mod DeclarationTableView
 pub mod KnownTables
-pub mod Parts
+pub mod TypeWithParts
 pub mod Operators
 pub mod Designators

@@ -1,7 +1,7 @@
 //! Appends an entry to the list of a module's array and record types.
 
 ghost use Rattle.std.specs.Prelude.{◌≡◌, ◌++◌, ◌∷◌, [], length, IfOk, OnOk, OnErr};
-ghost use Rattle.ob0_types_table.specs.Tables.{type_of_entry};
+ghost use Rattle.ob0_types_table.specs.DeclarationTableView.{type_of_entry};
 
 use crate::known::TypeEntry;
 use crate::types::TypeId;

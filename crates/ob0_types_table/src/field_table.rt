@@ -8,7 +8,7 @@ ghost use Rattle.std.specs.Prelude.{◌≡◌, List, IfOk, option_map};
 ghost use Rattle.ob0_language_values.specs.Values as shape;
 ghost use Rattle.ob0_types_table.specs.FieldIndex.{IsFirstFieldMap, type_of_first_field_named};
 ghost use Rattle.ob0_types_table.specs.FieldPlaces.{position_of_field};
-ghost use Rattle.ob0_types_table.specs.Tables.{field_shapes, type_shape};
+ghost use Rattle.ob0_types_table.specs.DeclarationTableView.{field_shapes, type_shape};
 ghost use Rattle.ob0_language_types.specs.Typing.{shape_of_field};
 
 use crate::known::Field;

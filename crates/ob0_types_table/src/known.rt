@@ -10,7 +10,7 @@
 ghost use Rattle.std.specs.Prelude.{◌≡◌, List, option_map};
 ghost use Rattle.ob0_language_values.specs.Values as shape;
 ghost use Rattle.ob0_types_table.specs.FieldPlaces.{selected_field};
-ghost use Rattle.ob0_types_table.specs.Tables.{field_shapes};
+ghost use Rattle.ob0_types_table.specs.DeclarationTableView.{field_shapes};
 
 use crate::field_table::FieldTable;
 use crate::types::{TypeId, scalar_type};
@@ -129,10 +129,10 @@ impl RecordShape {
 
 impl Model for DeclarationTable {
     ghost use Rattle.std.specs.Prelude.{[]};
-    ghost use Rattle.ob0_types_table.specs.KnownTables.{Tables};
-    ghost use Rattle.ob0_types_table.specs.Tables.{AreEntriesInOrder};
+    ghost use Rattle.ob0_types_table.specs.KnownTables.{DeclarationTableView};
+    ghost use Rattle.ob0_types_table.specs.DeclarationTableView.{AreEntriesInOrder};
 
-    ghost Value = { Tables };
+    ghost Value = { DeclarationTableView };
 
     ghost view = { λ k. record { shapes = k.shapes.items; objects = k.objects.items } };
 
@@ -142,7 +142,7 @@ impl Model for DeclarationTable {
 impl DeclarationTable {
     ghost use Rattle.std.specs.Prelude.{◌≡◌, [], length, option_map, option_and_then, slice_get, slice_index_or, MatchOption};
     ghost use Rattle.ob0_types_table.specs.KnownTables.{declared_object_in, shapes_of};
-    ghost use Rattle.ob0_types_table.specs.Tables.{AreEntriesInOrder, HasSizeOfShape, entry_shape, faulty_shape, object_view, type_shape};
+    ghost use Rattle.ob0_types_table.specs.DeclarationTableView.{AreEntriesInOrder, HasSizeOfShape, entry_shape, faulty_shape, object_view, type_shape};
     ghost use Rattle.ob0_language_types.specs.Typing.{constant_of, element_type, field_type, type_of_object};
     ghost use Rattle.ob0_language_values.specs.Scalars.{scalar_value};
     ghost use Rattle.ob0_language_values.specs.Values.{integer_shape};

@@ -17,6 +17,6 @@ pub use known::{
     ArrayShape, DeclarationTable, Field, FieldId, FormalParameter, MAX_SCALARS, MAX_TYPE_DEPTH,
     Object, RecordShape, StandardProcedure, TypeEntry,
 };
-pub use numbers::number_at;
-pub use type_parts::Parts;
+pub use numbers::integer_value_at_token;
+pub use type_parts::TypeWithParts;
 pub use types::{TypeId, scalar_type};

@@ -8,7 +8,7 @@ use ob0_scan::{TokenKind, Tokens};
 
 /// Returns the value of an integer token. Returns 0 for any other token, or if there is no such
 /// token.
-pub fn number_at(tokens: &Tokens, token: usize) -> i32
+pub fn integer_value_at_token(tokens: &Tokens, token: usize) -> i32
     ensures { result ≡ pos (token_value_at tokens.now token) }
 {
     // The proof needs this call: its contract states the tokens' invariant.

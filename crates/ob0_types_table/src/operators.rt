@@ -6,7 +6,7 @@ ghost use Rattle.std.specs.Prelude.{◌≡◌, Some, option_and_then, option_map
 ghost use Rattle.ob0_language_values.specs.Scalars.{scalar_value};
 ghost use Rattle.ob0_language_values.specs.Values as values;
 ghost use Rattle.ob0_types_table.specs.Operators.{product_value, sum_value};
-ghost use Rattle.ob0_language_types.specs.Selected.{apply_to_both};
+ghost use Rattle.ob0_language_types.specs.Selected.{apply_to_both_options};
 ghost use Rattle.ob0_language_types.specs.Typing.{outcome_value};
 
 use ob0_language_values::Scalar;
@@ -23,7 +23,7 @@ pub fn value_of_relation(
     right: Option<Scalar>,
 ) -> Option<Scalar>
     ensures { option_map scalar_value result
-        ≡ apply_to_both (λ x y. outcome_value (values.apply_relation relation x y)) (option_map scalar_value left)
+        ≡ apply_to_both_options (λ x y. outcome_value (values.apply_relation relation x y)) (option_map scalar_value left)
         (option_map scalar_value right) }
 {
     match left {

@@ -1,22 +1,22 @@
-//! Returns the parts of a type (`Parts`), for example an array's length and element type.
+//! Returns the parts of a type (`TypeWithParts`), for example an array's length and element type.
 //!
 //! The parts of an array or record include its number of scalars and the depth to which it is
-//! nested (`PartsHaveSizes`). The parts of a `TypeId` are `Faulty` exactly if the `TypeId` isn't
-//! one of the module's types (`is_known_type`). A faulty type also has a shape (`faulty_shape`),
-//! but with an ordinal that no ARRAY or RECORD of a text has. So a function whose contract states
-//! the shape of its result can't return `Unknown` for a type of a module.
+//! nested (`PartsHaveSizesOfShape`). The parts of a `TypeId` are `Faulty` exactly if the `TypeId`
+//! isn't one of the module's types (`is_known_type`). A faulty type also has a shape
+//! (`faulty_shape`), but with an ordinal that no ARRAY or RECORD of a text has. So a function whose
+//! contract states the shape of its result can't return `Unknown` for a type of a module.
 
 ghost use Rattle.std.specs.Prelude.{◌≡◌};
-ghost use Rattle.ob0_types_table.specs.Parts.{PartsHaveSizes, is_not_faulty, is_known_type, parts_shape};
+ghost use Rattle.ob0_types_table.specs.TypeWithParts.{PartsHaveSizesOfShape, is_not_faulty, is_known_type, shape_of_type_with_parts};
 ghost use Rattle.ob0_types_table.specs.KnownTables.{shapes_of};
-ghost use Rattle.ob0_types_table.specs.Tables.{type_shape};
+ghost use Rattle.ob0_types_table.specs.DeclarationTableView.{type_shape};
 
 use crate::known::{ArrayShape, DeclarationTable, RecordShape, TypeEntry};
 use crate::types::TypeId;
 
 /// A type with its parts. It is `Faulty` if the type isn't one of the module's types.
 #[derive(Clone, Copy)]
-pub enum Parts<'k> {
+pub enum TypeWithParts<'k> {
     Integer,
     Boolean,
     Array(ArrayShape),
@@ -27,30 +27,30 @@ pub enum Parts<'k> {
 impl DeclarationTable {
     /// Returns the parts of a type. The result is `Faulty` exactly if the type isn't one of the
     /// module's types.
-    pub fn parts(&self, of: TypeId) -> Parts<'_>
-        ensures shape { parts_shape (shapes_of self.now) result
+    pub fn parts(&self, of: TypeId) -> TypeWithParts<'_>
+        ensures shape { shape_of_type_with_parts (shapes_of self.now) result
             ≡ type_shape (shapes_of self.now) of }
-        ensures counted { PartsHaveSizes (shapes_of self.now) result }
+        ensures counted { PartsHaveSizesOfShape (shapes_of self.now) result }
         ensures known { is_not_faulty result ≡ is_known_type self.now of }
     {
         match of {
-            TypeId::Integer => Parts::Integer,
-            TypeId::Boolean => Parts::Boolean,
+            TypeId::Integer => TypeWithParts::Integer,
+            TypeId::Boolean => TypeWithParts::Boolean,
             TypeId::Array(i) => match self.entry(i) {
-                None => Parts::Faulty,
+                None => TypeWithParts::Faulty,
                 Some(shape) => match shape {
-                    TypeEntry::Array(array) => Parts::Array(*array),
-                    TypeEntry::Record(_) => Parts::Faulty,
+                    TypeEntry::Array(array) => TypeWithParts::Array(*array),
+                    TypeEntry::Record(_) => TypeWithParts::Faulty,
                 },
             },
             TypeId::Record(i) => match self.entry(i) {
-                None => Parts::Faulty,
+                None => TypeWithParts::Faulty,
                 Some(shape) => match shape {
-                    TypeEntry::Record(record) => Parts::Record(record),
-                    TypeEntry::Array(_) => Parts::Faulty,
+                    TypeEntry::Record(record) => TypeWithParts::Record(record),
+                    TypeEntry::Array(_) => TypeWithParts::Faulty,
                 },
             },
-            TypeId::Unknown => Parts::Faulty,
+            TypeId::Unknown => TypeWithParts::Faulty,
         }
     }
 }

@@ -26,15 +26,15 @@ use Rattle.ob0_text.specs.RefusalTexts.{refusal_text}
 use Rattle.ob0_text.specs.declared.refusals.EditRefusal.TheVariants.{TooLong}
 use Rattle.ob0_text.proofs.EntryLaws.{updated-some, updated-none}
 use Rattle.ob0_rpc.specs.Requesting.{code_action, request_by_method}
-use Rattle.ob0_rpc.specs.Faults.{minus}
-use Rattle.ob0_rpc.specs.Messages.{ReadsContent, meaning_of_content, meaning_of}
+use Rattle.ob0_rpc.specs.Faults.{negative_of}
+use Rattle.ob0_rpc.specs.Messages.{ReadsContent, meaning_of_content, meaning_of_message}
 use Rattle.ob0_rpc.specs.Shapes.{result_message, error_response_message}
 use Rattle.ob0_rpc.specs.declared.clients.ClientFeatures.{ClientFeatures}
 use Rattle.ob0_edits.specs.Inlinings.{OffersOrRefusesInlining}
 use Rattle.ob0_session_answers.specs.Actions.{VersionedActionsRequest, ListsActions, kinds_include_inlining, wants_inlining, actions_offset, actions_array}
 use Rattle.ob0_session_server.specs.Answers as answers_of
 use Rattle.ob0_session_server.specs.Answers.{ServerState, Reply, AreContentsOfReply, SendsMessage, Reaction, react, apply_notification, react_to_notification, react_to_method, react_to_request as requested_in, react_to_known_request, react_about_document, formatting_reply, renames, actions_reply, publication_reply, Answers, AnswersInPhase, AnswersBeforeEnd, says}
-use Rattle.ob0_analysis.specs.Diagnosed.{ReportedDiagnosis, IsWellTypedModule, Reports, ReportsFaults, reported_diagnosis_of_fault}
+use Rattle.ob0_analysis.specs.Diagnosed.{ReportedDiagnosis, IsWellTypedModule, ReportsErrorsOf, ReportsFaults, reported_diagnosis_of_fault}
 use Rattle.ob0_session_answers.specs.Diagnostics.{AreDiagnosticsOf, diagnostic_of}
 use Rattle.ob0_analysis.specs.Texts.{utf8}
 use Rattle.ob0_session_answers.specs.Formatted.{AnswersFormatting}
@@ -69,7 +69,7 @@ pub going_on : (before after : ServerState) (content : List ℕ) (sent : List (L
 going_on before after content sent running h = subst (λ phase. AnswersInPhase phase before content sent after) running h
 
 -- A content with this meaning has the reaction to that meaning.
-pub reacts_so : (before after : ServerState) (content : List ℕ) (sent : List (List ℕ)) (d : Data) → AnswersBeforeEnd before content sent after → ReadsContent content (Some d) → (after ≡ (react before (meaning_of d)).after) × AreContentsOfReply (react before (meaning_of d)).reply sent
+pub reacts_so : (before after : ServerState) (content : List ℕ) (sent : List (List ℕ)) (d : Data) → AnswersBeforeEnd before content sent after → ReadsContent content (Some d) → (after ≡ (react before (meaning_of_message d)).after) × AreContentsOfReply (react before (meaning_of_message d)).reply sent
 reacts_so before after content sent d (json, reads, answer) known =
     subst (λ j. (after ≡ (react before (meaning_of_content j)).after) × AreContentsOfReply (react before (meaning_of_content j)).reply sent) (same_json content json d reads known) answer
 
@@ -100,7 +100,7 @@ reports_right : (unit : Unit) (text : List ℕ) (ds : List Diagnostic) → AreDi
 reports_right unit text ds (reported, reporting, is) =
     subst (λ ds. IsEmptyExactlyIfWellTyped text (has_no_items (items_of (map diagnostic_value ds)))) (sym is) (go reporting)
   where
-    go : Reports (utf8 text) reported → IsEmptyExactlyIfWellTyped text (has_no_items (items_of (map diagnostic_value (map (diagnostic_of unit text) reported))))
+    go : ReportsErrorsOf (utf8 text) reported → IsEmptyExactlyIfWellTyped text (has_no_items (items_of (map diagnostic_value (map (diagnostic_of unit text) reported))))
     go (inl (found, none)) = (λ empty. well_typed_text text found, λ well_typed. empty_none (diagnostic_of unit text) reported none)
     go (inr (unfit, faults)) = (λ empty. absurd (some_reported (utf8 text) reported faults (none_empty (diagnostic_of unit text) reported empty)), λ well_typed. absurd (unfit (well_typed_module text well_typed)))
 
@@ -229,7 +229,7 @@ pub request_reaction : (id : Data) (uri : List ℕ) (ask : Ask) (before after : 
     → (after ≡ (react_to_method before id (method_of_ask ask) is.params).after) × AreContentsOfReply (react_to_method before id (method_of_ask ask) is.params).reply sent
 request_reaction id uri ask before after content sent running is h =
     let answer = reacts_so before after content sent is.json (going_on before after content sent running h) is.reads in
-    let so : react before (meaning_of is.json) ≡ react_to_method before id (method_of_ask ask) is.params =
+    let so : react before (meaning_of_message is.json) ≡ react_to_method before id (method_of_ask ask) is.params =
     ap (react before) is.means ∙ ap (λ phase. requested_in phase before id (method_of_ask ask) is.params) running ∙ begun ask before is.params id in
     (answer.0 ∙ ap (λ (x : Reaction). x.after) so, subst (λ (x : Reaction). AreContentsOfReply x.reply sent) so answer.1)
 
@@ -373,8 +373,8 @@ module _ (number_of : Data → Option ℕ) (requested : List SentAsk) where
             message_to_server_in = heard_one sent answer (answers k (replacements edits)) (subst (λ m. SendsMessage m sent) is sends) (answered id k uri (format indent) answer of ∙ ap (λ es. Some (answers k es)) these);
             replies = inl (edits, laid, refl);
           }
-      go (inr (inl (long, is))) = refused id k uri (format indent) unit (Some (InStep version text)) (minus 32803) (refusal_text TooLong) sent of (subst (λ m. SendsMessage m sent) is sends) (inr (inl long, refl))
-      go (inr (inr (unfit, is))) = refused id k uri (format indent) unit (Some (InStep version text)) (minus 32803) (codes "ill-typed") sent of (subst (λ m. SendsMessage m sent) is sends) (unfit_answer unit text (format indent) unfit)
+      go (inr (inl (long, is))) = refused id k uri (format indent) unit (Some (InStep version text)) (negative_of 32803) (refusal_text TooLong) sent of (subst (λ m. SendsMessage m sent) is sends) (inr (inl long, refl))
+      go (inr (inr (unfit, is))) = refused id k uri (format indent) unit (Some (InStep version text)) (negative_of 32803) (codes "ill-typed") sent of (subst (λ m. SendsMessage m sent) is sends) (unfit_answer unit text (format indent) unfit)
 
   renamed : (id : Data) (k : ℕ) (uri : List ℕ) (position : Position) (name : List ℕ) (client : ClientFeatures) (unit : Unit) (version : ℤ) (text : List ℕ) (sent : List (List ℕ)) → Asks id k uri (rename position name)
       → AreContentsOfReply (renames unit (rename_requested client id uri position name version) text) sent → Answered k (rename position name) unit (Some (InStep version text)) sent
@@ -389,8 +389,8 @@ module _ (number_of : Data → Option ℕ) (requested : List SentAsk) where
             message_to_server_in = heard_one sent answer (answers k (replacements edits)) (subst (λ m. SendsMessage m sent) is sends) (answered id k uri (rename position name) answer of ∙ ap (λ es. Some (answers k es)) these);
             replies = inl (edits, found, refl);
           }
-      go (inr (inl (refusal, why, is))) = refused id k uri (rename position name) unit (Some (InStep version text)) (minus 32803) (refusal_text refusal) sent of (subst (λ m. SendsMessage m sent) is sends) (inr (inl (refusal, why), refl))
-      go (inr (inr (unfit, is))) = refused id k uri (rename position name) unit (Some (InStep version text)) (minus 32803) (codes "ill-typed") sent of (subst (λ m. SendsMessage m sent) is sends) (unfit_answer unit text (rename position name) unfit)
+      go (inr (inl (refusal, why, is))) = refused id k uri (rename position name) unit (Some (InStep version text)) (negative_of 32803) (refusal_text refusal) sent of (subst (λ m. SendsMessage m sent) is sends) (inr (inl (refusal, why), refl))
+      go (inr (inr (unfit, is))) = refused id k uri (rename position name) unit (Some (InStep version text)) (negative_of 32803) (codes "ill-typed") sent of (subst (λ m. SendsMessage m sent) is sends) (unfit_answer unit text (rename position name) unfit)
 
   inlined_in : (how : Inlining) (id : Data) (k : ℕ) (uri : List ℕ) (position : Position) (range : Range) (only : Option (List (List ℕ))) (client : ClientFeatures) (unit : Unit) (version : ℤ) (text : List ℕ) (sent : List (List ℕ))
       → client.accepts_literal_actions ≡ true → kinds_include_inlining only ≡ true → actions_offset unit text range ≡ position_offset unit text position → Asks id k uri (inlining_at how position)
@@ -447,9 +447,9 @@ module _ (number_of : Data → Option ℕ) (requested : List SentAsk) where
       → ((version : ℤ) (text : List ℕ) → AreContentsOfReply (say version text) sent → Answered k ask before.held.unit (Some (InStep version text)) sent)
       → (o : Option Document) → document_at before.held uri ≡ o → after ≡ (react_about_document before id o say).after → AreContentsOfReply (react_about_document before id o say).reply sent → Served (requests k uri ask) before after sent
   about_document id k uri ask say before after sent running of in_step None at same saying =
-      asks_served k uri ask before after sent running same (refused id k uri ask before.held.unit (document_at before.held uri) (minus 32803) (codes "unopened") sent of saying (subst (λ o. IsAnswerForDocument before.held.unit o ask []) (sym at) refl))
+      asks_served k uri ask before after sent running same (refused id k uri ask before.held.unit (document_at before.held uri) (negative_of 32803) (codes "unopened") sent of saying (subst (λ o. IsAnswerForDocument before.held.unit o ask []) (sym at) refl))
   about_document id k uri ask say before after sent running of in_step (Some OutOfStep) at same saying =
-      asks_served k uri ask before after sent running same (refused id k uri ask before.held.unit (document_at before.held uri) (minus 32803) (codes "out of step") sent of saying (subst (λ o. IsAnswerForDocument before.held.unit o ask []) (sym at) refl))
+      asks_served k uri ask before after sent running same (refused id k uri ask before.held.unit (document_at before.held uri) (negative_of 32803) (codes "out of step") sent of saying (subst (λ o. IsAnswerForDocument before.held.unit o ask []) (sym at) refl))
   about_document id k uri ask say before after sent running of in_step (Some (InStep version text)) at same saying =
       asks_served k uri ask before after sent running same (subst (λ o. Answered k ask before.held.unit o sent) (sym at) (in_step version text saying))
 
@@ -499,7 +499,7 @@ module _ (number_of : Data → Option ℕ) (requested : List SentAsk) where
   pub note_answered : (note : DocumentEvent) (before after : ServerState) (content : List ℕ) (sent : List (List ℕ)) → before.phase ≡ Running → heard_as.IsNotificationFor note content → Answers before content sent after → Served (notifies note) before after sent
   note_answered note before after content sent running is h =
       let answer = reacts_so before after content sent is.json (going_on before after content sent running h) is.reads in
-      let so : react before (meaning_of is.json) ≡ apply_notification before (notification_for note) =
+      let so : react before (meaning_of_message is.json) ≡ apply_notification before (notification_for note) =
       ap (react before) is.means ∙ ap (λ phase. react_to_notification phase before is.method is.params) running ∙ ap (apply_notification before) is.reported in
       note_served note before after sent running is.fits (answer.0 ∙ ap (λ (x : Reaction). x.after) so) (subst (λ (x : Reaction). AreContentsOfReply x.reply sent) so answer.1)
 
@@ -515,7 +515,7 @@ module _ (number_of : Data → Option ℕ) (requested : List SentAsk) where
       → SentRequestAsksFor requested k uri (inlining_at how position) → IsActionsRequest id uri position content → Answers before content sent after → Served (requests k uri (inlining_at how position)) before after sent
   actions_answered how id k uri position before after content sent running takes numbered of is h =
       let answer = reacts_so before after content sent is.json (going_on before after content sent running h) is.reads in
-      let so : react before (meaning_of is.json) ≡ react_to_method before id (codes "textDocument/codeAction") is.params =
+      let so : react before (meaning_of_message is.json) ≡ react_to_method before id (codes "textDocument/codeAction") is.params =
       ap (react before) is.means ∙ ap (λ phase. requested_in phase before id (codes "textDocument/codeAction") is.params) running in
       inline_served how id k uri position is.range is.only is.params before after sent running takes (record { numbered = numbered; is = of }) is.allowed (place_of_range is.range position is.from is.ordered) is.calls
       (answer.0 ∙ ap (λ (x : Reaction). x.after) so) (subst (λ (x : Reaction). AreContentsOfReply x.reply sent) so answer.1)

@@ -17,11 +17,11 @@ use Rattle.ob0_world.specs.declared.played.Played as played
 use Rattle.ob0_world_rules.specs.ClientAndServer.{ClientAndServer, start}
 use Rattle.ob0_world_rules.specs.Happens.{Event, editor_acts, serve, take_message, IsCourse}
 use Rattle.ob0_world_rules.specs.Headline.{Headline}
-use Rattle.ob0_world_rules.specs.PublicationsInOrder.{AreMadeInOrder}
+use Rattle.ob0_world_rules.specs.PublicationsInOrder.{PublicationsFollowAnnouncements}
 use Rattle.ob0_world_rules.proofs.ModelEditor.{holds_in_every_interleaving, publications_in_order}
 use Rattle.ob0_world_rules.proofs.CourseIsDetermined.{course_is_determined}
 use Rattle.ob0_world.specs.Code.{event_of, played_edits, played_publications}
-use Rattle.ob0_world.specs.Worlds.{Wire, Connection, IsInitialConnection, SessionTakesFirst, EditorTakesFirst, WritesContent, ChangesWire, ConnectionSteps, IsConnectionCourse, ResultsMatch, ContentsMatch, Plays, PlaysPrefix, HaveSameHistory}
+use Rattle.ob0_world.specs.Worlds.{Wire, Connection, IsInitialConnection, SessionTakesFirst, EditorTakesFirstContent, WritesContent, ChangesWire, ConnectionSteps, IsConnectionCourse, ResultsMatch, ContentsMatch, Plays, PlaysPrefix, HaveSameHistory}
 
 -- ---- one event more
 
@@ -53,7 +53,7 @@ takes_conversed (content ∷ rest) old new (after, sent, answers, is) h =
     let more = conversation_then server.start old.taken (old.got ++ old.to_editor) old.session (content ∷ []) sent after h (answered_once old.session content sent after answers) in
     subst Conversed (sym is) (subst (λ x. IsConversation server.start (old.taken ++ content ∷ []) x after) (append_assoc old.got old.to_editor sent) more)
 
-pub gets_conversed : (q : List (List ℕ)) (old new : Wire) → old.to_editor ≡ q → EditorTakesFirst q old new → Conversed old → Conversed new
+pub gets_conversed : (q : List (List ℕ)) (old new : Wire) → old.to_editor ≡ q → EditorTakesFirstContent q old new → Conversed old → Conversed new
 unfolding Conversed
 gets_conversed [] old new waits is h = subst Conversed (sym is) h
 gets_conversed (content ∷ rest) old new waits is h =
@@ -102,7 +102,7 @@ headline unit events w p course results_match =
       applied_at_end = results_match.0;
       made_at_end = results_match.1;
       holds = holds_in_every_interleaving unit (map event_of events) w course;
-      made_in_order = subst (AreMadeInOrder unit (map event_of events)) (sym results_match.1) (publications_in_order unit (map event_of events) w course);
+      made_in_order = subst (PublicationsFollowAnnouncements unit (map event_of events)) (sym results_match.1) (publications_in_order unit (map event_of events) w course);
     }
 
 course_begun : (unit : Unit) (begin : Connection) (events : List Event) (end : Connection) → IsInitialConnection unit begin → IsConnectionCourse begin events end → IsCourse (start unit) events end.model

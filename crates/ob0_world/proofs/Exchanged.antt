@@ -23,7 +23,7 @@ use Rattle.ob0_world_rules.specs.Happens.{Event, editor_acts, serve, take_messag
 use Rattle.ob0_world_rules.specs.EveryEditor.{Turn, editor_moves, server_takes, editor_takes}
 use Rattle.ob0_world_rules.specs.PublicationsInOrder.{AnnouncedDocument, documents_announced_in}
 use Rattle.ob0_world_rules.proofs.ModelEditor.{IsMove, act_may, knows_event}
-use Rattle.ob0_world.specs.Worlds.{Wire, Connection, SessionTakesFirst, EditorTakesFirst, ChangesWire, AreMessagesToServer, ConnectionSteps, IsConnectionCourse}
+use Rattle.ob0_world.specs.Worlds.{Wire, Connection, SessionTakesFirst, EditorTakesFirstContent, ChangesWire, AreMessagesToServer, ConnectionSteps, IsConnectionCourse}
 use Rattle.ob0_world.specs.Exchanges.{SentRequestId, number_id, ask_number_of_request_id, ask_number_by_id, AssignsAskIds, Exchange, IsInitialExchange, IsActionsRequest, IsRequestFor, AcceptsLiteralActions, AcceptsEditsFor, IsMessageToSession, AreMessagesToSession, message_to_editor_by_ids, editor_after_reading_if_any, EditorReadsFirst, wire_with_queued_contents, IsExchangeCourse, ACourseIsAnExchange}
 use Rattle.ob0_world.proofs.Conversing.{answered_once}
 use Rattle.std.proofs.lemmas.Bool.{eqb-true, eqb-false}
@@ -191,7 +191,7 @@ taken_running requested (m ∷ q) (c ∷ rest) old new says (after, sent, answer
 taken_running requested [] (c ∷ rest) old new says takes running = absurd says
 taken_running requested (m ∷ q) [] old new says takes running = absurd says
 
-got_running : (contents : List (List ℕ)) (old new : Wire) → EditorTakesFirst contents old new → RunsWithModelEditor old.session → RunsWithModelEditor new.session
+got_running : (contents : List (List ℕ)) (old new : Wire) → EditorTakesFirstContent contents old new → RunsWithModelEditor old.session → RunsWithModelEditor new.session
 got_running [] old new is running = subst (λ (v : Wire). RunsWithModelEditor v.session) (sym is) running
 got_running (c ∷ rest) old new is running = subst (λ (v : Wire). RunsWithModelEditor v.session) (sym is) running
 
@@ -269,7 +269,7 @@ read_so_too : (requested : List SentAsk) (content : List ℕ) (m : MessageToEdit
 read_so_too requested content m h = subst (λ asks. message_to_editor_by (ask_number_by_id (ids_from 1 requested)) asks content ≡ Some m) (append-nil requested) (read_still request_number_from_id (ask_number_by_id (ids_from 1 requested)) requested [] (named_so requested) content m h)
 
 take_comes : (c : Connection) (announced : List AnnouncedDocument) (wire : Wire) (queue : List MessageToEditor) (contents : List (List ℕ)) → c.wire.to_editor ≡ contents
-    → map (message_to_editor_in c.model.editor.requested) contents ≡ map Some queue → EditorTakesFirst contents c.wire wire
+    → map (message_to_editor_in c.model.editor.requested) contents ≡ map Some queue → EditorTakesFirstContent contents c.wire wire
     → ComesTo (exchange_of c announced) (state_after_editor_takes c.model queue).editor wire (state_after_editor_takes c.model queue).applied
 take_comes c announced wire [] [] waits means is = record { turns = []; announced = announced; leads = λ i. record (exchange_of c announced) { wire = is i } }
 take_comes c announced wire (m ∷ queue) (content ∷ rest) waits means is =

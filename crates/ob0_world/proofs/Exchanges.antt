@@ -16,8 +16,8 @@ use Rattle.ob0_text.specs.declared.position_types.Unit.{Unit}
 use Rattle.ob0_text.specs.OpenDocuments.{OpenDocuments, Document, InStep, OutOfStep, Opened, Changed, Lost, Closed, documents_after_event, no_open_documents, document_at}
 use Rattle.ob0_rpc.specs.declared.incoming.RpcFault.{RpcFault}
 use Rattle.ob0_rpc.specs.declared.incoming.RpcFault.TheVariants.{NotAMessage}
-use Rattle.ob0_rpc.specs.Faults.{minus, error_code, error_text}
-use Rattle.ob0_rpc.specs.Messages.{ReadsContent, MessageMeaning, not_json, not_a_message, response, request, notice, meaning_of}
+use Rattle.ob0_rpc.specs.Faults.{negative_of, error_code, error_text}
+use Rattle.ob0_rpc.specs.Messages.{ReadsContent, MessageMeaning, not_json, not_a_message, response, request, notice, meaning_of_message}
 use Rattle.ob0_rpc.specs.Notifications.{other}
 use Rattle.ob0_rpc.specs.Requesting as asked
 use Rattle.ob0_rpc.specs.Requesting.{DocumentPlace, ClientRequest, request_by_method}
@@ -87,7 +87,7 @@ module _ (client : ClientFeatures) (ids later : List SentRequestId) (requested m
   message_still (notice method params) h = h
 
   other_still : (content : List ℕ) → IsUnmodeledContent ids content → IsUnmodeledContent (ids ++ later) content
-  other_still content (json, reads_so, is) = (json, reads_so, message_still (meaning_of json) is)
+  other_still content (json, reads_so, is) = (json, reads_so, message_still (meaning_of_message json) is)
 
   session_still : (m : MessageToServer) (content : List ℕ) → IsMessageToSession client ids requested m content → IsMessageToSession client (ids ++ later) (requested ++ more) m content
   session_still (notifies note) content h = h
@@ -221,8 +221,8 @@ module _ (ids : List SentRequestId) (requested : List SentAsk) (before after : S
   -- A request about a document changes nothing and gets one reply or a refusal.
   about_served : (id : Data) (say : ℤ → List ℕ → Reply) → IsNonAskId ids (id_of_value id) → ((version : ℤ) (text : List ℕ) → AreContentsOfReply (say version text) sent → Replied id) → (o : Option Document)
       → after ≡ (react_about_document before id o say).after → AreContentsOfReply (react_about_document before id o say).reply sent → OtherServed ids requested before after sent
-  about_served id say own in_step None same saying = refused_other id (minus 32803) (codes "unopened") own same saying
-  about_served id say own in_step (Some OutOfStep) same saying = refused_other id (minus 32803) (codes "out of step") own same saying
+  about_served id say own in_step None same saying = refused_other id (negative_of 32803) (codes "unopened") own same saying
+  about_served id say own in_step (Some OutOfStep) same saying = refused_other id (negative_of 32803) (codes "out of step") own same saying
   about_served id say own in_step (Some (InStep version text)) same saying = reply_is_determined id own same (in_step version text saying)
 
   named_replied : (unit : Unit) (id : Data) (at : DocumentPlace) (question : NameQuestion) (text : List ℕ) → AreContentsOfReply (question_reply unit id at question text) sent → Replied id
@@ -230,16 +230,16 @@ module _ (ids : List SentRequestId) (requested : List SentAsk) (before after : S
 
   rename_replied : (unit : Unit) (r : VersionedRenameRequest) (text : List ℕ) → AreContentsOfReply (renames unit r text) sent → Replied r.id
   rename_replied unit r text (message, inl (edits, found, is), sends) = (result_message r.id (workspace_edit r.client r.at.uri r.version edits), subst (λ m. SendsMessage m sent) is sends, (refl, refl))
-  rename_replied unit r text (message, inr (inl (refusal, why, is)), sends) = (error_response_message r.id (minus 32803) (refusal_text refusal), subst (λ m. SendsMessage m sent) is sends, (refl, refl))
-  rename_replied unit r text (message, inr (inr (unfit, is)), sends) = (error_response_message r.id (minus 32803) (codes "ill-typed"), subst (λ m. SendsMessage m sent) is sends, (refl, refl))
+  rename_replied unit r text (message, inr (inl (refusal, why, is)), sends) = (error_response_message r.id (negative_of 32803) (refusal_text refusal), subst (λ m. SendsMessage m sent) is sends, (refl, refl))
+  rename_replied unit r text (message, inr (inr (unfit, is)), sends) = (error_response_message r.id (negative_of 32803) (codes "ill-typed"), subst (λ m. SendsMessage m sent) is sends, (refl, refl))
 
   actions_replied : (unit : Unit) (r : VersionedActionsRequest) (text : List ℕ) → AreContentsOfReply (actions_reply unit r text) sent → Replied r.id
   actions_replied unit r text (message, (value, how, is), sends) = (result_message r.id value, subst (λ m. SendsMessage m sent) is sends, (refl, refl))
 
   layout_replied : (unit : Unit) (id : Data) (indent : Indent) (text : List ℕ) → AreContentsOfReply (formatting_reply unit id indent text) sent → Replied id
   layout_replied unit id indent text (message, inl (edits, laid, is), sends) = (result_message id (edits_value edits), subst (λ m. SendsMessage m sent) is sends, (refl, refl))
-  layout_replied unit id indent text (message, inr (inl (long, is)), sends) = (error_response_message id (minus 32803) (refusal_text TooLong), subst (λ m. SendsMessage m sent) is sends, (refl, refl))
-  layout_replied unit id indent text (message, inr (inr (unfit, is)), sends) = (error_response_message id (minus 32803) (codes "ill-typed"), subst (λ m. SendsMessage m sent) is sends, (refl, refl))
+  layout_replied unit id indent text (message, inr (inl (long, is)), sends) = (error_response_message id (negative_of 32803) (refusal_text TooLong), subst (λ m. SendsMessage m sent) is sends, (refl, refl))
+  layout_replied unit id indent text (message, inr (inr (unfit, is)), sends) = (error_response_message id (negative_of 32803) (codes "ill-typed"), subst (λ m. SendsMessage m sent) is sends, (refl, refl))
 
   -- A question about the name at a position changes nothing and gets one reply or a refusal.
   name_served : (id : Data) (at : DocumentPlace) (question : NameQuestion) → IsNonAskId ids (id_of_value id) → after ≡ (react_to_question before id at question).after → AreContentsOfReply (react_to_question before id at question).reply sent → OtherServed ids requested before after sent
@@ -270,7 +270,7 @@ module _ (ids : List SentRequestId) (requested : List SentAsk) (before after : S
   message_served running (request id method params) (first, question, own) same saying =
       let so : react before (request id method params) ≡ react_to_method before id method params =
       ap (λ phase. react_to_request phase before id method params) running
-      ∙ ap (λ b. cond b (react_with_error before id (minus 32600) (codes "already initialized")) (react_to_method before id method params)) first in
+      ∙ ap (λ b. cond b (react_with_error before id (negative_of 32600) (codes "already initialized")) (react_to_method before id method params)) first in
       question_served id own (request_by_method method params) question
       (same ∙ ap (λ (x : Reaction). x.after) so) (subst (λ (x : Reaction). AreContentsOfReply x.reply sent) so saying)
   message_served running (notice method params) h same saying =
@@ -281,7 +281,7 @@ module _ (ids : List SentRequestId) (requested : List SentAsk) (before after : S
   other_served : (content : List ℕ) → before.phase ≡ Running → IsUnmodeledContent ids content → Answers before content sent after → OtherServed ids requested before after sent
   other_served content running (json, reads_so, is) h =
       let answer = reacts_so before after content sent json (going_on before after content sent running h) reads_so in
-      message_served running (meaning_of json) is answer.0 answer.1
+      message_served running (meaning_of_message json) is answer.0 answer.1
 
 -- ---- diagnostics
 
@@ -657,10 +657,10 @@ none_read None = refl
 none_read (Some zero) = refl
 none_read (Some (suc k)) = refl
 
-request_unheard : (content : List ℕ) (json id params : Data) (method : List ℕ) → ReadsContent content (Some json) → meaning_of json ≡ request id method params → message_to_server_in [] content ≡ None
+request_unheard : (content : List ℕ) (json id params : Data) (method : List ℕ) → ReadsContent content (Some json) → meaning_of_message json ≡ request id method params → message_to_server_in [] content ≡ None
 unfolding message_to_server_in
 request_unheard content json id params method reads_so means =
-    said (λ d. message_to_server_of [] (meaning_of d)) content json reads_so ∙ ap (message_to_server_of []) means ∙ none_read (request_number_from_id id)
+    said (λ d. message_to_server_of [] (meaning_of_message d)) content json reads_so ∙ ap (message_to_server_of []) means ∙ none_read (request_number_from_id id)
 
 ask_unheard : (id : Data) (uri : List ℕ) (ask : Ask) (content : List ℕ) → IsRequestFor id uri ask content → message_to_server_in [] content ≡ None
 ask_unheard id uri (rename position name) content is = request_unheard content is.json id is.params (codes "textDocument/rename") is.reads is.means
@@ -670,7 +670,7 @@ ask_unheard id uri (format indent) content is = request_unheard content is.json 
 
 other_unheard : (ids : List SentRequestId) (content : List ℕ) → IsUnmodeledContent ids content → message_to_server_in [] content ≡ None
 unfolding message_to_server_in
-other_unheard ids content (json, reads_so, is) = said (λ d. message_to_server_of [] (meaning_of d)) content json reads_so ∙ go (meaning_of json) is
+other_unheard ids content (json, reads_so, is) = said (λ d. message_to_server_of [] (meaning_of_message d)) content json reads_so ∙ go (meaning_of_message json) is
   where
     go : (m : MessageMeaning) → IsUnmodeledMessage ids m → message_to_server_of [] m ≡ None
     go not_json is = refl

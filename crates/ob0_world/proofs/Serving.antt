@@ -18,7 +18,7 @@ use Rattle.ob0_world.specs.Seen.{report_on_serve, HappensWithReport}
 use Rattle.ob0_world.specs.declared.played.Made as made
 use Rattle.ob0_world.specs.Code.{publication_of}
 use Rattle.ob0_world.specs.Queues.{Contents, content_bytes, all_messages_to_server, all_messages_to_editor, MeansMessageToServer, MeansMessageToEditor, ConnectionInvariant, RunsWithModelEditor, RunsWithModelEditorOrFailed, model_from_fields, wire_from_fields, publication_in_first_message, publication_in_message, publication_in_first_content}
-use Rattle.ob0_world.specs.Worlds.{EditorTakesFirst, SessionTakesFirst}
+use Rattle.ob0_world.specs.Worlds.{EditorTakesFirstContent, SessionTakesFirst}
 use Rattle.ob0_world.proofs.Answering.{Served, served, runs_on}
 use Rattle.ob0_world.proofs.Waiting.{said_append, said_first, all_appended}
 
@@ -129,7 +129,7 @@ turn_taken q rest r r' tk tk' gt s s' content sent first answered grown taken =
       },
     )
 
-pub got_first : (s : ServerState) (tk q gt gt' r rest : Contents) (content : Vec ℕ Global) → r ≡ content ∷ rest → gt' ≡ gt ++ content ∷ [] → EditorTakesFirst (content_bytes r) (wire_from_fields s tk q gt r) (wire_from_fields s tk q gt' rest)
+pub got_first : (s : ServerState) (tk q gt gt' r rest : Contents) (content : Vec ℕ Global) → r ≡ content ∷ rest → gt' ≡ gt ++ content ∷ [] → EditorTakesFirstContent (content_bytes r) (wire_from_fields s tk q gt r) (wire_from_fields s tk q gt' rest)
 got_first s tk q gt gt' r rest content first got =
-    subst (λ x. EditorTakesFirst (content_bytes x) (wire_from_fields s tk q gt r) (wire_from_fields s tk q gt' rest)) (sym first)
+    subst (λ x. EditorTakesFirstContent (content_bytes x) (wire_from_fields s tk q gt r) (wire_from_fields s tk q gt' rest)) (sym first)
     (λ i. record (wire_from_fields s tk q gt' rest) { got = (ap content_bytes got ∙ map-append (λ v. v.items) gt (content ∷ [])) i })

@@ -17,8 +17,8 @@ use Rattle.ob0_text.specs.declared.position_types.Unit.TheVariants.{Utf16, Utf8}
 use Rattle.ob0_text.specs.declared.refusals.EditRefusal.TheVariants.{TooLong}
 use Rattle.ob0_text.specs.OpenDocuments.{OpenDocuments, Document, InStep, OutOfStep, DocumentEvent, Opened, Changed, Lost, Closed, document_at, documents_after_event, documents_after_open, documents_after_change}
 use Rattle.ob0_text.specs.RefusalTexts.{refusal_text}
-use Rattle.ob0_rpc.specs.Faults.{minus}
-use Rattle.ob0_rpc.specs.Messages.{ReadsContent, meaning_of}
+use Rattle.ob0_rpc.specs.Faults.{negative_of}
+use Rattle.ob0_rpc.specs.Messages.{ReadsContent, meaning_of_message}
 use Rattle.ob0_rpc.specs.Requesting.{request_by_method}
 use Rattle.ob0_rpc.specs.Shapes.{result_message, error_response_message}
 use Rattle.ob0_rpc.specs.declared.clients.ClientFeatures.{ClientFeatures}
@@ -44,7 +44,7 @@ use Rattle.ob0_world_rules.proofs.PerformsAct.{of_each}
 use Rattle.ob0_world_rules.proofs.Asked.{numbered_push, slice_get_last}
 use Rattle.ob0_world.specs.Queues.{IsReachable, RunsWithModelEditor}
 use Rattle.ob0_world.specs.Versions.{uri_and_version_in_answer, uri_and_version_in_edit, MentionsAskedDocument, MentionsDocumentOfAsk, IsFormatting, AnswersMentionVersions, VersionsSufficeForApplying}
-use Rattle.ob0_world.specs.Worlds.{Wire, Connection, IsInitialConnection, SessionTakesFirst, EditorTakesFirst, AreMessagesToServer, QueuesMatch, ConnectionSteps, IsConnectionCourse}
+use Rattle.ob0_world.specs.Worlds.{Wire, Connection, IsInitialConnection, SessionTakesFirst, EditorTakesFirstContent, AreMessagesToServer, QueuesMatch, ConnectionSteps, IsConnectionCourse}
 use Rattle.ob0_world.proofs.Answering.{reacts_so, request_reaction, served, runs_on, inlining_at, none_read_back, actions_requested_at}
 use Rattle.ob0_world.proofs.Stepping.{reached_start, reached_more, reached_mirrors}
 
@@ -206,8 +206,8 @@ module _ (requested : List SentAsk) (k : ℕ) (uri : List ℕ) (sent : List (Lis
       go : AnswersRenaming unit request text message → All (MentionsDocumentOfAsk requested) sent
       go (inl (edits, found, is)) =
           answer_names (rename position name) of (result_message (number (unsigned k)) (workspace_edit client uri of.sent.version edits)) (subst (λ m. SendsMessage m sent) is sends) refl (inl (edit_names client uri of.sent.version edits takes))
-      go (inr (inl (refusal, why, is))) = refusal_names (rename position name) of (minus 32803) (refusal_text refusal) message sends is
-      go (inr (inr (unfit, is))) = refusal_names (rename position name) of (minus 32803) (codes "ill-typed") message sends is
+      go (inr (inl (refusal, why, is))) = refusal_names (rename position name) of (negative_of 32803) (refusal_text refusal) message sends is
+      go (inr (inr (unfit, is))) = refusal_names (rename position name) of (negative_of 32803) (codes "ill-typed") message sends is
 
   inline_names : (how : Inlining) (position : Position) (of : SentRequestAsksFor requested k uri (inlining_at how position)) (client : ClientFeatures) (unit : Unit) (text : List ℕ) → client.accepts_document_changes ≡ true
       → AreContentsOfReply (actions_reply unit (actions_requested_at client (number (unsigned k)) uri position of.sent.version) text) sent → All (MentionsDocumentOfAsk requested) sent
@@ -240,8 +240,8 @@ module _ (requested : List SentAsk) (k : ℕ) (uri : List ℕ) (sent : List (Lis
     where
       go : AnswersFormatting unit (number (unsigned k)) (clamped_indent indent) text message → All (MentionsDocumentOfAsk requested) sent
       go (inl (edits, laid, is)) = answer_names (format indent) of (result_message (number (unsigned k)) (edits_value edits)) (subst (λ m. SendsMessage m sent) is sends) refl (inr (inr tt))
-      go (inr (inl (long, is))) = refusal_names (format indent) of (minus 32803) (refusal_text TooLong) message sends is
-      go (inr (inr (unfit, is))) = refusal_names (format indent) of (minus 32803) (codes "ill-typed") message sends is
+      go (inr (inl (long, is))) = refusal_names (format indent) of (negative_of 32803) (refusal_text TooLong) message sends is
+      go (inr (inr (unfit, is))) = refusal_names (format indent) of (negative_of 32803) (codes "ill-typed") message sends is
 
   -- `MentionsDocumentOfAsk` holds of the answer of a running session to a request about a document in step.
   request_names : (ask : Ask) (of : SentRequestAsksFor requested k uri ask) (params : Data) (before : ServerState) (text : List ℕ) → RunsWithModelEditor before → document_at before.held uri ≡ Some (InStep of.sent.version text) → request_by_method (method_of_ask ask) params ≡ Ok (client_request_for uri ask)
@@ -272,7 +272,7 @@ content_names : (requested : List SentAsk) (m : MessageToServer) (before after :
 content_names requested (notifies note) before after content sent running is h meets =
     let going : AnswersBeforeEnd before content sent after = subst (λ phase. AnswersInPhase phase before content sent after) running.0 h in
     let answer = reacts_so before after content sent is.json going is.reads in
-    let so : react before (meaning_of is.json) ≡ apply_notification before (notification_for note) =
+    let so : react before (meaning_of_message is.json) ≡ apply_notification before (notification_for note) =
     ap (react before) is.means ∙ ap (λ phase. react_to_notification phase before is.method is.params) running.0 ∙ ap (apply_notification before) is.reported in
     note_names requested note before sent (subst (λ (x : Reaction). AreContentsOfReply x.reply sent) so answer.1)
 content_names requested (requests k uri ask) before after content sent running (is, of) h (meets, none) =
@@ -326,11 +326,11 @@ take_keeps w (publishes uri version empty ∷ rest) contents asked named = (aske
 take_keeps w (answers k [] ∷ rest) contents asked named = (asked, named)
 take_keeps w (answers k (edit ∷ edits) ∷ rest) contents asked named = (asked, named)
 
-gets_names : (P : List ℕ → Type 0) (c : List (List ℕ)) (old new : Wire) → old.to_editor ≡ c → EditorTakesFirst c old new → All P old.to_editor → All P new.to_editor
+gets_names : (P : List ℕ → Type 0) (c : List (List ℕ)) (old new : Wire) → old.to_editor ≡ c → EditorTakesFirstContent c old new → All P old.to_editor → All P new.to_editor
 gets_names P [] old new waits is all = subst (λ (x : Wire). All P x.to_editor) (sym is) all
 gets_names P (content ∷ rest) old new waits is all = subst (λ (x : Wire). All P x.to_editor) (sym is) (All-tail P content rest (subst (All P) waits all))
 
-gets_session : (c : List (List ℕ)) (old new : Wire) → EditorTakesFirst c old new → new.session ≡ old.session
+gets_session : (c : List (List ℕ)) (old new : Wire) → EditorTakesFirstContent c old new → new.session ≡ old.session
 gets_session [] old new is = ap (λ (x : Wire). x.session) is
 gets_session (content ∷ rest) old new is = ap (λ (x : Wire). x.session) is
 

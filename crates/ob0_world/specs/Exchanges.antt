@@ -12,7 +12,7 @@ use Rattle.ob0_text.specs.declared.position_types.Unit.{Unit}
 use Rattle.ob0_text.specs.OpenDocuments.{document_at}
 use Rattle.ob0_rpc.specs.declared.clients.ClientFeatures.{ClientFeatures}
 use Rattle.ob0_rpc.specs.declared.incoming.RpcFault.{RpcFault}
-use Rattle.ob0_rpc.specs.Messages.{ReadsContent, MessageMeaning, not_json, not_a_message, response, request, notice, meaning_of}
+use Rattle.ob0_rpc.specs.Messages.{ReadsContent, MessageMeaning, not_json, not_a_message, response, request, notice, meaning_of_message}
 use Rattle.ob0_rpc.specs.Notifications.{other, notification_by_method}
 use Rattle.ob0_rpc.specs.Shapes.{result_message}
 use Rattle.ob0_rpc.specs.Requesting as asked
@@ -174,7 +174,7 @@ IsUnmodeledMessage ids (notice method params) = notification_by_method method pa
 -- states that the content is a message outside the model (`IsUnmodeledMessage`)
 abbrev pub IsUnmodeledContent : List SentRequestId → List ℕ → Type 0
 IsUnmodeledContent ids content =
-    (json : Data) × ReadsContent content (Some json) × IsUnmodeledMessage ids (meaning_of json)
+    (json : Data) × ReadsContent content (Some json) × IsUnmodeledMessage ids (meaning_of_message json)
 
 -- ---- messages of the model: asks and notifications
 
@@ -190,7 +190,7 @@ pub record IsActionsRequest (id : Data) (uri : List ℕ) (position : Position) (
   pub json : Data
   pub reads : ReadsContent content (Some json)
   pub params : Data
-  pub means : meaning_of json
+  pub means : meaning_of_message json
       ≡ request id (codes "textDocument/codeAction") params
   pub range : Range
   pub only : Option (List (List ℕ))
@@ -389,14 +389,14 @@ pub record IsShutdownRequest (id : Data) (content : List ℕ) : Type 0 where
   pub json : Data
   pub reads : ReadsContent content (Some json)
   pub params : Data
-  pub means : meaning_of json ≡ request id (codes "shutdown") params
+  pub means : meaning_of_message json ≡ request id (codes "shutdown") params
 
 -- states that the content is the notification `exit`
 pub record IsExitNotification (content : List ℕ) : Type 0 where
   pub json : Data
   pub reads : ReadsContent content (Some json)
   pub params : Data
-  pub means : meaning_of json ≡ notice (codes "exit") params
+  pub means : meaning_of_message json ≡ notice (codes "exit") params
 
 -- States that the session has sent only the answer to the `shutdown` request with this id. The
 -- session has ended with status 0, and its documents are unchanged.

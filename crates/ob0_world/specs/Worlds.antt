@@ -73,9 +73,9 @@ SessionTakesFirst (content ∷ rest) old new =
 
 -- States that the editor takes the first waiting content. If no content waits for the editor,
 -- nothing changes.
-abbrev pub EditorTakesFirst : List (List ℕ) → Wire → Wire → Type 0
-EditorTakesFirst [] old new = new ≡ old
-EditorTakesFirst (content ∷ rest) old new =
+abbrev pub EditorTakesFirstContent : List (List ℕ) → Wire → Wire → Type 0
+EditorTakesFirstContent [] old new = new ≡ old
+EditorTakesFirstContent (content ∷ rest) old new =
     new ≡ record old { got = old.got ++ content ∷ []; to_editor = rest }
 
 -- states that the editor appends at most one content to the queue to the session, and that nothing
@@ -90,7 +90,7 @@ WritesContent old new =
 abbrev pub ChangesWire : Event → Wire → Wire → Type 0
 ChangesWire (editor_acts act) old new = WritesContent old new
 ChangesWire serve old new = SessionTakesFirst old.to_server old new
-ChangesWire take_message old new = EditorTakesFirst old.to_editor old new
+ChangesWire take_message old new = EditorTakesFirstContent old.to_editor old new
 
 -- states that there are as many contents as messages, and that the n-th content is the n-th message
 -- to the server

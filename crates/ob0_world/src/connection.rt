@@ -17,7 +17,7 @@ ghost use Rattle.ob0_world_rules.specs.Happens.{editor_acts, take_message};
 ghost use Rattle.ob0_world.specs.Code.{event_of, publication_of};
 ghost use Rattle.ob0_world.specs.Seen.{report_of, HappensWithReport};
 ghost use Rattle.ob0_world.specs.Queues.{content_bytes, QueuesContent, MovesFirstContent, publication_in_message, publication_with_text, publication_in_first_content};
-ghost use Rattle.ob0_world.specs.Worlds.{IsInitialConnection, EditorTakesFirst, ResultsMatch, ContentsMatch, QueuesMatch, ChangesWire, HaveSameHistory, SessionTakesFirst, WritesContent};
+ghost use Rattle.ob0_world.specs.Worlds.{IsInitialConnection, EditorTakesFirstContent, ResultsMatch, ContentsMatch, QueuesMatch, ChangesWire, HaveSameHistory, SessionTakesFirst, WritesContent};
 
 use crate::events::{Event, Seen};
 use crate::played::{Made, Played};
@@ -212,7 +212,7 @@ impl<T: TextStore> Connection<T> {
         ensures ok { IfOk result
             (λ seen. HappensWithReport self.old.model take_message (report_of seen) self.new.model) }
         ensures wire { OnOk result
-            (EditorTakesFirst self.old.wire.to_editor self.old.wire self.new.wire) }
+            (EditorTakesFirstContent self.old.wire.to_editor self.old.wire self.new.wire) }
         ensures err { OnErr result (HaveSameHistory self.old self.new) }
     {
         let Some(content) = self.to_editor.front() else {

@@ -1,6 +1,6 @@
 mod Tables
 mod SameTables
-mod Reports
+mod ReportsErrorsOf
 mod NamesShown
 mod Replies
 mod Conversations

@@ -13,7 +13,6 @@ use Rattle.ob0_text.specs.declared.position_types.Range.{Range}
 use Rattle.ob0_text.specs.declared.position_types.Unit.{Unit}
 use Rattle.ob0_text.specs.declared.refusals.EditRefusal.{EditRefusal}
 use Rattle.ob0_edits_tokens.specs.Replaced.{range_and_text}
-use Rattle.ob0_layout.specs.Gaps.{EditContent, edit_content}
 use Rattle.ob0_rpc.specs.declared.clients.ClientFeatures.{ClientFeatures}
 use Rattle.ob0_rpc.specs.Shapes.{range_value, result_message, text as text_value}
 use Rattle.ob0_edits.specs.Renamings.{IsRenameRefusedInText}
@@ -43,14 +42,8 @@ sends_one message another sent other same (bytes, is, writes) (more, is_too, wri
 abbrev value_of_parts : Range × List ℕ → Data
 value_of_parts p = object (member (codes "newText") (text_value p.1) (member (codes "range") (range_value p.0.start p.0.end) no_members))
 
-abbrev value_of_said : EditContent → Data
-value_of_said s = object (member (codes "newText") (text_value s.text) (member (codes "range") (range_value s.range.start s.range.end) no_members))
-
 values_by_parts : (xs ys : List Edit) → map range_and_text xs ≡ map range_and_text ys → map edit_value xs ≡ map edit_value ys
 values_by_parts xs ys same = sym (map-map value_of_parts range_and_text xs) ∙ (ap (map value_of_parts) same ∙ map-map value_of_parts range_and_text ys)
-
-values_by_said : (xs ys : List Edit) → map edit_content xs ≡ map edit_content ys → map edit_value xs ≡ map edit_value ys
-values_by_said xs ys same = sym (map-map value_of_said edit_content xs) ∙ (ap (map value_of_said) same ∙ map-map value_of_said edit_content ys)
 
 -- returns edits, given as JSON values, as a WorkspaceEdit in the form that the client accepts
 abbrev workspace_with : ClientFeatures → List ℕ → ℤ → List Data → Data
@@ -66,7 +59,7 @@ action_with requested how vs = action_value (workspace_with requested.client req
 
 formats_one : (unit : Unit) (id : Data) (indent : Indent) (text : List ℕ) (message another : Data) → AnswersFormatting unit id indent text message → AnswersFormatting unit id indent text another → message ≡ another
 formats_one unit id indent text message another (inl (xs, h, is)) (inl (ys, k, too)) =
-    is ∙ ap (λ vs. result_message id (array (items_of vs))) (values_by_said xs ys (lays_out_said unit indent text xs ys h k)) ∙ sym too
+    is ∙ ap (λ vs. result_message id (array (items_of vs))) (values_by_parts xs ys (lays_out_said unit indent text xs ys h k)) ∙ sym too
 formats_one unit id indent text message another (inl (xs, h, is)) (inr (inl (long, too))) = absurd (lays_out_or_long unit indent text xs h long)
 formats_one unit id indent text message another (inl (xs, h, is)) (inr (inr (unfit, too))) = absurd (unfit h.before)
 formats_one unit id indent text message another (inr (inl (long, is))) (inl (ys, k, too)) = absurd (lays_out_or_long unit indent text ys k long)

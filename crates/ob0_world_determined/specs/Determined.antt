@@ -7,7 +7,7 @@ use Rattle.ob0_frame.specs.Frames.{Frames, frame}
 use Rattle.ob0_frame.specs.Head.{max_content_length}
 use Rattle.ob0_scope_table.specs.Resolution.{Resolution, IsResolution, ordinal_in}
 use Rattle.ob0_tree.specs.ParsedModule.{ParsedModule, tree_of}
-use Rattle.ob0_analysis.specs.Diagnosed.{ReportedDiagnosis, Reports}
+use Rattle.ob0_analysis.specs.Diagnosed.{ReportedDiagnosis, ReportsErrorsOf}
 use Rattle.ob0_session_server.specs.Answers.{ServerState, start, Reply, AreContentsOfReply, Answers, IsConversation}
 use Rattle.ob0_session_server.specs.declared.session.Phase.TheVariants.{Ended}
 use Rattle.ob0_session.specs.Serving.{EndsByExit, Serves}
@@ -32,7 +32,7 @@ ResolutionIsDetermined =
 abbrev pub DiagnosesAreDetermined : Type 0
 DiagnosesAreDetermined =
     (text : List ℕ) (found other : List ReportedDiagnosis)
-    → Reports text found → Reports text other → found ≡ other
+    → ReportsErrorsOf text found → ReportsErrorsOf text other → found ≡ other
 
 -- ---- replies
 

@@ -3,7 +3,7 @@
 ghost use Rattle.ob0_world_determined.specs.Determined.{FramingExists, ConversationIsServed, ConversationIsServedAsPrefix, EndedConversationIsServed, AnswerIsDetermined, ConversationIsDetermined, DiagnosesAreDetermined, OutputIsDetermined, ReplyIsDetermined, ResultIsDetermined, ResolutionIsDetermined};
 ghost use Rattle.ob0_world_determined.specs.Exchanged.{EveryExchangeIsServed};
 
-use ob0_analysis::laws::refusal_is_unique;
+use ob0_analysis::laws::reported_refusal_is_unique;
 use ob0_frame::laws::{
     empty_feed_completes_nothing, feeding_is_determined, written_frames_are_read,
 };
@@ -23,7 +23,7 @@ pub fn diagnoses_are_determined()
     resolution_is_determined();
     scan_is_unique();
     reported_faults_are_unique();
-    refusal_is_unique();
+    reported_refusal_is_unique();
 }
 
 /// Proves that a reply (`Reply`) determines the contents that the session sends as this reply.

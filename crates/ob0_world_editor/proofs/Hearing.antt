@@ -6,7 +6,7 @@ use Rattle.std.proofs.lemmas.Str.{is_utf8-from_IsUtf8, IsUtf8-from_is_utf8}
 use Rattle.serde_json.specs.Data.{Data}
 use Rattle.serde_json.specs.Read.{read}
 use Rattle.ob0_text.specs.OpenDocuments.{DocumentEvent, Opened, Changed, Lost, Closed}
-use Rattle.ob0_rpc.specs.Messages.{ReadsContent, meaning_of}
+use Rattle.ob0_rpc.specs.Messages.{ReadsContent, meaning_of_message}
 use Rattle.ob0_world_rules.specs.ClientAndServer.{SentAsk, MessageToServer, notifies, requests}
 use Rattle.ob0_world_editor.specs.MessagesToServer.{request_number_from_id, message_to_server_in, message_to_server_of, message_of_notification, notification_for, IsMessageToServer}
 use Rattle.ob0_world_editor.specs.MessagesToEditor.{message_to_editor_in, message_to_editor_of, message_to_editor_by}
@@ -41,9 +41,9 @@ reported_heard (Closed uri) = refl
 pub says_heard : (requested : List SentAsk) (m : MessageToServer) (content : List ℕ) → IsMessageToServer requested m content → message_to_server_in requested content ≡ Some m
 unfolding message_to_server_in
 says_heard requested (notifies note) content is =
-    said (λ d. message_to_server_of requested (meaning_of d)) content is.json is.reads ∙ ap (message_to_server_of requested) is.means ∙ ap message_of_notification is.reported ∙ reported_heard note
+    said (λ d. message_to_server_of requested (meaning_of_message d)) content is.json is.reads ∙ ap (message_to_server_of requested) is.means ∙ ap message_of_notification is.reported ∙ reported_heard note
 says_heard requested (requests k uri ask) content (is, of) =
-    said (λ d. message_to_server_of requested (meaning_of d)) content is.json is.reads ∙ ap (message_to_server_of requested) is.means
+    said (λ d. message_to_server_of requested (meaning_of_message d)) content is.json is.reads ∙ ap (message_to_server_of requested) is.means
     ∙ ap (option_map (λ a. requests k a.uri a.ask)) of.is ∙ (λ i. Some (requests k (of.about i) (of.same_ask i)))
 
 -- A property of a call's value can be weakened.

@@ -11,7 +11,7 @@ use Rattle.ob0_text.specs.declared.position_types.Range.{Range}
 use Rattle.ob0_text.specs.OpenDocuments.{Opened, Changed, Closed, TextChange, text_change_of}
 use Rattle.ob0_rpc.specs.Requesting.{request_by_method}
 use Rattle.ob0_rpc.specs.Messages.{ReadsContent}
-use Rattle.ob0_rpc.specs.Notifications.{content_change, changes_of_items, change_or_unreadable, open_or_unreadable}
+use Rattle.ob0_rpc.specs.Notifications.{content_change, content_changes_of_items, change_or_unreadable, open_or_unreadable}
 use Rattle.ob0_rpc.specs.Shapes.{notification_message}
 use Rattle.ob0_world_rules.specs.Edited.{whole_text_change}
 use Rattle.ob0_world_rules.specs.Asks.{Ask, rename, inline_here, inline_all, format}
@@ -44,7 +44,7 @@ read_back : (range : Option Range) (new : List ℕ) → content_change (change_o
 read_back (Some range) new = refl
 read_back None new = refl
 
-changes_read_back : (cs : List Change) → changes_of_items (items_of (map change_value cs)) ≡ Some (map text_change_of cs)
+changes_read_back : (cs : List Change) → content_changes_of_items (items_of (map change_value cs)) ≡ Some (map text_change_of cs)
 changes_read_back [] = refl
 changes_read_back (c ∷ cs) = rw (read_back c.range (string_bytes c.text), changes_read_back cs) refl
 
@@ -70,7 +70,7 @@ opening_reported content uri version text h reads =
       fits = version_read version h;
     }
 
-changed_so : (content uri : List ℕ) (version : ℕ) (values : List Data) (all : List TextChange) → version < 2 ^ 63 → changes_of_items (items_of values) ≡ Some all
+changed_so : (content uri : List ℕ) (version : ℕ) (values : List Data) (all : List TextChange) → version < 2 ^ 63 → content_changes_of_items (items_of values) ≡ Some all
     → ReadsContent content (Some (notification_message (codes "textDocument/didChange") (change_params uri version values))) → IsNotificationFor (Changed uri (pos version) all) content
 changed_so content uri version values all h are reads =
     record {

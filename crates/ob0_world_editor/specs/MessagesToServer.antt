@@ -9,8 +9,8 @@ use Rattle.serde_json.specs.Read.{read}
 use Rattle.ob0_text.specs.OpenDocuments.{DocumentEvent, Opened, Changed, Lost, Closed}
 use Rattle.ob0_rpc.specs.Requesting as wire
 use Rattle.ob0_rpc.specs.Requesting.{request_by_method}
-use Rattle.ob0_rpc.specs.Messages.{ReadsContent, MessageMeaning, not_json, not_a_message, response, request, notice, meaning_of}
-use Rattle.ob0_rpc.specs.Notifications.{Notification, exits, opens, changes, closes, unreadable, other, notification_by_method}
+use Rattle.ob0_rpc.specs.Messages.{ReadsContent, MessageMeaning, not_json, not_a_message, response, request, notice, meaning_of_message}
+use Rattle.ob0_rpc.specs.Notifications.{NotificationMeaning, exits, opens, changes, closes, unreadable, other, notification_by_method}
 use Rattle.ob0_world_rules.specs.Asks.{Ask, rename, inline_here, inline_all, format, clamped_indent}
 use Rattle.ob0_world_rules.specs.ClientAndServer.{SentAsk, request_numbered, MessageToServer, notifies, requests}
 use Rattle.ob0_world_editor.specs.Shapes.{method_of_ask, empty_range_at}
@@ -31,7 +31,7 @@ request_number_from_id (object ms) = None
 
 -- Returns the message to the server that a notification means. Returns None for three kinds:
 -- `exit`, an unreadable notification without a uri, and a notification that the server ignores.
-abbrev pub message_of_notification : Notification → Option MessageToServer
+abbrev pub message_of_notification : NotificationMeaning → Option MessageToServer
 message_of_notification exits = None
 message_of_notification (opens uri version text) = Some (notifies (Opened uri version text))
 message_of_notification (changes uri version all) = Some (notifies (Changed uri version all))
@@ -60,13 +60,13 @@ message_to_server_of requested response = None
 unfoldable pub message_to_server_in : List SentAsk → List ℕ → Option MessageToServer
 message_to_server_in requested content =
     if is_utf8 content
-    then option_and_then (λ d. message_to_server_of requested (meaning_of d)) (read content)
+    then option_and_then (λ d. message_to_server_of requested (meaning_of_message d)) (read content)
     else None
 
 -- ---- messages as the server reads them, and the contents that hold them
 
 -- returns the notification of this event of a document, in the form in which the server reads it
-abbrev pub notification_for : DocumentEvent → Notification
+abbrev pub notification_for : DocumentEvent → NotificationMeaning
 notification_for (Opened uri version text) = opens uri version text
 notification_for (Changed uri version all) = changes uri version all
 notification_for (Lost uri) = unreadable (Some uri)
@@ -93,7 +93,7 @@ pub record IsNotificationFor (note : DocumentEvent) (content : List ℕ) : Type 
   pub reads : ReadsContent content (Some json)
   pub method : List ℕ
   pub params : Data
-  pub means : meaning_of json ≡ notice method params
+  pub means : meaning_of_message json ≡ notice method params
   pub reported : notification_by_method method params ≡ notification_for note
   pub fits : HasVersionInRange note
 
@@ -104,7 +104,7 @@ pub record IsRequestWithId (id : Data) (uri : List ℕ) (ask : Ask) (content : L
   pub json : Data
   pub reads : ReadsContent content (Some json)
   pub params : Data
-  pub means : meaning_of json ≡ request id (method_of_ask ask) params
+  pub means : meaning_of_message json ≡ request id (method_of_ask ask) params
   pub calls : request_by_method (method_of_ask ask) params ≡ Ok (client_request_for uri ask)
 
 -- states that the content is the request for these edits of the document with this uri, with the

@@ -3,14 +3,14 @@
 ghost use Rattle.std.specs.Prelude.{◌≡◌, false, Some, None, OnOk, codes, map};
 ghost use Rattle.serde_json.specs.Data.{array, member, no_members, object};
 ghost use Rattle.serde_json.specs.View.{items_of};
-ghost use Rattle.ob0_rpc.specs.Appending.{AppendsEach};
+ghost use Rattle.ob0_rpc.specs.Appending.{AppendsEachValue};
 ghost use Rattle.ob0_rpc.specs.Shapes.{jsonrpc_version, text as text_data};
 ghost use Rattle.ob0_world_editor.specs.Shapes.{actions_params, change_object, change_value, document_id_value, opened_document_value, formatting_options_value, formatting_options_for_indent, rename_params, versioned_document_id_value};
 
 use crate::objects::{write_three_members, write_two_members};
 use ob0_rpc::{
-    OneMemberObject, WriteJson, begin_list, end_list, end_object, write_first_member, write_item,
-    write_next_member,
+    OneMemberObject, WriteJson, begin_list, end_list, end_object, write_first_member,
+    write_list_item, write_next_member,
 };
 use ob0_text::{Change, Indent, Position, Range};
 use std::alloc::AllocError;
@@ -127,13 +127,13 @@ impl<'a> WriteJson for ContentChanges<'a> {
 
 fn write_changes(out: &mut Vec<u8>, changes: &[Change]) -> Result<(), AllocError>
     ensures { OnOk result
-        (AppendsEach false (map change_value changes.now) out.old.items out.new.items) }
+        (AppendsEachValue false (map change_value changes.now) out.old.items out.new.items) }
 {
     let mut later = false;
     for change in changes {
         let text = change.text.as_str();
         let range = change.range;
-        write_item(out, later, &ContentChange { range, text })?;
+        write_list_item(out, later, &ContentChange { range, text })?;
         later = true;
     }
     Ok(())

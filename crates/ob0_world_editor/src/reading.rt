@@ -11,7 +11,7 @@ ghost use Rattle.ob0_world_rules.specs.ClientAndServer.{request_numbered};
 
 use crate::asks::Ask;
 use crate::editor::SentAsk;
-use ob0_rpc::{range_in, text_in};
+use ob0_rpc::{range_of_member, text_of_member};
 use ob0_text::Edit;
 use serde_json::Value;
 use std::alloc::{AllocError, Global};
@@ -80,7 +80,7 @@ fn read_publication(alloc: Global, params: &Value) -> Result<Option<Message>, Al
     ensures { IfOk result
         (λ found. option_map message_of found ≡ publication_of_params (view params.now)) }
 {
-    let Some(uri) = text_in(params, "uri") else {
+    let Some(uri) = text_of_member(params, "uri") else {
         return Ok(None);
     };
     let Some(empty) = has_no_diagnostics(params) else {
@@ -238,7 +238,7 @@ fn action_with_title<'v>(actions: &'v [Value], title: &str) -> Option<&'v Value>
 fn has_string_member(value: &Value, name: &str, text: &str) -> bool
     ensures { result ≡ equals_optional_text text.now (text_member name.now (view value.now)) }
 {
-    match text_in(value, name) {
+    match text_of_member(value, name) {
         Some(found) => found == text,
         None => false,
     }
@@ -265,10 +265,10 @@ fn read_edit_list(alloc: Global, values: &[Value]) -> Result<Option<Vec<Edit>>, 
 fn read_edit(alloc: Global, value: &Value) -> Result<Option<Edit>, AllocError>
     ensures { IfOk result (λ found. option_map replacement_of found ≡ edit_in (view value.now)) }
 {
-    let Some(range) = range_in(value, "range") else {
+    let Some(range) = range_of_member(value, "range") else {
         return Ok(None);
     };
-    let Some(text) = text_in(value, "newText") else {
+    let Some(text) = text_of_member(value, "newText") else {
         return Ok(None);
     };
     let text = String::from_str(alloc, text)?;

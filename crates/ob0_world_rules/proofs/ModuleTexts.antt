@@ -7,7 +7,7 @@ use Rattle.std.proofs.lemmas.List.{map-append}
 use Rattle.ob0_scan.specs.declared.lexeme.LexemeKind.{LexemeKind}
 use Rattle.ob0_scan.specs.declared.lexeme.LexemeKind.TheVariants as lexeme
 use Rattle.ob0_scan.specs.Lexed.{Lexeme, LexesInto}
-use Rattle.ob0_scan.specs.TextWithTokens.{TextWithTokens, IsScan, words_of_lexeme, words_of_lexemes, tokens_from, comments_from, max_text_length}
+use Rattle.ob0_scan.specs.TextWithTokens.{TextWithTokens, IsScan, words_of_lexeme, words_of_lexemes, tokens_of_lexemes_from, comments_of_lexemes_from, max_text_length}
 use Rattle.ob0_tree.specs.Tree.{Tree, module_text}
 use Rattle.ob0_language_names.specs.Names.{Name}
 use Rattle.ob0_layout.proofs.Named.{named_lexeme, text_words}
@@ -39,7 +39,7 @@ module_text_of tree bytes h =
 
 pub text_of_module : (tree : Tree Name module_text) (bytes : List ℕ) → IsModuleText tree bytes → IsTextOfTree tree bytes
 text_of_module tree bytes h =
-    let scanned : TextWithTokens = record { text = bytes; tokens = tokens_from 0 h.lexemes; comments = comments_from 0 h.lexemes } in
+    let scanned : TextWithTokens = record { text = bytes; tokens = tokens_of_lexemes_from 0 h.lexemes; comments = comments_of_lexemes_from 0 h.lexemes } in
     let scan : IsScan scanned = record { utf8 = h.utf8; short = h.short; lexemes = h.lexemes; lexed = h.lexed; tokens = refl; comments = refl } in
     record {
       scanned = scanned;

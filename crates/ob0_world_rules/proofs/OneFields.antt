@@ -19,7 +19,7 @@ use Rattle.ob0_types.specs.CheckedModules.{IsWellTyped}
 use Rattle.ob0_language_fields.specs.Fields.{rename_fields_in_module}
 use Rattle.ob0_types_fields.specs.Owners.{IsOwnerTable, renaming_by_record}
 use Rattle.ob0_types_fields.specs.Identifiers.{field_identifiers}
-use Rattle.ob0_types_fields.specs.Owned.{AgreesWithOwnerList, fields_with_owners, owners_in_resolution, table_with_owners}
+use Rattle.ob0_types_fields.specs.Owned.{AgreesWithOwnerList, fields_with_owners, identifier_owners_in_resolution, table_with_owners}
 use Rattle.ob0_types_fields.proofs.OwnedModules.{agreeing_table_is_owner_table-holds}
 use Rattle.ob0_types_fields.proofs.OwnedTokens.{module-tokens, tokens}
 use Rattle.ob0_world_rules.proofs.OneModule.{Same, one_named_tree}
@@ -53,15 +53,15 @@ has_owners ((x, Some k) ∷ xs) table low high ascend within vacant =
     )
 
 abbrev table_of : Resolution → List (Option ℕ)
-table_of r = table_with_owners (replicate (length r.module_read.source.tokens) None) (fields_with_owners (owners_in_resolution r))
+table_of r = table_with_owners (replicate (length r.module_read.source.tokens) None) (fields_with_owners (identifier_owners_in_resolution r))
 
 module _ (r : Resolution) (well : IsWellTyped r) where
-  table_has : AgreesWithOwnerList (ordinal_in (table_of r)) (owners_in_resolution r)
+  table_has : AgreesWithOwnerList (ordinal_in (table_of r)) (identifier_owners_in_resolution r)
   table_has =
       let n : ℕ = length r.module_read.source.tokens in
       let nothing : Option ℕ = None in
       let ascend = subst (λ ts. AreAscendingWithin 0 ts n) (sym (module-tokens _ (tree_of r.module_read))) (leaves_ascend r.module_read well.resolved.parsed) in
-      has_owners (owners_in_resolution r) (replicate n nothing) 0 n ascend (subst (λ z. n ≤ z) (sym (length-replicate n nothing)) (le_refl n)) (λ i l u. get_or-replicate n i nothing None u)
+      has_owners (identifier_owners_in_resolution r) (replicate n nothing) 0 n ascend (subst (λ z. n ≤ z) (sym (length-replicate n nothing)) (le_refl n)) (λ i l u. get_or-replicate n i nothing None u)
 
   table_owns : IsOwnerTable r.module_read (table_of r)
   table_owns = agreeing_table_is_owner_table-holds r (table_of r) well.resolved well.well_typed table_has
@@ -117,10 +117,10 @@ same_owned text a b ((x, o) ∷ xs) ((y, l) ∷ ys) h k same wrote =
     λ i. (token i, owner i) ∷ rest i
 
 module _ (r q : Resolution) (well : IsWellTyped r) (also : IsWellTyped q) (e : Same r.module_read q.module_read) where
-  tokens_of : tokens (owners_in_resolution r) ≡ identifier_names (tree_of r.module_read)
+  tokens_of : tokens (identifier_owners_in_resolution r) ≡ identifier_names (tree_of r.module_read)
   tokens_of = module-tokens _ (tree_of r.module_read)
 
-  tokens_too : tokens (owners_in_resolution q) ≡ identifier_names (tree_of q.module_read)
+  tokens_too : tokens (identifier_owners_in_resolution q) ≡ identifier_names (tree_of q.module_read)
   tokens_too = module-tokens _ (tree_of q.module_read)
 
   -- The module with its fields so marked is the same for both readings.
@@ -133,6 +133,6 @@ module _ (r q : Resolution) (well : IsWellTyped r) (also : IsWellTyped q) (e : S
   pub one_list_of_fields : field_identifiers r ≡ field_identifiers q
   one_list_of_fields =
       let text : ℕ → written.Name = token_text_at r.module_read.source in
-      let there : map (writes text (table_of r)) (tokens (owners_in_resolution r)) ≡ map (writes text (table_of q)) (tokens (owners_in_resolution q)) =
+      let there : map (writes text (table_of r)) (tokens (identifier_owners_in_resolution r)) ≡ map (writes text (table_of q)) (tokens (identifier_owners_in_resolution q)) =
       ap (map (writes text (table_of r))) tokens_of ∙ (same_writing ∙ (ap (λ s. map (writes (token_text_at s) (table_of q)) (identifier_names (tree_of q.module_read))) (sym e.source) ∙ ap (map (writes text (table_of q))) (sym tokens_too))) in
-      ap fields_with_owners (same_owned text (table_of r) (table_of q) (owners_in_resolution r) (owners_in_resolution q) (table_has r well) (table_has q also) (tokens_of ∙ (ap identifier_names e.tree ∙ sym tokens_too)) there)
+      ap fields_with_owners (same_owned text (table_of r) (table_of q) (identifier_owners_in_resolution r) (identifier_owners_in_resolution q) (table_has r well) (table_has q also) (tokens_of ∙ (ap identifier_names e.tree ∙ sym tokens_too)) there)

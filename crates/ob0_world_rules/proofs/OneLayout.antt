@@ -1,8 +1,6 @@
 -- Proves that a text is formatted in at most one way: two lists of edits are equal, and there are none if the result is
 -- too long.
-use Rattle.std.proofs.Common.{◌≡◌, ◌∙◌, ℕ, ◌≤◌, List, map, length, sym, ap, arith, subst}
-use Rattle.std.specs.Str.{chars}
-use mathlib.Core.List.{map-map}
+use Rattle.std.proofs.Common.{◌≡◌, ◌∙◌, ℕ, ◌≤◌, List, map, length, sym, arith, subst}
 use Rattle.ob0_scan.specs.Lexed.{LexesInto}
 use Rattle.ob0_scan.specs.TextWithTokens.{max_text_length}
 use Rattle.ob0_scan.proofs.Cuts.{cut_into_lexemes_is_unique}
@@ -13,20 +11,17 @@ use Rattle.ob0_text.specs.declared.position_types.Unit.{Unit}
 use Rattle.ob0_text.specs.Units.{width_of}
 use Rattle.ob0_tree.specs.Tree.{Tree, module_text}
 use Rattle.ob0_language_names.specs.Names.{Name}
+use Rattle.ob0_edits_tokens.specs.ByteCuts.{edit_at_cut}
+use Rattle.ob0_edits_tokens.specs.Replaced.{range_and_text}
 use Rattle.ob0_layout.specs.Layout.{formatted_text}
-use Rattle.ob0_layout.specs.Gaps.{EditContent, edit_content, edit_of_cut, changed_gaps, all_gaps}
+use Rattle.ob0_layout.specs.Gaps.{changed_gaps, all_gaps}
 use Rattle.ob0_layout.specs.LineRoles.{line_roles}
 use Rattle.ob0_edits.specs.Diagnosed.{IsTextOfTree, IsWellTypedModule}
 use Rattle.ob0_edits.specs.Texts.{utf8}
 use Rattle.ob0_edits.specs.Layouts.{FormatsText, FormattedTextIsTooLong, edits_of_changed_gaps, formatted_text_of}
-use Rattle.ob0_world_rules.specs.Edited.{Replacement, replacements}
+use Rattle.ob0_world_rules.specs.Edited.{replacements}
+use Rattle.ob0_world_rules.proofs.OneModule.{same_parts}
 use Rattle.ob0_world_rules.proofs.Trees.{same_tree}
-
-abbrev said_as : EditContent → Replacement
-said_as s = record { range = s.range; text = chars s.text }
-
-same_said : (xs ys : List Edit) → map edit_content xs ≡ map edit_content ys → replacements xs ≡ replacements ys
-same_said xs ys e = sym (map-map said_as edit_content xs) ∙ (ap (map said_as) e ∙ map-map said_as edit_content ys)
 
 module _ (text : List ℕ) (m n : IsWellTypedModule (utf8 text)) where
   one_source : m.text_of.scanned ≡ n.text_of.scanned
@@ -45,14 +40,14 @@ module _ (text : List ℕ) (m n : IsWellTypedModule (utf8 text)) where
   one_layout indent = λ i. formatted_text indent (one_module i) (one_lexing i)
 
   one_change : (unit : Unit) (indent : Indent) → edits_of_changed_gaps unit indent text m ≡ edits_of_changed_gaps unit indent text n
-  one_change unit indent = λ i. map (edit_of_cut (width_of unit) text) (changed_gaps (one_source i).text (all_gaps indent (one_source i).text (line_roles 0 (one_module i)) (one_lexing i)))
+  one_change unit indent = λ i. map (edit_at_cut unit text) (changed_gaps (one_source i).text (all_gaps indent (one_source i).text (line_roles 0 (one_module i)) (one_lexing i)))
 
 -- Two formattings of a text have equal edits, by the bytes of their texts.
-pub lays_out_said : (unit : Unit) (indent : Indent) (text : List ℕ) (xs ys : List Edit) → FormatsText unit indent text xs → FormatsText unit indent text ys → map edit_content xs ≡ map edit_content ys
+pub lays_out_said : (unit : Unit) (indent : Indent) (text : List ℕ) (xs ys : List Edit) → FormatsText unit indent text xs → FormatsText unit indent text ys → map range_and_text xs ≡ map range_and_text ys
 lays_out_said unit indent text xs ys h k = h.changes ∙ (one_change text h.before k.before unit indent ∙ sym k.changes)
 
 pub lays_out_one : (unit : Unit) (indent : Indent) (text : List ℕ) (xs ys : List Edit) → FormatsText unit indent text xs → FormatsText unit indent text ys → replacements xs ≡ replacements ys
-lays_out_one unit indent text xs ys h k = same_said xs ys (lays_out_said unit indent text xs ys h k)
+lays_out_one unit indent text xs ys h k = same_parts xs ys (lays_out_said unit indent text xs ys h k)
 
 -- A text that has a module is no longer than `max_text_length`.
 short_enough : (text : List ℕ) (tree : Tree Name module_text) → IsTextOfTree tree text → length text ≤ max_text_length

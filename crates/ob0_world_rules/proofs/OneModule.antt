@@ -22,7 +22,7 @@ use Rattle.ob0_scope_table.specs.Resolution.{span_at}
 use Rattle.ob0_language_names.specs.Scopes.{numbered}
 use Rattle.ob0_parse_descent.proofs.Unique.{same}
 use Rattle.ob0_edits_tokens.specs.Replaced.{range_and_text}
-use Rattle.ob0_scope_table.specs.Spans.{is_on_span}
+use Rattle.ob0_scope_table.specs.Spans.{is_in_span_or_at_end}
 use Rattle.ob0_scope.specs.NamesAtPlaces.{LabelledIdentifier, name_at_offset, bound_name_of}
 use Rattle.ob0_scope.specs.declared.naming.BoundName.{BoundName}
 use Rattle.ob0_world_rules.specs.Edited.{Replacement, replacements}
@@ -41,7 +41,7 @@ abbrev pub identifiers_of : TextWithTokens → Tree ℕ module_text → List Lab
 identifiers_of s t = zip (identifiers role.Declaring t) (identifier_names (numbered (tree_with_names s t)))
 
 abbrev name_in : TextWithTokens → Tree ℕ module_text → ℕ → Option BoundName
-name_in s t offset = option_and_then bound_name_of (find (λ x. is_on_span offset (span_at s x.0.1)) (identifiers_of s t))
+name_in s t offset = option_and_then bound_name_of (find (λ x. is_in_span_or_at_end offset (span_at s x.0.1)) (identifiers_of s t))
 
 module _ {m n : ParsedModule} (e : Same m n) where
   pub one_named_tree : named_tree_of m ≡ named_tree_of n

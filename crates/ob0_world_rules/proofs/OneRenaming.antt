@@ -22,7 +22,7 @@ use Rattle.ob0_language_names.specs.Names.{Name, same_name}
 use Rattle.ob0_language_names.specs.Occurrences.{NameConflict, IsFreeName, at_declaration, at_occurrence, first_name_conflict}
 use Rattle.ob0_language_names.specs.Parts.{module_block}
 use Rattle.ob0_scope_table.specs.Resolution.{Resolution, declaring_names, span_at, declaration_token}
-use Rattle.ob0_scope.proofs.FirstCaptures.{free_means_no_conflict-holds}
+use Rattle.ob0_scope.proofs.FirstCaptures.{name_is_free_iff_no_conflict-holds}
 use Rattle.ob0_scope.specs.Renames.{namesake}
 use Rattle.ob0_scope.specs.NamesAtPlaces.{is_bound_to}
 use Rattle.ob0_edits_tokens.specs.Ranges.{range_of}
@@ -169,7 +169,7 @@ module _ (unit : Unit) (text : List ℕ) (place : Position) (new : Name) (names 
 
   not_captured : (d : ℕ) (x : NameConflict) → IsFreeName (named_tree_of names.module_read) d new → first_name_conflict (named_tree_of others.module_read) d new ≡ Some x → ⊥
   not_captured d x free captured =
-      let none : first_name_conflict (named_tree_of others.module_read) d new ≡ None = ap (λ t. first_name_conflict t d new) (sym tree_is_unique) ∙ (free_means_no_conflict-holds (named_tree_of names.module_read) d new).1 free in
+      let none : first_name_conflict (named_tree_of others.module_read) d new ≡ None = ap (λ t. first_name_conflict t d new) (sym tree_is_unique) ∙ (name_is_free_iff_no_conflict-holds (named_tree_of names.module_read) d new).1 free in
       let both : None ≡ Some x = sym none ∙ captured in cc
 
   declared_refused : (d : ℕ) (es : List Edit) (why : EditRefusal) → RenamesDeclaration r d es → IsFirstRefusalForDeclaration q d why → ⊥
@@ -253,7 +253,7 @@ module _ (unit : Unit) (text : List ℕ) (place : Position) (new : Name) (names 
   not_both k h = cc
 
   not_free : (d : ℕ) (x : NameConflict) → first_name_conflict (named_tree_of others.module_read) d new ≡ Some x → IsFreeName (named_tree_of others.module_read) d new → ⊥
-  not_free d x captured free = let both : None ≡ Some x = sym ((free_means_no_conflict-holds (named_tree_of others.module_read) d new).1 free) ∙ captured in cc
+  not_free d x captured free = let both : None ≡ Some x = sym ((name_is_free_iff_no_conflict-holds (named_tree_of others.module_read) d new).1 free) ∙ captured in cc
 
   declared_refusal : (d : ℕ) (why other : EditRefusal) → IsFirstRefusalForDeclaration r d why → IsFirstRefusalForDeclaration q d other → why ≡ other
   declared_refusal d why other h k = go (declared_view unit text place new names d why h) (declared_view unit text place new others d other k)

@@ -2,7 +2,7 @@
 use Rattle.std.proofs.Common.{◌≡◌, ◌∙◌, ℕ, List, [], sym, subst, append-nil}
 use Rattle.ob0_scan.specs.TextWithTokens.{TextWithTokens}
 use Rattle.ob0_scan.proofs.Spans.{scan_is_unique}
-use Rattle.ob0_tree.specs.Module.{ModuleOf}
+use Rattle.ob0_tree.specs.Module.{IsModuleWithTree}
 use Rattle.ob0_tree.specs.Tree.{Tree, module_text, spell}
 use Rattle.ob0_language_names.specs.Names.{Name}
 use Rattle.ob0_language_runs.specs.EditLaws.{HaveSameRuns}
@@ -13,13 +13,13 @@ use Rattle.ob0_edits.specs.Texts.{utf8}
 use Rattle.ob0_world_rules.specs.Language.{SameRun}
 use Rattle.ob0_world_rules.proofs.ModuleTexts.{text_of_module}
 
-pub tree_is_unique : (s : TextWithTokens) (a b : Tree Name module_text) → ModuleOf s a → ModuleOf s b → a ≡ b
+pub tree_is_unique : (s : TextWithTokens) (a b : Tree Name module_text) → IsModuleWithTree s a → IsModuleWithTree s b → a ≡ b
 tree_is_unique s a b p q = (same a b [] [] tt tt (append-nil (spell a) ∙ (sym p.spelled ∙ (q.spelled ∙ sym (append-nil (spell b)))))).0
 
 pub same_tree : (text : List ℕ) (a b : Tree Name module_text) → IsTextOfTree a text → IsTextOfTree b text → a ≡ b
 same_tree text a b p q =
     let scans : p.scanned ≡ q.scanned = scan_is_unique p.scanned q.scanned p.scan.scan q.scan.scan (p.scan.of ∙ sym q.scan.of) in
-    tree_is_unique q.scanned a b (subst (λ s. ModuleOf s a) scans p.module_of) q.module_of
+    tree_is_unique q.scanned a b (subst (λ s. IsModuleWithTree s a) scans p.module_of) q.module_of
 
 pub same_run : (text after : List ℕ) → RunsAsBefore (utf8 text) (utf8 after) → SameRun text after
 same_run text after runs s t is also =

@@ -39,9 +39,9 @@ revised_document d r = record d { version = r.version; text = r.text }
 abbrev pub with_document : Editor → List ℕ → OpenDocument → Editor
 with_document e uri d = record e { documents = map_of.insert e.documents uri d }
 
--- States that these revisions of an open document, made in order, lead from editor `e` to `new` and
--- announce these documents. The changes of each revision turn the text before it into the text
--- after it. Positions are counted in the editor's unit. A revision may have any version.
+-- States that these revisions of the open document `uri`, made in order, lead from editor `e` to
+-- `new`. `announced` is the document after each revision. The changes of each revision turn the text
+-- before it into the text after it. Positions are counted in the editor's unit. Any version is allowed.
 abbrev pub Revises : Editor → List ℕ → List Revision → Editor → List AnnouncedDocument → Type 0
 Revises e uri [] new announced = (new ≡ e) × (announced ≡ [])
 Revises e uri (r ∷ more) new announced =

@@ -7,7 +7,7 @@ use Rattle.ob0_world_rules.specs.Language.{WellTypedText, SameRun}
 use Rattle.ob0_world_rules.specs.Answers.{IsEmptyExactlyIfWellTyped}
 use Rattle.ob0_world_rules.specs.ClientAndServer.{OpenDocument, Editor, open_document_at, Applied, PublicationWithText, ClientAndServer, start}
 use Rattle.ob0_world_rules.specs.Happens.{Event, IsCourse}
-use Rattle.ob0_world_rules.specs.PublicationsInOrder.{AreMadeInOrder}
+use Rattle.ob0_world_rules.specs.PublicationsInOrder.{PublicationsFollowAnnouncements}
 
 -- ---- an applied edit
 
@@ -66,4 +66,4 @@ pub record Headline (unit : Unit) (events : List Event) (applied : List Applied)
   pub made_at_end : made ≡ end.made
   pub holds : GuaranteesHold end
   -- the n-th publication was made for the n-th document that the editor announced
-  pub made_in_order : AreMadeInOrder unit events made
+  pub made_in_order : PublicationsFollowAnnouncements unit events made

@@ -88,7 +88,7 @@ uri_and_version_of t = (t.uri, t.document.version)
 -- States that the publications `made` were made for the first documents that the editor announced
 -- (`announced`), one for each, in order. The messages that still wait for the server announce the
 -- other documents (`waiting`).
-pub record AreMadeInOrder (unit : Unit) (events : List Event) (made : List PublicationWithText) : Type 0 where
+pub record PublicationsFollowAnnouncements (unit : Unit) (events : List Event) (made : List PublicationWithText) : Type 0 where
   pub announced : List AnnouncedDocument
   pub waiting : List AnnouncedDocument
   pub all : AreAnnounced (start unit) events (announced ++ waiting)
@@ -105,4 +105,4 @@ abbrev pub PublicationsInOrder : Type 0
 PublicationsInOrder =
     (unit : Unit) (events : List Event) (end : ClientAndServer)
     → IsCourse (start unit) events end
-    → AreMadeInOrder unit events end.made
+    → PublicationsFollowAnnouncements unit events end.made

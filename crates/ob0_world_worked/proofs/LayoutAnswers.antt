@@ -5,11 +5,11 @@ use Rattle.std.specs.Str.{IsUtf8, chars}
 use Rattle.std.proofs.lemmas.Bool.{ltb-false, ltb-true}
 use Rattle.std.proofs.lemmas.Str.{chars_from_encodes, encodes-chars}
 use Rattle.ob0_scan.specs.Lexed.{LexesInto, Lexeme}
-use Rattle.ob0_scan.specs.TextWithTokens.{IsScan, TextWithTokens, comments_from, max_text_length, tokens_from}
+use Rattle.ob0_scan.specs.TextWithTokens.{IsScan, TextWithTokens, comments_of_lexemes_from, max_text_length, tokens_of_lexemes_from}
 use Rattle.ob0_text.specs.declared.edits.Edit.{Edit}
 use Rattle.ob0_text.specs.declared.edits.Indent.{Indent}
 use Rattle.ob0_text.specs.declared.position_types.Unit.{Unit}
-use Rattle.ob0_tree.specs.Module.{ModuleOf}
+use Rattle.ob0_tree.specs.Module.{IsModuleWithTree}
 use Rattle.ob0_tree.specs.Tree.{Tree, module_text}
 use Rattle.ob0_layout.specs.Layout.{formatted_lexemes, formatted_text}
 use Rattle.ob0_edits.specs.Diagnosed.{IsTextOfTree, IsWellTypedModule}
@@ -24,11 +24,11 @@ use Rattle.ob0_world_worked.proofs.LayoutEdits.{layout_edits, layout_patches}
 
 abbrev pub ModuleStays : Type 0
 ModuleStays =
-    (indent : Indent) (s : TextWithTokens) (scan : IsScan s) (tree : Tree (List ℕ) module_text) → ModuleOf s tree
-    → (t : TextWithTokens) → IsScan t → t.text ≡ formatted_text indent tree scan.lexemes → ModuleOf t tree
+    (indent : Indent) (s : TextWithTokens) (scan : IsScan s) (tree : Tree (List ℕ) module_text) → IsModuleWithTree s tree
+    → (t : TextWithTokens) → IsScan t → t.text ≡ formatted_text indent tree scan.lexemes → IsModuleWithTree t tree
 
 abbrev pub LexemesStay : Type 0
-LexemesStay = (indent : Indent) (s : TextWithTokens) (scan : IsScan s) (tree : Tree (List ℕ) module_text) → ModuleOf s tree → LexesInto (formatted_text indent tree scan.lexemes) (formatted_lexemes indent tree scan.lexemes)
+LexemesStay = (indent : Indent) (s : TextWithTokens) (scan : IsScan s) (tree : Tree (List ℕ) module_text) → IsModuleWithTree s tree → LexesInto (formatted_text indent tree scan.lexemes) (formatted_lexemes indent tree scan.lexemes)
 
 abbrev pub LayoutIsUtf8 : Type 0
 LayoutIsUtf8 = (indent : Indent) (s : TextWithTokens) (scan : IsScan s) (tree : Tree (List ℕ) module_text) → IsUtf8 (formatted_text indent tree scan.lexemes)
@@ -43,7 +43,7 @@ module _ (stays : ModuleStays) (lexed : LexemesStay) (good : LayoutIsUtf8) (unit
       let s = m.text_of.scanned in
       let scan = m.text_of.scan.scan in
       let lexemes : List Lexeme = formatted_lexemes indent m.tree scan.lexemes in
-      let t : TextWithTokens = record { text = laid; tokens = tokens_from 0 lexemes; comments = comments_from 0 lexemes } in
+      let t : TextWithTokens = record { text = laid; tokens = tokens_of_lexemes_from 0 lexemes; comments = comments_of_lexemes_from 0 lexemes } in
       let u = good indent s scan m.tree in
       let read : IsScan t = record { utf8 = u; short = short; lexemes = lexemes; lexed = lexed indent s scan m.tree m.text_of.module_of; tokens = refl; comments = refl } in
       record { scanned = t; scan = record { of = sym (encodes-chars laid u); scan = read }; module_of = stays indent s scan m.tree m.text_of.module_of t read refl }

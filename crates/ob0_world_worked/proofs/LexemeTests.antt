@@ -11,10 +11,10 @@ use Rattle.ob0_scan.specs.declared.lexeme.ReservedWord.TheVariants as reserved
 use Rattle.ob0_scan.specs.declared.lexeme.TokenKind.TheVariants as token
 use Rattle.ob0_scan.specs.declared.lexeme.LexemeKind.{LexemeKind}
 use Rattle.ob0_scan.specs.declared.lexeme.LexemeKind.TheVariants as lexeme
-use Rattle.ob0_scan.specs.Classes.{IsLexemeOfKind, IsIdentifier, decimal_value, is_space, reserved_text, symbol_text}
-use Rattle.ob0_scan.specs.Ends.{EachEndsBeforeNext, continues_lexeme}
+use Rattle.ob0_scan.specs.Classes.{IsLexemeOfKind, IsIdentifier, decimal_value, is_white_space, reserved_word_text, symbol_text}
+use Rattle.ob0_scan.specs.Ends.{EachLexemeEndsBeforeNext, continues_lexeme}
 use Rattle.ob0_scan.specs.Lexed.{LexesInto, Lexeme, text_of_lexemes}
-use Rattle.ob0_scan.proofs.Borders.{cut_into_lexemes_depends_on_next_bytes}
+use Rattle.ob0_scan.proofs.Borders.{cut_into_lexemes_depends_only_on_next_bytes}
 
 abbrev pub all_reserved : List ReservedWord
 all_reserved =
@@ -22,12 +22,12 @@ all_reserved =
     ∷ reserved.While ∷ reserved.Do ∷ reserved.Array ∷ reserved.Of ∷ reserved.Record ∷ reserved.Div ∷ reserved.Mod ∷ reserved.Or ∷ reserved.Repeat ∷ reserved.Until ∷ []
 
 abbrev pub is_reserved : List ℕ → Bool
-is_reserved text = list_any (λ word. bytes_eq text (reserved_text word)) all_reserved
+is_reserved text = list_any (λ word. bytes_eq text (reserved_word_text word)) all_reserved
 
 abbrev pub is_name : List ℕ → Bool
 is_name text = is_ascii_alphabetic (slice_index text 0) && (list_all is_ascii_alphanumeric text && not (is_reserved text))
 
-among : (word : ReservedWord) → list_any (λ w. bytes_eq (reserved_text word) (reserved_text w)) all_reserved ≡ true
+among : (word : ReservedWord) → list_any (λ w. bytes_eq (reserved_word_text word) (reserved_word_text w)) all_reserved ≡ true
 among reserved.Module = refl
 among reserved.Begin = refl
 among reserved.End = refl
@@ -50,7 +50,7 @@ among reserved.Or = refl
 among reserved.Repeat = refl
 among reserved.Until = refl
 
-not_reserved : (text : List ℕ) → not (is_reserved text) ≡ true → (word : ReservedWord) → text ≡ reserved_text word → ⊥
+not_reserved : (text : List ℕ) → not (is_reserved text) ≡ true → (word : ReservedWord) → text ≡ reserved_word_text word → ⊥
 not_reserved text differs_from_reserved word is = go (is_reserved text) refl differs_from_reserved
   where
     always : is_reserved text ≡ true
@@ -67,21 +67,21 @@ identifier_of text h =
     record { word = record { letter = a.0; all = AllPass-from_list_all is_ascii_alphanumeric text b.0 }; differs_from_reserved = not_reserved text b.1 }
 
 abbrev pub belongs_test : LexemeKind → List ℕ → Bool
-belongs_test lexeme.Space text = nat_lt 0 (length text) && list_all is_space text
+belongs_test lexeme.Space text = nat_lt 0 (length text) && list_all is_white_space text
 belongs_test lexeme.Comment text = false
 belongs_test (lexeme.Token token.Identifier) text = is_name text
-belongs_test (lexeme.Token (token.ReservedWord word)) text = bytes_eq text (reserved_text word)
+belongs_test (lexeme.Token (token.ReservedWord word)) text = bytes_eq text (reserved_word_text word)
 belongs_test (lexeme.Token (token.Integer value)) text =
     (nat_lt 0 (length text) && list_all is_ascii_digit text) && ((value == decimal_value text) && nat_lt value 2147483648)
 belongs_test (lexeme.Token (token.Symbol s)) text = bytes_eq text (symbol_text s)
 
 belongs_so : (kind : LexemeKind) (text : List ℕ) → belongs_test kind text ≡ true → IsLexemeOfKind kind text
 belongs_so lexeme.Space text h =
-    let a = and_parts (nat_lt 0 (length text)) (list_all is_space text) h in
-    record { nonempty = ltb-true 0 (length text) a.0; all = AllPass-from_list_all is_space text a.1 }
+    let a = and_parts (nat_lt 0 (length text)) (list_all is_white_space text) h in
+    record { nonempty = ltb-true 0 (length text) a.0; all = AllPass-from_list_all is_white_space text a.1 }
 belongs_so lexeme.Comment text h = absurd (cc)
 belongs_so (lexeme.Token token.Identifier) text h = identifier_of text h
-belongs_so (lexeme.Token (token.ReservedWord word)) text h = (bytes_eq-Decides text (reserved_text word)).0 h
+belongs_so (lexeme.Token (token.ReservedWord word)) text h = (bytes_eq-Decides text (reserved_word_text word)).0 h
 belongs_so (lexeme.Token (token.Integer value)) text h =
     let a = and_parts (nat_lt 0 (length text) && list_all is_ascii_digit text) ((value == decimal_value text) && nat_lt value 2147483648) h in
     let b = and_parts (nat_lt 0 (length text)) (list_all is_ascii_digit text) a.0 in
@@ -97,7 +97,7 @@ abbrev pub are_disjoint : List Lexeme → Bool
 are_disjoint [] = true
 are_disjoint (l ∷ lexemes) = (belongs_test l.kind l.text && not (continues_lexeme l.kind (slice_index (text_of_lexemes lexemes) 0))) && are_disjoint lexemes
 
-apart_so : (lexemes : List Lexeme) → are_disjoint lexemes ≡ true → EachEndsBeforeNext lexemes
+apart_so : (lexemes : List Lexeme) → are_disjoint lexemes ≡ true → EachLexemeEndsBeforeNext lexemes
 apart_so [] h = tt
 apart_so (l ∷ lexemes) h =
     let a = and_parts (belongs_test l.kind l.text && not (continues_lexeme l.kind (slice_index (text_of_lexemes lexemes) 0))) (are_disjoint lexemes) h in
@@ -109,4 +109,4 @@ apart_so (l ∷ lexemes) h =
     off false e = refl
 
 pub lexed_so : (text : List ℕ) (lexemes : List Lexeme) → text_of_lexemes lexemes ≡ text → are_disjoint lexemes ≡ true → LexesInto text lexemes
-lexed_so text lexemes whole apart = (cut_into_lexemes_depends_on_next_bytes text lexemes).1 (whole, apart_so lexemes apart)
+lexed_so text lexemes whole apart = (cut_into_lexemes_depends_only_on_next_bytes text lexemes).1 (whole, apart_so lexemes apart)

@@ -14,7 +14,7 @@ use Rattle.ob0_language_names.specs.Names.{Name}
 use Rattle.ob0_language_names.specs.Scopes.{renamed}
 use Rattle.ob0_language_types.specs.WellTyped.{WellTyped}
 use Rattle.ob0_language_types.specs.ConstantValues.{value_of_constant}
-use Rattle.ob0_language_types.specs.EditLaws.{ConstantUsesAreFactors, IsScalar}
+use Rattle.ob0_language_types.specs.EditLaws.{ConstantUsesAreFactors, Is32BitScalar}
 use Rattle.ob0_language_runs.specs.EditLaws.{FreeRenamingKeepsTypingAndRuns, InliningEverywhereKeepsTypingAndRuns, InliningKeepsTypingAndRuns, HaveSameRuns}
 use Rattle.ob0_language_values.specs.declared.scalar.Scalar.{Scalar}
 use Rattle.ob0_language_values.specs.declared.scalar.Scalar.TheVariants as scalar
@@ -145,7 +145,7 @@ has_two : value_of_constant (named_tree_of worked_module) 7 ≡ Some (scalar_val
 unfolding value_of_constant
 has_two = refl
 
-two_fits : IsScalar (scalar_value (scalar.Number (pos 2)))
+two_fits : Is32BitScalar (scalar_value (scalar.Number (pos 2)))
 two_fits = refl
 
 abbrev the_use : ConstantUse
@@ -196,8 +196,8 @@ inlines_here_in alone keeps =
     let answer = at_uses.answer_ok worked_names worked_well the_use use_so alone two_fits keeps Utf16 example_text (puts_two ∷ []) here_made refl in
     inlines_in OneUse 56 (vec_of (puts_two ∷ []) (omega (arith))) (tree_inlined_here worked_module the_use) answer.1.leaves answer.1.well_typed answer.1.same_runs (inl (the_use, use_at, answer))
 
-pub inlining_is_answered : ConstantUsesAreFactors → InliningKeepsTypingAndRuns → AnswersAreUnique → InliningIsAnswered
-inlining_is_answered alone keeps one =
+pub example_inlining_has_only_this_answer : ConstantUsesAreFactors → InliningKeepsTypingAndRuns → AnswersAreUnique → InliningIsAnswered
+example_inlining_has_only_this_answer alone keeps one =
     answered_by one (inline_here (line_position 6 7)) (replacement_on_line 6 7 8 (codes "2") ∷ [])
     (inl (
       puts_two ∷ [],

@@ -12,7 +12,7 @@ use Rattle.ob0_text.specs.Patches.{are_all_disjoint, cut_at, cuts_in_text_order,
 use Rattle.ob0_text.specs.OpenDocuments.{Document, InStep, changed_text, document_at, no_open_documents, documents_after_open}
 use Rattle.ob0_rpc.specs.Appending.{ReadsBack}
 use Rattle.ob0_rpc.specs.Requesting.{DocumentPlace}
-use Rattle.ob0_rpc.specs.Notifications.{Notification, notification_by_method, opens, changes}
+use Rattle.ob0_rpc.specs.Notifications.{NotificationMeaning, notification_by_method, opens, changes}
 use Rattle.ob0_language_runs.specs.EditLaws.{InliningEverywhereKeepsTypingAndRuns, InliningKeepsTypingAndRuns}
 use Rattle.ob0_language_types.specs.EditLaws.{ConstantUsesAreFactors}
 use Rattle.ob0_refs.specs.Questions.{hover_at_offset}
@@ -214,7 +214,7 @@ opened_so : Answers session₀ (content_of open_notification) (content_of shows_
 opened_so = (
   Some open_notification,
   reads_so open_notification open_read refl,
-  subst (λ (n : Notification). let r = apply_notification session₀ n in (session₁ ≡ r.after) × AreContentsOfReply r.reply (content_of shows_none ∷ [])) (sym opened_note) (refl, published_so),
+  subst (λ (n : NotificationMeaning). let r = apply_notification session₀ n in (session₁ ≡ r.after) × AreContentsOfReply r.reply (content_of shows_none ∷ [])) (sym opened_note) (refl, published_so),
 )
 
 turn₄ : Exchanges x₃ server_takes x₄

@@ -10,7 +10,7 @@ use Rattle.ob0_tree.specs.declared.tree.Constant.{Constant}
 use Rattle.ob0_tree.specs.declared.tree.VariableDeclaration.{VariableDeclaration}
 use Rattle.ob0_tree.specs.declared.tree.Block.{Block, Block', end_of-Procedure}
 use Rattle.ob0_tree.specs.ParsedModule.{IsParsed, ParsedModule, named_tree_of}
-use Rattle.ob0_tree.specs.Module.{ModuleOf}
+use Rattle.ob0_tree.specs.Module.{IsModuleWithTree}
 use Rattle.ob0_tree.specs.Tree.{nesting}
 use Rattle.ob0_scope_table.specs.Resolution.{AreNameFaultsOf, IsResolution, OnlyIdentifiersHaveOrdinals, Resolution, is_identifier_token}
 use Rattle.ob0_language_types.specs.WellTyped.{WellTyped}
@@ -40,7 +40,7 @@ worked_block = Block' (Some (one_of n_is_two)) None (Some (one_of x_is)) none_of
 abbrev pub worked_module : ParsedModule
 worked_module = record { source = scanned_of worked_lexemes; name = 1; block = worked_block; closing = 23 }
 
-worked_module_of : ModuleOf (scanned_of worked_lexemes) (named_tree_of worked_module)
+worked_module_of : IsModuleWithTree (scanned_of worked_lexemes) (named_tree_of worked_module)
 worked_module_of = record { spelled = refl; short = worked_short; shallow = let n : nesting (named_tree_of worked_module) ≡ 0 = refl in omega (arith, n) }
 
 pub worked_parsed : IsParsed worked_module

@@ -11,9 +11,9 @@ use Rattle.ob0_scan.specs.declared.lexeme.Symbol.{Symbol}
 use Rattle.ob0_scan.specs.declared.lexeme.Symbol.TheVariants as symbol
 use Rattle.ob0_scan.specs.declared.lexeme.TokenKind.TheVariants as token
 use Rattle.ob0_scan.specs.declared.lexeme.LexemeKind.TheVariants as lexeme
-use Rattle.ob0_scan.specs.Classes.{reserved_text, symbol_text}
+use Rattle.ob0_scan.specs.Classes.{reserved_word_text, symbol_text}
 use Rattle.ob0_scan.specs.Lexed.{Lexeme, text_of_lexemes}
-use Rattle.ob0_scan.specs.TextWithTokens.{TextWithTokens, IsScan, comments_from, tokens_from}
+use Rattle.ob0_scan.specs.TextWithTokens.{TextWithTokens, IsScan, comments_of_lexemes_from, tokens_of_lexemes_from}
 use Rattle.ob0_world_worked.specs.WorkedText.{example_text}
 use Rattle.ob0_world_worked.proofs.LexemeTests.{are_disjoint, lexed_so}
 
@@ -39,7 +39,7 @@ bytes_so bytes h = sym (ap encode_utf8_all (chars_so bytes h)) ∙ encodes-chars
 -- ---- lexemes
 
 abbrev pub word : ReservedWord → Lexeme
-word w = record { kind = lexeme.Token (token.ReservedWord w); text = reserved_text w }
+word w = record { kind = lexeme.Token (token.ReservedWord w); text = reserved_word_text w }
 
 abbrev pub mark : Symbol → Lexeme
 mark s = record { kind = lexeme.Token (token.Symbol s); text = symbol_text s }
@@ -90,7 +90,7 @@ without_lexemes = lexemes_with (white (10 ∷ 32 ∷ 32 ∷ 10 ∷ []) ∷ []) (
 -- ---- scans
 
 abbrev pub scanned_of : List Lexeme → TextWithTokens
-scanned_of ls = record { text = text_of_lexemes ls; tokens = tokens_from 0 ls; comments = comments_from 0 ls }
+scanned_of ls = record { text = text_of_lexemes ls; tokens = tokens_of_lexemes_from 0 ls; comments = comments_of_lexemes_from 0 ls }
 
 pub scan_so : (ls : List Lexeme) → is_ascii_text (text_of_lexemes ls) ≡ true → length (text_of_lexemes ls) ≤ 1048576 → are_disjoint ls ≡ true → IsScan (scanned_of ls)
 scan_so ls ascii short apart =

@@ -33,7 +33,7 @@ pub fn capture_is_refused()
 
 /// Proves that inlining the constant `n` of `example_text` at its use is answered by one edit, and
 /// by no other.
-pub fn inlining_is_answered()
+pub fn example_inlining_has_only_this_answer()
     ensures { InliningIsAnswered }
 {
     constant_uses_are_factors();

@@ -5,14 +5,14 @@ ghost use Rattle.std.specs.Prelude.{◌≡◌, ◌≤◌, ◌∷◌, [], ◌++�
 ghost use Rattle.ob0_types_table.specs.declared.types.TypeId.TheVariants as type;
 ghost use Rattle.ob0_tree.specs.Places.{token_text_at};
 ghost use Rattle.ob0_types_check.specs.Known.{a_procedure};
-ghost use Rattle.ob0_types_check.specs.Operations.{ReturnsAndReports, fault_between, token_after};
-ghost use Rattle.ob0_types_check.specs.KnownDeclarations.{define, is_within_limits, make_type, predeclared_meanings, size_of_type_so_far, with_meaning};
+ghost use Rattle.ob0_types_check.specs.Operations.{ReturnsAndReports, fault_at_token, fault_at_tokens, token_after};
+ghost use Rattle.ob0_types_check.specs.KnownDeclarations.{define_name_at_token, is_within_limits, make_composite_type, predeclared_meanings, size_of_type_so_far, with_meaning};
 ghost use Rattle.ob0_types_check.specs.CheckerViews.{capped_size, meaning_in_state, entry_element_type, entry_field_type, composite_type_of, meaning_view, size_of, declarations_in_state};
 ghost use Rattle.ob0_types_check.specs.WrittenTypeFaults.{array_size, sum_of_sizes, next_type_ordinal, record_size};
 
 use ob0_language_values::Scalar;
-use ob0_scan::{Fault, FaultCode, Span};
-use ob0_scope_table::{Resolved, token_span};
+use ob0_scan::FaultCode;
+use ob0_scope_table::{FaultAtTokens, Resolved};
 use ob0_tree::token_text_at;
 use ob0_types_table::{FormalParameter, MAX_SCALARS, MAX_TYPE_DEPTH, TypeEntry, TypeId, add_entry};
 use std::alloc::{AllocError, Global};
@@ -93,7 +93,7 @@ impl Size {
 
     /// Returns the size of two parts together, such as two fields: the sum of their scalars and the
     /// greater of their depths. The sum is capped at 2^64 - 1.
-    pub(crate) fn combine(self, other: Size) -> Size
+    pub(crate) fn size_of_both(self, other: Size) -> Size
         ensures { size_of result ≡ capped_size (sum_of_sizes (size_of self) (size_of other)) }
     {
         Size {
@@ -135,6 +135,31 @@ pub(crate) fn sum_or_error(a: usize, b: usize) -> Result<usize, AllocError>
     }
 }
 
+/// Appends a fault with this code to `faults`. The fault is at the tokens from `first` to `last`.
+pub(crate) fn report_at_tokens(
+    faults: &mut Vec<FaultAtTokens>,
+    code: FaultCode,
+    first: usize,
+    last: usize,
+) -> Result<(), AllocError>
+    ensures { OnOk result
+        (faults.new.items ≡ faults.old.items ++ fault_at_tokens code first last) }
+{
+    faults.push(FaultAtTokens { code, first, last })?;
+    Ok(())
+}
+
+/// Appends a fault with this code to `faults`. The fault is at one token.
+pub(crate) fn report_at_token(
+    faults: &mut Vec<FaultAtTokens>,
+    code: FaultCode,
+    token: usize,
+) -> Result<(), AllocError>
+    ensures { OnOk result (faults.new.items ≡ faults.old.items ++ fault_at_token code token) }
+{
+    report_at_tokens(faults, code, token, token)
+}
+
 /// The declarations and types of a module that the walk has found so far.
 #[derive(Drop)]
 pub(crate) struct CheckerState<'t> {
@@ -167,44 +192,6 @@ impl<'t> CheckerState<'t> {
         }
     }
 
-    /// Appends a fault with this code to `faults`. The fault's span extends from the start of the
-    /// token `first` to the end of the token `last`.
-    pub(crate) fn report(
-        &self,
-        faults: &mut Vec<Fault>,
-        code: FaultCode,
-        first: usize,
-        last: usize,
-    ) -> Result<(), AllocError>
-        ensures { OnOk result (faults.new.items
-            ≡ faults.old.items
-            ++ fault_between self.now.resolved.now.module_read.source code first last
-            ∷ []) }
-    {
-        let tokens = self.resolved.tokens();
-        let span = Span {
-            start: token_span(tokens, first).start,
-            end: token_span(tokens, last).end,
-        };
-        faults.push(Fault { code, span })?;
-        Ok(())
-    }
-
-    /// Appends a fault with this code to `faults`. The fault's span is the token `token`.
-    pub(crate) fn report_at(
-        &self,
-        faults: &mut Vec<Fault>,
-        code: FaultCode,
-        token: usize,
-    ) -> Result<(), AllocError>
-        ensures { OnOk result (faults.new.items
-            ≡ faults.old.items
-            ++ fault_between self.now.resolved.now.module_read.source code token token
-            ∷ []) }
-    {
-        self.report(faults, code, token, token)
-    }
-
     /// Returns the meaning of the name at a token. Returns None if the name is unbound, or if the
     /// walk hasn't found the meaning of its declaration yet.
     pub(crate) fn meaning_of_name(&self, token: usize) -> Option<&Meaning>
@@ -212,13 +199,13 @@ impl<'t> CheckerState<'t> {
     {
         match self.resolved.ordinal_at(token) {
             None => None,
-            Some(ordinal) => self.meaning_of(ordinal),
+            Some(ordinal) => self.meaning_of_ordinal(ordinal),
         }
     }
 
     /// Returns the meaning of the declaration with this ordinal. Returns None if the walk hasn't
     /// found the meaning yet, or if there is no such ordinal.
-    fn meaning_of(&self, ordinal: usize) -> Option<&Meaning>
+    fn meaning_of_ordinal(&self, ordinal: usize) -> Option<&Meaning>
         ensures { option_map (λ m. m.now) result
             ≡ slice_index_or self.now.meanings.items ordinal None }
     {
@@ -233,18 +220,18 @@ impl<'t> CheckerState<'t> {
 
     /// Records the meaning of the name that is declared at a token. If the token has no ordinal,
     /// nothing changes.
-    pub(crate) fn define(&mut self, token: usize, meaning: Meaning)
-        ensures { declarations_in_state self.new ≡ define (declarations_in_state self.old) (meaning_view meaning) token }
+    pub(crate) fn define_name_at_token(&mut self, token: usize, meaning: Meaning)
+        ensures { declarations_in_state self.new ≡ define_name_at_token (declarations_in_state self.old) (meaning_view meaning) token }
     {
         match self.resolved.ordinal_at(token) {
             None => {}
-            Some(ordinal) => self.declare(ordinal, meaning),
+            Some(ordinal) => self.define_ordinal(ordinal, meaning),
         }
     }
 
     /// Records the meaning of the declaration with this ordinal. If there is no such ordinal,
     /// nothing changes.
-    fn declare(&mut self, ordinal: usize, meaning: Meaning)
+    fn define_ordinal(&mut self, ordinal: usize, meaning: Meaning)
         ensures { declarations_in_state self.new
             ≡ with_meaning (declarations_in_state self.old) (meaning_view meaning) (Some ordinal) }
     {
@@ -319,19 +306,19 @@ impl<'t> CheckerState<'t> {
     /// Appends an array or record type to `composites` and returns the `TypeId` that refers to it.
     /// `token` is the type's word ARRAY or RECORD. If the type is too large, reports `TypeTooLarge`
     /// at `token` and returns the unknown type.
-    pub(crate) fn make_type(
+    pub(crate) fn make_composite_type(
         &mut self,
-        faults: &mut Vec<Fault>,
+        faults: &mut Vec<FaultAtTokens>,
         token: usize,
         entry: TypeEntry,
     ) -> Result<TypeId, AllocError>
         ensures { IfOk result (λ t. ReturnsAndReports faults.old.items faults.new.items
             (record { of = t; following = declarations_in_state self.new })
-            (make_type (declarations_in_state self.old) token (composite_type_of entry).ordinal
+            (make_composite_type (declarations_in_state self.old) token (composite_type_of entry).ordinal
             (composite_type_of entry).parts (composite_type_of entry).size)) }
     {
         if !size_of_entry(&entry).is_within_limits() {
-            self.report_at(faults, FaultCode::TypeTooLarge, token)?;
+            report_at_token(faults, FaultCode::TypeTooLarge, token)?;
             return Ok(TypeId::Unknown);
         }
         add_entry(&mut self.composites, entry)

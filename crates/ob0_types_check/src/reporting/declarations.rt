@@ -3,16 +3,17 @@
 
 ghost use Rattle.std.specs.Prelude.{◌≡◌, ◌∷◌, ◌++◌, [], map, IfOk, OnOk};
 ghost use Rattle.ob0_language_names.specs.Parts.{formal_sections, section_constants, section_types, section_variables};
-ghost use Rattle.ob0_tree.specs.View.{block_of, body_of, constant_of, constants_of, formals_of, further_parameter_section_of, items_of, procedure_of, type_declaration_of, types_of, variable_of, variables_of};
-ghost use Rattle.ob0_types_check.specs.DeclarationFaults.{report_on_constant_declaration, report_on_body, report_on_constant_declarations, report_on_parameter_section, report_on_parameter_sections, report_on_type_declarations, report_on_variable_declarations, report_on_type_declaration, report_on_variable_group};
+ghost use Rattle.ob0_tree.specs.View.{block_of, body_of, constant_of, constant_section_of, formals_of, further_parameter_section_of, items_of, procedure_of, type_declaration_of, type_section_of, variable_of, variable_section_of};
+ghost use Rattle.ob0_types_check.specs.DeclarationFaults.{body_faults, report_body_if_wanted, report_on_block, report_on_constant_declaration, report_on_constant_declarations, report_on_procedure, report_on_procedures, report_on_parameter_section, report_on_parameter_sections, report_on_type_declaration, report_on_type_declarations, report_on_variable_group, report_on_variable_declarations};
 ghost use Rattle.ob0_types_check.specs.Known.{a_variable};
 ghost use Rattle.ob0_types_check.specs.Operations.{ReturnsAndReports};
-ghost use Rattle.ob0_types_check.specs.KnownDeclarations.{define_all};
-ghost use Rattle.ob0_types_check.specs.SomeBodies.{report_on_block_with_wanted_bodies, report_body_if_wanted, report_on_procedure_with_wanted_bodies, report_on_procedures_with_wanted_bodies, walk_progress_of, includes_body};
+ghost use Rattle.ob0_types_check.specs.KnownDeclarations.{define_names_at_tokens};
+ghost use Rattle.ob0_types_check.specs.SomeBodies.{includes_body, walk_progress_of};
 ghost use Rattle.ob0_types_check.specs.CheckerViews.{heading_in_state, declarations_in_state};
 
 use crate::reporting::checker_state::{CheckerState, Meaning};
-use crate::reporting::{BodiesToWalk, Reporter};
+use crate::reporting::{BodiesToWalk, ReportingWalk};
+use ob0_scope_table::FaultAtTokens;
 use ob0_tree::{
     Block, Constant, Names, ParameterSection, Procedure, Statement, TypeDeclaration,
     VariableDeclaration,
@@ -39,19 +40,35 @@ fn add_formals(
 
 impl<'t> CheckerState<'t> {
     /// Records each name in `names` as a variable of the type `of`.
-    fn define_all(&mut self, names: &Names, of: TypeId)
+    fn define_names_at_tokens(&mut self, names: &Names, of: TypeId)
         ensures { declarations_in_state self.new
-            ≡ define_all (declarations_in_state self.old) (a_variable of)
+            ≡ define_names_at_tokens (declarations_in_state self.old) (a_variable of)
             (names.now.first ∷ names.now.more.items) }
     {
-        self.define(names.first, Meaning::Variable(of));
+        self.define_name_at_token(names.first, Meaning::Variable(of));
         for name in &names.more {
-            self.define(*name, Meaning::Variable(of));
+            self.define_name_at_token(*name, Meaning::Variable(of));
+        }
+    }
+
+    /// Reports the faults of a body's statements. A missing body (None) has no faults.
+    fn report_body(
+        &self,
+        faults: &mut Vec<FaultAtTokens>,
+        body: &Option<Vec<Statement>>,
+    ) -> Result<(), AllocError>
+        ensures { OnOk result (faults.new.items
+            ≡ faults.old.items
+            ++ body_faults (declarations_in_state self.now) (body_of body.now)) }
+    {
+        match body {
+            None => Ok(()),
+            Some(statements) => self.report_sequence(faults, statements),
         }
     }
 }
 
-impl<'t> Reporter<'t> {
+impl<'t> ReportingWalk<'t> {
     /// Reports the faults of a block: constants, types, variables, procedures, and then the
     /// statements if `wanted` includes the block's body. `own` is the token of the block's closing
     /// name. Appends to `bodies_with_faults` the closing name of each walked body that has a fault.
@@ -64,7 +81,7 @@ impl<'t> Reporter<'t> {
         own: usize,
     ) -> Result<(), AllocError>
         ensures { OnOk result (ReturnsAndReports self.old.faults.items self.new.faults.items
-            (walk_progress_of self.new.checker_state bodies_with_faults.new.items) (report_on_block_with_wanted_bodies (includes_body wanted.now) own
+            (walk_progress_of self.new.checker_state bodies_with_faults.new.items) (report_on_block (includes_body wanted.now) own
             (walk_progress_of self.old.checker_state bodies_with_faults.old.items) (block_of b.now))) }
     {
         self.report_constant_section(&b.constants)?;
@@ -82,7 +99,7 @@ impl<'t> Reporter<'t> {
         procedures: &Vec<Procedure>,
     ) -> Result<(), AllocError>
         ensures { OnOk result (ReturnsAndReports self.old.faults.items self.new.faults.items
-            (walk_progress_of self.new.checker_state bodies_with_faults.new.items) (report_on_procedures_with_wanted_bodies (includes_body wanted.now)
+            (walk_progress_of self.new.checker_state bodies_with_faults.new.items) (report_on_procedures (includes_body wanted.now)
             (walk_progress_of self.old.checker_state bodies_with_faults.old.items)
             (items_of procedure_of procedures.now.items))) }
     {
@@ -102,12 +119,12 @@ impl<'t> Reporter<'t> {
         p: &Procedure,
     ) -> Result<(), AllocError>
         ensures { OnOk result (ReturnsAndReports self.old.faults.items self.new.faults.items
-            (walk_progress_of self.new.checker_state bodies_with_faults.new.items) (report_on_procedure_with_wanted_bodies (includes_body wanted.now)
+            (walk_progress_of self.new.checker_state bodies_with_faults.new.items) (report_on_procedure (includes_body wanted.now)
             (walk_progress_of self.old.checker_state bodies_with_faults.old.items) (procedure_of p.now))) }
     {
         let formals = self.report_heading(&p.formals)?;
         self.checker_state
-            .define(p.name, Meaning::Procedure(formals));
+            .define_name_at_token(p.name, Meaning::Procedure(formals));
         self.report_block(bodies_with_faults, wanted, &p.block, p.closing)
     }
 
@@ -129,25 +146,12 @@ impl<'t> Reporter<'t> {
             return Ok(());
         }
         let before = self.faults.len();
-        self.report_body_statements(statements)?;
+        self.checker_state
+            .report_body(&mut self.faults, statements)?;
         if self.faults.len() > before {
             bodies_with_faults.push(own)?;
         }
         Ok(())
-    }
-
-    /// Reports the faults of a body's statements. A missing body (None) has no faults.
-    fn report_body_statements(&mut self, body: &Option<Vec<Statement>>) -> Result<(), AllocError>
-        ensures { OnOk result (ReturnsAndReports self.old.faults.items self.new.faults.items
-            (declarations_in_state self.new.checker_state)
-            (report_on_body (declarations_in_state self.old.checker_state) (body_of body.now))) }
-    {
-        match body {
-            None => Ok(()),
-            Some(statements) => self
-                .checker_state
-                .report_sequence(&mut self.faults, statements),
-        }
     }
 
     /// Reports the faults of a procedure's heading, declares the parameters as variables, and
@@ -219,33 +223,33 @@ impl<'t> Reporter<'t> {
             of,
         };
         add_formals(&s.names, formal, formals)?;
-        self.checker_state.define_all(&s.names, of);
+        self.checker_state.define_names_at_tokens(&s.names, of);
         Ok(())
     }
 
     fn report_constant_section(&mut self, section: &Option<Vec<Constant>>) -> Result<(), AllocError>
         ensures { OnOk result (ReturnsAndReports self.old.faults.items self.new.faults.items
             (declarations_in_state self.new.checker_state) (report_on_constant_declarations (declarations_in_state self.old.checker_state)
-            (section_constants (constants_of section.now)))) }
+            (section_constants (constant_section_of section.now)))) }
     {
         match section {
             None => Ok(()),
-            Some(constants) => self.report_constants(constants.as_slice()),
+            Some(constants) => self.report_constant_declarations(constants.as_slice()),
         }
     }
 
-    fn report_constants(&mut self, constants: &[Constant]) -> Result<(), AllocError>
+    fn report_constant_declarations(&mut self, constants: &[Constant]) -> Result<(), AllocError>
         ensures { OnOk result (ReturnsAndReports self.old.faults.items self.new.faults.items
             (declarations_in_state self.new.checker_state) (report_on_constant_declarations (declarations_in_state self.old.checker_state)
             (items_of constant_of constants.now))) }
     {
         for c in constants {
-            self.report_constant(c)?;
+            self.report_constant_declaration(c)?;
         }
         Ok(())
     }
 
-    fn report_constant(&mut self, c: &Constant) -> Result<(), AllocError>
+    fn report_constant_declaration(&mut self, c: &Constant) -> Result<(), AllocError>
         ensures { OnOk result (ReturnsAndReports self.old.faults.items self.new.faults.items
             (declarations_in_state self.new.checker_state)
             (report_on_constant_declaration (declarations_in_state self.old.checker_state) (constant_of c.now))) }
@@ -253,7 +257,8 @@ impl<'t> Reporter<'t> {
         let value = self
             .checker_state
             .constant_value(&mut self.faults, &c.value)?;
-        self.checker_state.define(c.name, Meaning::Constant(value));
+        self.checker_state
+            .define_name_at_token(c.name, Meaning::Constant(value));
         Ok(())
     }
 
@@ -263,15 +268,15 @@ impl<'t> Reporter<'t> {
     ) -> Result<(), AllocError>
         ensures { OnOk result (ReturnsAndReports self.old.faults.items self.new.faults.items
             (declarations_in_state self.new.checker_state)
-            (report_on_type_declarations (declarations_in_state self.old.checker_state) (section_types (types_of section.now)))) }
+            (report_on_type_declarations (declarations_in_state self.old.checker_state) (section_types (type_section_of section.now)))) }
     {
         match section {
             None => Ok(()),
-            Some(types) => self.report_types(types.as_slice()),
+            Some(types) => self.report_type_declarations(types.as_slice()),
         }
     }
 
-    fn report_types(&mut self, types: &[TypeDeclaration]) -> Result<(), AllocError>
+    fn report_type_declarations(&mut self, types: &[TypeDeclaration]) -> Result<(), AllocError>
         ensures { OnOk result (ReturnsAndReports self.old.faults.items self.new.faults.items
             (declarations_in_state self.new.checker_state) (report_on_type_declarations (declarations_in_state self.old.checker_state)
             (items_of type_declaration_of types.now))) }
@@ -288,7 +293,8 @@ impl<'t> Reporter<'t> {
             (report_on_type_declaration (declarations_in_state self.old.checker_state) (type_declaration_of d.now))) }
     {
         let of = self.check_written_type(&d.written)?;
-        self.checker_state.define(d.name, Meaning::Named(of));
+        self.checker_state
+            .define_name_at_token(d.name, Meaning::Named(of));
         Ok(())
     }
 
@@ -298,15 +304,18 @@ impl<'t> Reporter<'t> {
     ) -> Result<(), AllocError>
         ensures { OnOk result (ReturnsAndReports self.old.faults.items self.new.faults.items
             (declarations_in_state self.new.checker_state) (report_on_variable_declarations (declarations_in_state self.old.checker_state)
-            (section_variables (variables_of section.now)))) }
+            (section_variables (variable_section_of section.now)))) }
     {
         match section {
             None => Ok(()),
-            Some(variables) => self.report_variables(variables.as_slice()),
+            Some(variables) => self.report_variable_declarations(variables.as_slice()),
         }
     }
 
-    fn report_variables(&mut self, variables: &[VariableDeclaration]) -> Result<(), AllocError>
+    fn report_variable_declarations(
+        &mut self,
+        variables: &[VariableDeclaration],
+    ) -> Result<(), AllocError>
         ensures { OnOk result (ReturnsAndReports self.old.faults.items self.new.faults.items
             (declarations_in_state self.new.checker_state) (report_on_variable_declarations (declarations_in_state self.old.checker_state)
             (items_of variable_of variables.now))) }
@@ -323,7 +332,7 @@ impl<'t> Reporter<'t> {
             (report_on_variable_group (declarations_in_state self.old.checker_state) (variable_of v.now))) }
     {
         let of = self.check_written_type(&v.written)?;
-        self.checker_state.define_all(&v.names, of);
+        self.checker_state.define_names_at_tokens(&v.names, of);
         Ok(())
     }
 }

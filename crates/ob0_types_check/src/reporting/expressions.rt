@@ -5,21 +5,22 @@ ghost use Rattle.std.specs.Prelude.{◌≡◌, ◌++◌, [], false, true, if◌t
 ghost use Rattle.ob0_language_values.specs.Scalars.{scalar_value};
 ghost use Rattle.ob0_types_table.specs.declared.types.TypeId.TheVariants as type;
 ghost use Rattle.ob0_tree.specs.View.{compound_expression_of, expression_of, factor_of, selector_of, simple_expression_of, term_of};
-ghost use Rattle.ob0_language_types.specs.Selected.{selectors_in};
+ghost use Rattle.ob0_language_types.specs.Selected.{selectors_of_designator};
 ghost use Rattle.ob0_types_check.specs.ExpressionFaults.{report_on_expression, report_on_factor, report_on_selector, report_on_selectors, report_on_simple_expression, report_on_term};
 ghost use Rattle.ob0_types_check.specs.Operations.{ReturnsAndReports, constant_name_operand, number_operand, add_operands, required_type, required_type_of_both, fault_at_operand, prefixed_operand, negated_operand, element_type_in_form, element_operand, operand_in_parentheses, field_type_in_form, field_operand, may_be_same_type, operand_of_operation, multiply_operands, name_operand, extended_operand, relate_operands, signed_operand, comparison_type, operand_type_of_addition, operand_type_of_equality, operand_type_of_multiplication, operand_type_of_relation, value_type};
 ghost use Rattle.ob0_types_check.specs.TypeFaults.{operand_value, report_on_constant_expression};
 ghost use Rattle.ob0_types_check.specs.KnownDeclarations.{same_type};
 ghost use Rattle.ob0_types_check.specs.CheckerViews.{facts_in, form_of_type_in, operand_of, type_id_representation};
 
-use crate::reporting::checker_state::{CheckerState, Meaning};
+use crate::reporting::checker_state::{CheckerState, Meaning, report_at_token, report_at_tokens};
 use ob0_language_values::Scalar;
-use ob0_scan::{Fault, FaultCode};
+use ob0_scan::FaultCode;
+use ob0_scope_table::FaultAtTokens;
 use ob0_tree::{
     AddOperator, Comparison, CompoundExpression, Designator, Expression, Factor, MultiplyOperator,
     Relation, Selector, Sign, SimpleExpression, Term,
 };
-use ob0_types_table::{TypeId, number_at, operators};
+use ob0_types_table::{TypeId, integer_value_at_token, operators};
 use std::alloc::AllocError;
 
 /// The result of checking an expression: its type (`of`), its value, whether it may be a variable,
@@ -177,25 +178,24 @@ impl Operand {
     }
 }
 
-impl<'t> CheckerState<'t> {
-    /// Reports a fault with this code. The fault's span is the whole expression of the operand.
-    pub(crate) fn report_at_operand(
-        &self,
-        faults: &mut Vec<Fault>,
-        code: FaultCode,
-        operand: Operand,
-    ) -> Result<(), AllocError>
-        ensures { OnOk result (faults.new.items
-            ≡ faults.old.items ++ fault_at_operand (facts_in self.now false) code (operand_of operand)) }
-    {
-        self.report(faults, code, operand.first, operand.last)
-    }
+/// Reports a fault with this code at the whole expression of an operand.
+pub(crate) fn report_at_operand(
+    faults: &mut Vec<FaultAtTokens>,
+    code: FaultCode,
+    operand: Operand,
+) -> Result<(), AllocError>
+    ensures { OnOk result
+        (faults.new.items ≡ faults.old.items ++ fault_at_operand code (operand_of operand)) }
+{
+    report_at_tokens(faults, code, operand.first, operand.last)
+}
 
+impl<'t> CheckerState<'t> {
     /// Reports a mismatch if the operand's type and the required type `wanted` are both known and
     /// differ. Returns `wanted` if the operand has this type, otherwise the unknown type.
     pub(crate) fn require_type(
         &self,
-        faults: &mut Vec<Fault>,
+        faults: &mut Vec<FaultAtTokens>,
         wanted: TypeId,
         operand: Operand,
     ) -> Result<TypeId, AllocError>
@@ -203,7 +203,7 @@ impl<'t> CheckerState<'t> {
             (required_type (facts_in self.now false) wanted (operand_of operand))) }
     {
         if !may_be_same_type(operand.of, wanted) {
-            self.report_at_operand(faults, FaultCode::TypeMismatch, operand)?;
+            report_at_operand(faults, FaultCode::TypeMismatch, operand)?;
         }
         Ok(required_type_or_unknown(operand.of, wanted))
     }
@@ -213,7 +213,7 @@ impl<'t> CheckerState<'t> {
     /// both operands have this type, otherwise the unknown type.
     fn require_type_of_both(
         &self,
-        faults: &mut Vec<Fault>,
+        faults: &mut Vec<FaultAtTokens>,
         wanted: TypeId,
         left: Operand,
         right: Operand,
@@ -222,7 +222,7 @@ impl<'t> CheckerState<'t> {
             (required_type_of_both (facts_in self.now false) wanted (operand_of left) (operand_of right))) }
     {
         if !may_be_same_type(left.of, wanted) {
-            self.report_at_operand(faults, FaultCode::TypeMismatch, left)?;
+            report_at_operand(faults, FaultCode::TypeMismatch, left)?;
             return Ok(TypeId::Unknown);
         }
         let of = self.require_type(faults, wanted, right)?;
@@ -238,7 +238,7 @@ impl<'t> CheckerState<'t> {
     #[cycle(expressions)]
     pub(crate) fn check_expression(
         &self,
-        faults: &mut Vec<Fault>,
+        faults: &mut Vec<FaultAtTokens>,
         e: &Expression,
         only_constants: bool,
     ) -> Result<Operand, AllocError>
@@ -247,14 +247,18 @@ impl<'t> CheckerState<'t> {
     {
         match e {
             Expression::Factor(f) => self.check_factor(faults, f, only_constants),
-            Expression::CompoundExpression(c) => self.check_compound(faults, c, only_constants),
+            Expression::CompoundExpression(c) => self.check_compound_expression(
+                faults,
+                c,
+                only_constants,
+            ),
         }
     }
 
     #[cycle(expressions)]
-    fn check_compound(
+    fn check_compound_expression(
         &self,
-        faults: &mut Vec<Fault>,
+        faults: &mut Vec<FaultAtTokens>,
         c: &CompoundExpression,
         only_constants: bool,
     ) -> Result<Operand, AllocError>
@@ -276,7 +280,7 @@ impl<'t> CheckerState<'t> {
     /// the operand for the whole comparison.
     fn check_relation(
         &self,
-        faults: &mut Vec<Fault>,
+        faults: &mut Vec<FaultAtTokens>,
         relation: Relation,
         left: Operand,
         right: Operand,
@@ -294,7 +298,7 @@ impl<'t> CheckerState<'t> {
     #[cycle(expressions)]
     fn check_simple_expression(
         &self,
-        faults: &mut Vec<Fault>,
+        faults: &mut Vec<FaultAtTokens>,
         s: &SimpleExpression,
         only_constants: bool,
     ) -> Result<Operand, AllocError>
@@ -314,7 +318,7 @@ impl<'t> CheckerState<'t> {
     /// returns the operand for the whole expression.
     fn check_sum(
         &self,
-        faults: &mut Vec<Fault>,
+        faults: &mut Vec<FaultAtTokens>,
         operator: AddOperator,
         left: Operand,
         right: Operand,
@@ -337,7 +341,7 @@ impl<'t> CheckerState<'t> {
     /// INTEGER, and a mismatch is reported. Without a sign (None), `operand` is returned unchanged.
     fn check_sign(
         &self,
-        faults: &mut Vec<Fault>,
+        faults: &mut Vec<FaultAtTokens>,
         sign: Option<Sign>,
         operand: Operand,
     ) -> Result<Operand, AllocError>
@@ -357,7 +361,7 @@ impl<'t> CheckerState<'t> {
     #[cycle(expressions)]
     fn check_term(
         &self,
-        faults: &mut Vec<Fault>,
+        faults: &mut Vec<FaultAtTokens>,
         t: &Term,
         only_constants: bool,
     ) -> Result<Operand, AllocError>
@@ -376,7 +380,7 @@ impl<'t> CheckerState<'t> {
     /// returns the operand for the whole expression.
     fn check_product(
         &self,
-        faults: &mut Vec<Fault>,
+        faults: &mut Vec<FaultAtTokens>,
         operator: MultiplyOperator,
         left: Operand,
         right: Operand,
@@ -398,7 +402,7 @@ impl<'t> CheckerState<'t> {
     #[cycle(expressions)]
     fn check_factor(
         &self,
-        faults: &mut Vec<Fault>,
+        faults: &mut Vec<FaultAtTokens>,
         f: &Factor,
         only_constants: bool,
     ) -> Result<Operand, AllocError>
@@ -430,7 +434,7 @@ impl<'t> CheckerState<'t> {
     fn integer_operand(&self, token: usize) -> Operand
         ensures { operand_of result ≡ number_operand (facts_in self.now false) token }
     {
-        let number = number_at(self.resolved.tokens(), token);
+        let number = integer_value_at_token(self.resolved.tokens(), token);
         Operand {
             of: TypeId::Integer,
             value: Some(Scalar::Number(number)),
@@ -458,7 +462,7 @@ impl<'t> CheckerState<'t> {
     /// operand for the whole negation.
     fn check_negation(
         &self,
-        faults: &mut Vec<Fault>,
+        faults: &mut Vec<FaultAtTokens>,
         operand: Operand,
     ) -> Result<Operand, AllocError>
         ensures { IfOk result (λ o. ReturnsAndReports faults.old.items faults.new.items (operand_of o)
@@ -473,7 +477,7 @@ impl<'t> CheckerState<'t> {
     /// reported. A name without a known meaning isn't reported here.
     fn operand_of_name(
         &self,
-        faults: &mut Vec<Fault>,
+        faults: &mut Vec<FaultAtTokens>,
         token: usize,
         only_constants: bool,
     ) -> Result<Operand, AllocError>
@@ -493,17 +497,17 @@ impl<'t> CheckerState<'t> {
                 Meaning::Constant(value) => Ok(constant_operand(*value, token)),
                 Meaning::Variable(of) => {
                     if only_constants {
-                        self.report_at(faults, FaultCode::NotConstant, token)?;
+                        report_at_token(faults, FaultCode::NotConstant, token)?;
                         return Ok(unknown);
                     }
                     Ok(unknown.operand_with_selector(*of, token))
                 }
                 Meaning::Named(_) => {
-                    self.report_at(faults, FaultCode::WrongKind, token)?;
+                    report_at_token(faults, FaultCode::WrongKind, token)?;
                     Ok(unknown)
                 }
                 Meaning::Procedure(_) => {
-                    self.report_at(faults, FaultCode::WrongKind, token)?;
+                    report_at_token(faults, FaultCode::WrongKind, token)?;
                     Ok(unknown)
                 }
             },
@@ -515,14 +519,14 @@ impl<'t> CheckerState<'t> {
     #[cycle(expressions)]
     pub(crate) fn check_selectors(
         &self,
-        faults: &mut Vec<Fault>,
+        faults: &mut Vec<FaultAtTokens>,
         base: Operand,
         d: &Designator,
         only_constants: bool,
     ) -> Result<Operand, AllocError>
         ensures { IfOk result (λ o. ReturnsAndReports faults.old.items faults.new.items (operand_of o)
             (report_on_selectors (facts_in self.now only_constants) (operand_of base)
-            (selectors_in d.now))) }
+            (selectors_of_designator d.now))) }
     {
         let mut so_far = base;
         for selector in &d.selectors {
@@ -536,7 +540,7 @@ impl<'t> CheckerState<'t> {
     #[cycle(expressions)]
     fn check_selector(
         &self,
-        faults: &mut Vec<Fault>,
+        faults: &mut Vec<FaultAtTokens>,
         base: Operand,
         selector: &Selector,
         only_constants: bool,
@@ -558,7 +562,7 @@ impl<'t> CheckerState<'t> {
     /// the faults of this selection. The index must be INTEGER even if `base` isn't an array.
     fn select_element(
         &self,
-        faults: &mut Vec<Fault>,
+        faults: &mut Vec<FaultAtTokens>,
         base: Operand,
         index: Operand,
     ) -> Result<Operand, AllocError>
@@ -575,7 +579,7 @@ impl<'t> CheckerState<'t> {
     /// isn't INTEGER.
     fn array_element_type(
         &self,
-        faults: &mut Vec<Fault>,
+        faults: &mut Vec<FaultAtTokens>,
         base: TypeId,
         index: Operand,
         index_type: TypeId,
@@ -602,14 +606,14 @@ impl<'t> CheckerState<'t> {
     /// Reports `NotArray` at the `[` before the index, and returns the unknown type.
     fn report_not_an_array(
         &self,
-        faults: &mut Vec<Fault>,
+        faults: &mut Vec<FaultAtTokens>,
         index: Operand,
     ) -> Result<TypeId, AllocError>
         ensures { IfOk result (λ t. ReturnsAndReports faults.old.items faults.new.items t
             (element_type_in_form (facts_in self.now false) (operand_of index) type.Integer
             (form_of_type_in [] type.Integer))) }
     {
-        self.report_at(faults, FaultCode::NotArray, index.first.saturating_sub(1))?;
+        report_at_token(faults, FaultCode::NotArray, index.first.saturating_sub(1))?;
         Ok(TypeId::Unknown)
     }
 
@@ -617,7 +621,7 @@ impl<'t> CheckerState<'t> {
     /// Reports the faults of this selection.
     fn select_field(
         &self,
-        faults: &mut Vec<Fault>,
+        faults: &mut Vec<FaultAtTokens>,
         base: Operand,
         name: usize,
     ) -> Result<Operand, AllocError>
@@ -633,7 +637,7 @@ impl<'t> CheckerState<'t> {
     /// field. In both cases, and if `base` is unknown, the result is the unknown type.
     fn field_type(
         &self,
-        faults: &mut Vec<Fault>,
+        faults: &mut Vec<FaultAtTokens>,
         base: TypeId,
         name: usize,
     ) -> Result<TypeId, AllocError>
@@ -644,7 +648,7 @@ impl<'t> CheckerState<'t> {
             TypeId::Record(place) => match self.field_type_at(place, self.text(name)) {
                 Some(of) => Ok(of),
                 None => {
-                    self.report_at(faults, FaultCode::NoField, name)?;
+                    report_at_token(faults, FaultCode::NoField, name)?;
                     Ok(TypeId::Unknown)
                 }
             },
@@ -658,13 +662,13 @@ impl<'t> CheckerState<'t> {
     /// Reports `NotRecord` at the `.` before the field's name, and returns the unknown type.
     fn report_not_a_record(
         &self,
-        faults: &mut Vec<Fault>,
+        faults: &mut Vec<FaultAtTokens>,
         name: usize,
     ) -> Result<TypeId, AllocError>
         ensures { IfOk result (λ t. ReturnsAndReports faults.old.items faults.new.items t
             (field_type_in_form (facts_in self.now false) name (form_of_type_in [] type.Integer))) }
     {
-        self.report_at(faults, FaultCode::NotRecord, name.saturating_sub(1))?;
+        report_at_token(faults, FaultCode::NotRecord, name.saturating_sub(1))?;
         Ok(TypeId::Unknown)
     }
 
@@ -672,7 +676,7 @@ impl<'t> CheckerState<'t> {
     /// if the right side has a fault.
     pub(crate) fn constant_value(
         &self,
-        faults: &mut Vec<Fault>,
+        faults: &mut Vec<FaultAtTokens>,
         e: &Expression,
     ) -> Result<Option<Scalar>, AllocError>
         ensures { IfOk result (λ v. ReturnsAndReports faults.old.items faults.new.items
@@ -688,7 +692,7 @@ impl<'t> CheckerState<'t> {
     /// nothing is reported. The result is None in both cases.
     fn operand_value(
         &self,
-        faults: &mut Vec<Fault>,
+        faults: &mut Vec<FaultAtTokens>,
         constant_operand: Operand,
     ) -> Result<Option<Scalar>, AllocError>
         ensures { IfOk result (λ v. ReturnsAndReports faults.old.items faults.new.items
@@ -699,7 +703,7 @@ impl<'t> CheckerState<'t> {
             return Ok(None);
         }
         if constant_operand.value.is_none() {
-            self.report_at_operand(faults, FaultCode::ConstFault, constant_operand)?;
+            report_at_operand(faults, FaultCode::ConstFault, constant_operand)?;
         }
         Ok(constant_operand.value)
     }

@@ -12,7 +12,7 @@ use std::alloc::{AllocError, Global};
 
 /// Returns the objects of the declarations with these meanings, in the same order. If a declaration
 /// has no meaning (None), its object is None.
-pub(crate) fn objects_of(
+pub(crate) fn objects_of_meanings(
     alloc: Global,
     meanings: Vec<Option<Meaning>>,
 ) -> Result<Vec<Option<Object>>, AllocError>
@@ -21,24 +21,24 @@ pub(crate) fn objects_of(
 {
     let mut objects = Vec::new(alloc);
     for meaning in meanings {
-        objects.push(object_if_any(meaning))?;
+        objects.push(object_of_optional_meaning(meaning))?;
     }
     Ok(objects)
 }
 
 /// Returns the object of a declaration with this meaning, or None if it has no meaning.
-fn object_if_any(meaning: Option<Meaning>) -> Option<Object>
+fn object_of_optional_meaning(meaning: Option<Meaning>) -> Option<Object>
     ensures { result ≡ option_map table_object meaning }
 {
     match meaning {
         None => None,
-        Some(meaning) => Some(object_of(meaning)),
+        Some(meaning) => Some(object_of_meaning(meaning)),
     }
 }
 
 /// Returns the object of a declaration with this meaning. A constant without a value becomes
 /// `FaultyConstant`.
-fn object_of(meaning: Meaning) -> Object
+fn object_of_meaning(meaning: Meaning) -> Object
     ensures { result ≡ table_object meaning }
 {
     match meaning {

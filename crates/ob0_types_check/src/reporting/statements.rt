@@ -8,9 +8,10 @@ ghost use Rattle.ob0_types_check.specs.Operations.{ReturnsAndReports, fault_at_t
 ghost use Rattle.ob0_types_check.specs.StatementFaults.{target_name_type, call_faults_by_meaning, required_type_of_argument, faults_of_argument, typed_expression_faults, call_faults, condition_faults, elsif_faults, untyped_argument_faults, sequence_faults, statement_faults};
 ghost use Rattle.ob0_types_check.specs.CheckerViews.{facts_in, formal_of, operand_of};
 
-use crate::reporting::checker_state::{CheckerState, Meaning};
-use crate::reporting::expressions::Operand;
-use ob0_scan::{Fault, FaultCode};
+use crate::reporting::checker_state::{CheckerState, Meaning, report_at_token};
+use crate::reporting::expressions::{Operand, report_at_operand};
+use ob0_scan::FaultCode;
+use ob0_scope_table::FaultAtTokens;
 use ob0_tree::{Assignment, Call, Elsif, Expression, If, Repeat, Statement, While};
 use ob0_types_table::{FormalParameter, TypeId};
 use std::alloc::AllocError;
@@ -20,7 +21,7 @@ impl<'t> CheckerState<'t> {
     #[cycle(statements)]
     pub(crate) fn report_sequence(
         &self,
-        faults: &mut Vec<Fault>,
+        faults: &mut Vec<FaultAtTokens>,
         statements: &Vec<Statement>,
     ) -> Result<(), AllocError>
         ensures { OnOk result (faults.new.items
@@ -35,7 +36,11 @@ impl<'t> CheckerState<'t> {
 
     /// Reports the faults of a statement, including the statements inside it.
     #[cycle(statements)]
-    fn report_statement(&self, faults: &mut Vec<Fault>, s: &Statement) -> Result<(), AllocError>
+    fn report_statement(
+        &self,
+        faults: &mut Vec<FaultAtTokens>,
+        s: &Statement,
+    ) -> Result<(), AllocError>
         ensures { OnOk result (faults.new.items
             ≡ faults.old.items
             ++ statement_faults (facts_in self.now false) (statement_of s.now)) }
@@ -60,7 +65,7 @@ impl<'t> CheckerState<'t> {
 
     /// Reports the faults of an IF statement with its ELSIF and ELSE parts.
     #[cycle(statements)]
-    fn report_if_statement(&self, faults: &mut Vec<Fault>, i: &If) -> Result<(), AllocError>
+    fn report_if_statement(&self, faults: &mut Vec<FaultAtTokens>, i: &If) -> Result<(), AllocError>
         ensures { OnOk result (faults.new.items
             ≡ faults.old.items ++ statement_faults (facts_in self.now false) (if_of i.now)) }
     {
@@ -74,7 +79,11 @@ impl<'t> CheckerState<'t> {
     }
 
     #[cycle(statements)]
-    fn report_elsifs(&self, faults: &mut Vec<Fault>, parts: &Vec<Elsif>) -> Result<(), AllocError>
+    fn report_elsifs(
+        &self,
+        faults: &mut Vec<FaultAtTokens>,
+        parts: &Vec<Elsif>,
+    ) -> Result<(), AllocError>
         ensures { OnOk result (faults.new.items
             ≡ faults.old.items ++ elsif_faults (facts_in self.now false) (elsifs_of_vec parts.now)) }
     {
@@ -86,7 +95,11 @@ impl<'t> CheckerState<'t> {
     }
 
     /// Reports the faults of a condition, which must be BOOLEAN.
-    fn report_condition(&self, faults: &mut Vec<Fault>, e: &Expression) -> Result<(), AllocError>
+    fn report_condition(
+        &self,
+        faults: &mut Vec<FaultAtTokens>,
+        e: &Expression,
+    ) -> Result<(), AllocError>
         ensures { OnOk result (faults.new.items
             ≡ faults.old.items
             ++ condition_faults (facts_in self.now false) (expression_of e.now)) }
@@ -97,7 +110,7 @@ impl<'t> CheckerState<'t> {
     /// Reports the faults of an expression that must have the type `wanted`.
     fn check_typed_expression(
         &self,
-        faults: &mut Vec<Fault>,
+        faults: &mut Vec<FaultAtTokens>,
         wanted: TypeId,
         e: &Expression,
     ) -> Result<(), AllocError>
@@ -112,7 +125,11 @@ impl<'t> CheckerState<'t> {
 
     /// Reports the faults of an assignment. If the target has a fault, its type is unknown, so the
     /// right side may have any type.
-    fn report_assignment(&self, faults: &mut Vec<Fault>, a: &Assignment) -> Result<(), AllocError>
+    fn report_assignment(
+        &self,
+        faults: &mut Vec<FaultAtTokens>,
+        a: &Assignment,
+    ) -> Result<(), AllocError>
         ensures { OnOk result (faults.new.items
             ≡ faults.old.items
             ++ statement_faults (facts_in self.now false) (assignment_of a.now)) }
@@ -132,7 +149,11 @@ impl<'t> CheckerState<'t> {
     /// Returns the type of the variable or parameter to which the assigned name at `token` refers.
     /// If the name refers to something else, a fault is reported. If the name has no known meaning,
     /// nothing is reported. In both cases the result is the unknown type.
-    fn target_type(&self, faults: &mut Vec<Fault>, token: usize) -> Result<TypeId, AllocError>
+    fn target_type(
+        &self,
+        faults: &mut Vec<FaultAtTokens>,
+        token: usize,
+    ) -> Result<TypeId, AllocError>
         ensures { IfOk result (λ t. ReturnsAndReports faults.old.items faults.new.items t
             (target_name_type (facts_in self.now false) token)) }
     {
@@ -141,22 +162,26 @@ impl<'t> CheckerState<'t> {
             Some(meaning) => match meaning {
                 Meaning::Variable(of) => Ok(*of),
                 Meaning::Constant(_) => {
-                    self.report_at(faults, FaultCode::NotVariable, token)?;
+                    report_at_token(faults, FaultCode::NotVariable, token)?;
                     Ok(TypeId::Unknown)
                 }
                 Meaning::Named(_) => {
-                    self.report_at(faults, FaultCode::WrongKind, token)?;
+                    report_at_token(faults, FaultCode::WrongKind, token)?;
                     Ok(TypeId::Unknown)
                 }
                 Meaning::Procedure(_) => {
-                    self.report_at(faults, FaultCode::WrongKind, token)?;
+                    report_at_token(faults, FaultCode::WrongKind, token)?;
                     Ok(TypeId::Unknown)
                 }
             },
         }
     }
 
-    fn report_call_statement(&self, faults: &mut Vec<Fault>, call: &Call) -> Result<(), AllocError>
+    fn report_call_statement(
+        &self,
+        faults: &mut Vec<FaultAtTokens>,
+        call: &Call,
+    ) -> Result<(), AllocError>
         ensures { OnOk result (faults.new.items
             ≡ faults.old.items ++ statement_faults (facts_in self.now false) (call_of call.now)) }
     {
@@ -171,7 +196,7 @@ impl<'t> CheckerState<'t> {
     /// case, and if the name has no known meaning, the arguments may have any type.
     fn report_call(
         &self,
-        faults: &mut Vec<Fault>,
+        faults: &mut Vec<FaultAtTokens>,
         procedure: usize,
         arguments: &[Expression],
     ) -> Result<(), AllocError>
@@ -197,23 +222,23 @@ impl<'t> CheckerState<'t> {
     /// the arguments, which may have any type.
     fn report_not_a_procedure(
         &self,
-        faults: &mut Vec<Fault>,
+        faults: &mut Vec<FaultAtTokens>,
         procedure: usize,
         arguments: &[Expression],
     ) -> Result<(), AllocError>
         ensures { OnOk result (faults.new.items
             ≡ faults.old.items
-            ++ (fault_at_token (facts_in self.now false) code.WrongKind procedure
+            ++ (fault_at_token code.WrongKind procedure
             ++ untyped_argument_faults (facts_in self.now false) (map expression_of arguments.now))) }
     {
-        self.report_at(faults, FaultCode::WrongKind, procedure)?;
+        report_at_token(faults, FaultCode::WrongKind, procedure)?;
         self.report_untyped_arguments(faults, arguments)
     }
 
     /// Reports the faults of arguments that may have any type.
     fn report_untyped_arguments(
         &self,
-        faults: &mut Vec<Fault>,
+        faults: &mut Vec<FaultAtTokens>,
         arguments: &[Expression],
     ) -> Result<(), AllocError>
         ensures { OnOk result (faults.new.items
@@ -230,7 +255,7 @@ impl<'t> CheckerState<'t> {
     /// that is the only fault reported.
     fn report_arguments(
         &self,
-        faults: &mut Vec<Fault>,
+        faults: &mut Vec<FaultAtTokens>,
         procedure: usize,
         formals: &[FormalParameter],
         arguments: &[Expression],
@@ -241,7 +266,7 @@ impl<'t> CheckerState<'t> {
             (Some (a_procedure (map formal_of formals.now))) (map expression_of arguments.now)) }
     {
         if formals.len() != arguments.len() {
-            return self.report_at(faults, FaultCode::ArgumentCount, procedure);
+            return report_at_token(faults, FaultCode::ArgumentCount, procedure);
         }
         for (formal, e) in formals.iter().zip(arguments.iter()) {
             self.report_argument(faults, formal, e)?;
@@ -252,7 +277,7 @@ impl<'t> CheckerState<'t> {
     /// Reports the faults of one argument, including a mismatch with its formal parameter.
     fn report_argument(
         &self,
-        faults: &mut Vec<Fault>,
+        faults: &mut Vec<FaultAtTokens>,
         formal: &FormalParameter,
         e: &Expression,
     ) -> Result<(), AllocError>
@@ -272,7 +297,7 @@ impl<'t> CheckerState<'t> {
     /// nothing is reported, otherwise the unknown type.
     fn check_argument_operand(
         &self,
-        faults: &mut Vec<Fault>,
+        faults: &mut Vec<FaultAtTokens>,
         formal: &FormalParameter,
         operand: Operand,
     ) -> Result<TypeId, AllocError>
@@ -280,7 +305,7 @@ impl<'t> CheckerState<'t> {
             (required_type_of_argument (facts_in self.now false) (formal_of formal.now) (operand_of operand))) }
     {
         if formal.by_place && !operand.may_be_variable {
-            self.report_at_operand(faults, FaultCode::NotVariable, operand)?;
+            report_at_operand(faults, FaultCode::NotVariable, operand)?;
             return Ok(TypeId::Unknown);
         }
         self.require_type(faults, formal.of, operand)

@@ -15,11 +15,14 @@ ghost use Rattle.ob0_types_check.specs.TypeFaults.{length_by_operand, type_by_me
 ghost use Rattle.ob0_types_check.specs.WrittenTypeFaults.{made_array_type, no_known_fields, made_record_type, record_keyword_token, report_on_field_group, report_on_further_field_groups, report_on_written_type, with_known_field, with_known_fields};
 ghost use Rattle.ob0_types_check.specs.WrittenTypeFaults as spec;
 
-use crate::reporting::Reporter;
-use crate::reporting::checker_state::{CheckerState, Meaning, Size, ZERO_SIZE, sum_or_error};
-use crate::reporting::expressions::{Operand, same_type};
+use crate::reporting::ReportingWalk;
+use crate::reporting::checker_state::{
+    CheckerState, Meaning, Size, ZERO_SIZE, report_at_token, sum_or_error,
+};
+use crate::reporting::expressions::{Operand, report_at_operand, same_type};
 use ob0_language_values::Scalar;
-use ob0_scan::{Fault, FaultCode};
+use ob0_scan::FaultCode;
+use ob0_scope_table::FaultAtTokens;
 use ob0_tree::{ArrayType, FieldGroup, Names, OptionalFieldGroup, RecordType, WrittenType};
 use ob0_types_table::{ArrayShape, Field, FieldTable, MAX_SCALARS, RecordShape, TypeEntry, TypeId};
 use std::alloc::{AllocError, Global};
@@ -99,7 +102,11 @@ impl<'t> CheckerState<'t> {
     /// Returns the type to which the name at `token` refers. If the name refers to something other
     /// than a type, a fault is reported. If the name has no known meaning, nothing is reported. In
     /// both cases the result is the unknown type.
-    fn type_named_at(&self, faults: &mut Vec<Fault>, token: usize) -> Result<TypeId, AllocError>
+    fn type_named_at(
+        &self,
+        faults: &mut Vec<FaultAtTokens>,
+        token: usize,
+    ) -> Result<TypeId, AllocError>
         ensures { IfOk result (λ t. ReturnsAndReports faults.old.items faults.new.items t
             (type_named_at (facts_in self.now false) token)) }
     {
@@ -115,11 +122,15 @@ impl<'t> CheckerState<'t> {
     }
 
     /// Reports `WrongKind` at a name that isn't a type's, and returns the unknown type.
-    fn report_not_a_type(&self, faults: &mut Vec<Fault>, token: usize) -> Result<TypeId, AllocError>
+    fn report_not_a_type(
+        &self,
+        faults: &mut Vec<FaultAtTokens>,
+        token: usize,
+    ) -> Result<TypeId, AllocError>
         ensures { IfOk result (λ t. ReturnsAndReports faults.old.items faults.new.items t
             (type_by_meaning (facts_in self.now false) token (Some (a_variable type.Integer)))) }
     {
-        self.report_at(faults, FaultCode::WrongKind, token)?;
+        report_at_token(faults, FaultCode::WrongKind, token)?;
         Ok(TypeId::Unknown)
     }
 
@@ -128,7 +139,7 @@ impl<'t> CheckerState<'t> {
     /// fault is reported or the operand's type is unknown.
     fn check_length(
         &self,
-        faults: &mut Vec<Fault>,
+        faults: &mut Vec<FaultAtTokens>,
         operand: Operand,
     ) -> Result<Option<usize>, AllocError>
         ensures { IfOk result (λ n. ReturnsAndReports faults.old.items faults.new.items n
@@ -139,18 +150,18 @@ impl<'t> CheckerState<'t> {
             return Ok(None);
         }
         let Some(value) = operand.value else {
-            self.report_at_operand(faults, FaultCode::ConstFault, operand)?;
+            report_at_operand(faults, FaultCode::ConstFault, operand)?;
             return Ok(None);
         };
         let length = array_length(value);
         if length.is_none() {
-            self.report_at_operand(faults, FaultCode::ArrayLength, operand)?;
+            report_at_operand(faults, FaultCode::ArrayLength, operand)?;
         }
         Ok(length)
     }
 }
 
-impl<'t> Reporter<'t> {
+impl<'t> ReportingWalk<'t> {
     /// Reports the faults of a written type and returns the type. Faulty parts of the type are
     /// unknown.
     pub(crate) fn check_written_type(&mut self, t: &WrittenType) -> Result<TypeId, AllocError>
@@ -227,7 +238,7 @@ impl<'t> Reporter<'t> {
                     depth: size.depth,
                 };
                 self.checker_state
-                    .make_type(&mut self.faults, word, TypeEntry::Array(array))
+                    .make_composite_type(&mut self.faults, word, TypeEntry::Array(array))
             }
         }
     }
@@ -295,7 +306,7 @@ impl<'t> Reporter<'t> {
             depth: size.depth,
         };
         self.checker_state
-            .make_type(&mut self.faults, word, TypeEntry::Record(record))
+            .make_composite_type(&mut self.faults, word, TypeEntry::Record(record))
     }
 
     /// Reports the faults of one group of fields, which may be empty. Appends the group's fields to
@@ -375,7 +386,7 @@ impl<'t> CheckerState<'t> {
             → HasKnownFields (with_known_field of g name) self.now gathered.new) }
     {
         gathered.add(alloc, self.text(name), of)?;
-        gathered.size = gathered.size.combine(self.size_of(of));
+        gathered.size = gathered.size.size_of_both(self.size_of(of));
         Ok(())
     }
 }

@@ -12,7 +12,7 @@ command_line_of-requires c =
     let is = c.requires in
     let matches = c.in-Ok in
     let none : fault_of ob0_app words ≡ [] = ap (λ (a : App). fault_of a words) (sym is) ∙ matches.ensures.kinds (ap is_simple_and_free is ∙ simple_and_free) in
-    (parsed c.args.ob0_definition words matches.matches is none matches.ensures.parsed matches.ensures.matches).1
+    (parsed c.args.ob0_command words matches.matches is none matches.ensures.parsed matches.ensures.matches).1
 
 pub returns-in-Ok : goal.returns-in-Ok
 returns-in-Ok c =
@@ -20,7 +20,7 @@ returns-in-Ok c =
     let is = c.requires in
     let matches = c.in-Ok in
     let none : fault_of ob0_app words ≡ [] = ap (λ (a : App). fault_of a words) (sym is) ∙ matches.ensures.kinds (ap is_simple_and_free is ∙ simple_and_free) in
-    let same = (parsed c.args.ob0_definition words matches.matches is none matches.ensures.parsed matches.ensures.matches).0 in
+    let same = (parsed c.args.ob0_command words matches.matches is none matches.ensures.parsed matches.ensures.matches).0 in
     record {
       gives = record { has_no_fault = none; read = subst (λ (f : FoundSubcommand). YieldsCommandLine f c.command_line_of.result) same c.command_line_of.ensures };
       refuses = tt;

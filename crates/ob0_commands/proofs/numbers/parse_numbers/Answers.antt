@@ -2,8 +2,8 @@ use Rattle.std.proofs.Common.{◌≡◌, ◌+◌, ◌++◌, ◌∷◌, [], ap, a
 use Rattle.ob0_commands.proofs.Gathering.{Gathered, all_gathered, space_passed, word_gathered, word_refused}
 use Rattle.ob0_commands.proofs.numbers.parse_numbers.Goals as goal
 
-pub loop-at-preserved-then-is_space : goal.loop-at-preserved-then-is_space
-loop-at-preserved-then-is_space c = space_passed c.args.text.now c.loop-at.at c.loop-at.numbers.items c.loop-at-test.true (search rules) c.loop-at.invariant
+pub loop-at-preserved-then-is_white_space : goal.loop-at-preserved-then-is_white_space
+loop-at-preserved-then-is_white_space c = space_passed c.args.text.now c.loop-at.at c.loop-at.numbers.items c.loop-at-test.true (search rules) c.loop-at.invariant
 
 pub loop-at-preserved : goal.loop-at-preserved
 loop-at-preserved c =

@@ -8,9 +8,9 @@ use Rattle.ob0_frame.proofs.head.message_stage.Goals as goal
 pub head_len-requires : goal.head_len-requires
 head_len-requires c = no_line_within c.args.bytes.now c.args.searched c.min.result c.requires
 
-pub returns-in-None-announced_length : goal.returns-in-None-announced_length
-returns-in-None-announced_length c =
-    inl (bad_head_to c.args.bytes.now c.min.result c.in-Some.start (omega (arith, length-take c.min.result c.args.bytes.now, c.in-Some.ensures.within)) c.in-Some.ensures.head c.in-None-announced_length.ensures.refused)
+pub returns-in-None-announced_content_length : goal.returns-in-None-announced_content_length
+returns-in-None-announced_content_length c =
+    inl (bad_head_to c.args.bytes.now c.min.result c.in-Some.start (omega (arith, length-take c.min.result c.args.bytes.now, c.in-Some.ensures.within)) c.in-Some.ensures.head c.in-None-announced_content_length.ensures.refused)
 
 pub returns-in-None : goal.returns-in-None
 returns-in-None c =

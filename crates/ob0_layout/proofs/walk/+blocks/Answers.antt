@@ -1,10 +1,10 @@
-use Rattle.std.proofs.Common.{◌≡◌, ◌++◌, [], ◌∷◌, IfOk, sym, ap, ◌∙◌, subst}
+use Rattle.std.proofs.Common.{◌≡◌, ◌+◌, ◌++◌, [], ◌∷◌, IfOk, sym, ap, ◌∙◌, subst}
 use Rattle.ob0_tree.proofs.Viewed.{block_parts, procedure_made}
 use Rattle.ob0_tree.specs.declared.tree.Block.{out-Block}
 use Rattle.ob0_tree.specs.declared.tree.Procedure.{out-Procedure, roll-out-Procedure}
-use Rattle.ob0_tree.specs.View.{items_of, constants_of, types_of, variables_of, procedure_of, body_of, formals_of, block_of}
+use Rattle.ob0_tree.specs.View.{items_of, constant_section_of, type_section_of, variable_section_of, procedure_of, body_of, formals_of, block_of}
 use Rattle.ob0_layout.specs.declared.line_role.LineRole.TheVariants.{Begins, Plain}
-use Rattle.ob0_layout.specs.LineRoles.{line_roles, deeper_level}
+use Rattle.ob0_layout.specs.LineRoles.{line_roles}
 use Rattle.ob0_layout.proofs.Walks.{step, closing, walk_ends, block_shape, procedure_shape}
 use Rattle.ob0_layout.proofs.walk.+blocks.Goals as goal
 
@@ -13,9 +13,9 @@ add_block_roles-returns t c =
     let b = out-Block c.args.b.now in
     let start = c.args.out.now.items in
     let k = c.args.level in
-    let constants = line_roles k (constants_of b.constants) in
-    let types = line_roles k (types_of b.types) in
-    let variables = line_roles k (variables_of b.variables) in
+    let constants = line_roles k (constant_section_of b.constants) in
+    let types = line_roles k (type_section_of b.types) in
+    let variables = line_roles k (variable_section_of b.variables) in
     let procedures = line_roles k (items_of procedure_of b.procedures.items) in
     let d = step start constants types c.in_ok-add_constant_section_roles.ensures c.in_ok-add_type_section_roles.ensures in
     let e = step start (constants ++ types) variables d c.in_ok-add_variable_section_roles.ensures in
@@ -29,10 +29,10 @@ pub add_procedure_roles-returns : goal.add_procedure_roles-returns
 add_procedure_roles-returns t c =
     let p = out-Procedure c.args.p.now in
     let start = c.args.out.now.items in
-    let k = deeper_level c.args.level in
+    let k = c.args.level + 1 in
     let formals = line_roles 0 (formals_of p.formals) in
     let inner = line_roles k (block_of p.block) in
-    let same = c.deeper_level-inner.ensures in
+    let same = c.in_ok-inner.ensures in
     let a = step start (Begins k ∷ []) (Plain ∷ []) (c.in_ok-add_line_start_role.ensures ∙ ap (λ j. start ++ (Begins j ∷ [])) same) c.in_ok-add_plain_role.ensures in
     let b = step start ((Begins k ∷ []) ++ (Plain ∷ [])) formals a c.in_ok-add_formal_parameter_roles.ensures in
     let d = step start (((Begins k ∷ []) ++ (Plain ∷ [])) ++ formals) (Plain ∷ []) b c.in_ok-add_plain_role-2.ensures in

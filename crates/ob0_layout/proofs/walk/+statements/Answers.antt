@@ -1,10 +1,10 @@
-use Rattle.std.proofs.Common.{◌≡◌, ◌++◌, [], ◌∷◌, IfOk, sym, ap, ◌∙◌, subst}
+use Rattle.std.proofs.Common.{◌≡◌, ◌+◌, ◌++◌, [], ◌∷◌, IfOk, sym, ap, ◌∙◌, subst}
 use Rattle.ob0_tree.proofs.Viewed.{while_read, repeat_read, if_parts}
 use Rattle.ob0_tree.specs.declared.tree.If.{out-If}
 use Rattle.ob0_tree.specs.Tree.{branches}
 use Rattle.ob0_tree.specs.View.{items_of, expression_of, statement_of, sequence_of_list, elsif_of, else_part_of}
 use Rattle.ob0_layout.specs.declared.line_role.LineRole.TheVariants.{Begins, Plain}
-use Rattle.ob0_layout.specs.LineRoles.{line_roles, deeper_level}
+use Rattle.ob0_layout.specs.LineRoles.{line_roles}
 use Rattle.ob0_layout.proofs.Walks.{step, closing, while_shape, repeat_shape, else_shape, if_shape}
 use Rattle.ob0_layout.proofs.walk.+statements.Goals as goal
 
@@ -14,11 +14,11 @@ add_statement_roles-returns-in_ok-add_sequence_roles-in-While t c =
     let k = c.args.level in
     let body = c.deref-in-While-2.result.now.body.items in
     let condition = line_roles 0 (expression_of c.deref-in-While.result.now.condition) in
-    let inner = line_roles (deeper_level k) (sequence_of_list body) in
+    let inner = line_roles (k + 1) (sequence_of_list body) in
     let tree = while_read c.in-While.w c.deref-in-While.ensures c.deref-in-While-2.ensures in
     let a = step start (Begins k ∷ []) condition c.in_ok-push-in-While.ensures.items c.in_ok-add_expression_roles-in-While.ensures in
     let b = step start ((Begins k ∷ []) ++ condition) (Plain ∷ []) a c.in_ok-add_plain_role-in-While.ensures in
-    let d = step start (((Begins k ∷ []) ++ condition) ++ (Plain ∷ [])) inner b (c.in_ok-add_sequence_roles-in-While.ensures ∙ ap (λ j. c.add_plain_role.new.out.items ++ line_roles j (sequence_of_list body)) c.deeper_level.ensures) in
+    let d = step start (((Begins k ∷ []) ++ condition) ++ (Plain ∷ [])) inner b (c.in_ok-add_sequence_roles-in-While.ensures ∙ ap (λ j. c.add_plain_role.new.out.items ++ line_roles j (sequence_of_list body)) c.in_ok-deeper_level-in-While.ensures) in
     subst (λ z. IfOk c.add_line_start_role.result (λ _. c.add_line_start_role.new.out.items ≡ z))
     (closing start ((((Begins k ∷ []) ++ condition) ++ (Plain ∷ [])) ++ inner) (Begins k ∷ []) _ d (while_shape (Begins k) Plain condition inner)
     ∙ ap (λ s. start ++ line_roles k s) (sym tree ∙ sym (ap statement_of c.in-While.is))) c.add_line_start_role.ensures
@@ -29,9 +29,9 @@ add_statement_roles-returns-in_ok-push-in-Repeat-2 t c =
     let k = c.args.level in
     let body = c.deref-in-Repeat.result.now.body.items in
     let condition = line_roles 0 (expression_of c.deref-in-Repeat-2.result.now.condition) in
-    let inner = line_roles (deeper_level k) (sequence_of_list body) in
+    let inner = line_roles (k + 1) (sequence_of_list body) in
     let tree = repeat_read c.in-Repeat.r c.deref-in-Repeat.ensures c.deref-in-Repeat-2.ensures in
-    let a = step start (Begins k ∷ []) inner c.in_ok-push-in-Repeat.ensures.items (c.in_ok-add_sequence_roles-in-Repeat.ensures ∙ ap (λ j. c.push-in-Repeat.new.self.items ++ line_roles j (sequence_of_list body)) c.deeper_level-in-Repeat.ensures) in
+    let a = step start (Begins k ∷ []) inner c.in_ok-push-in-Repeat.ensures.items (c.in_ok-add_sequence_roles-in-Repeat.ensures ∙ ap (λ j. c.push-in-Repeat.new.self.items ++ line_roles j (sequence_of_list body)) c.in_ok-deeper_level-in-Repeat.ensures) in
     let b = step start ((Begins k ∷ []) ++ inner) (Begins k ∷ []) a c.in_ok-push-in-Repeat-2.ensures.items in
     subst (λ z. IfOk c.add_expression_roles-in-Repeat.result (λ _. c.add_expression_roles-in-Repeat.new.out.items ≡ z))
     (closing start (((Begins k ∷ []) ++ inner) ++ (Begins k ∷ [])) condition _ b (repeat_shape (Begins k) condition inner)
@@ -44,16 +44,16 @@ add_if_roles-returns-in_ok-add_sequence_roles-in-Some t c =
     let k = c.args.level in
     let tree = if_parts c.args.i.now ∙ ap (λ o. branches (expression_of i.condition) (sequence_of_list i.then.items) (items_of elsif_of i.elsifs.items) (else_part_of o)) c.in-Some.is in
     let condition = line_roles 0 (expression_of i.condition) in
-    let first = line_roles (deeper_level k) (sequence_of_list i.then.items) in
+    let first = line_roles (k + 1) (sequence_of_list i.then.items) in
     let others = line_roles k (items_of elsif_of i.elsifs.items) in
-    let last = line_roles (deeper_level k) (sequence_of_list c.in-Some.statements.items) in
+    let last = line_roles (k + 1) (sequence_of_list c.in-Some.statements.items) in
     let a = step start (Begins k ∷ []) condition c.in_ok-add_line_start_role.ensures c.in_ok-add_expression_roles.ensures in
     let b = step start ((Begins k ∷ []) ++ condition) (Plain ∷ []) a c.in_ok-add_plain_role.ensures in
-    let d = step start (((Begins k ∷ []) ++ condition) ++ (Plain ∷ [])) first b (c.in_ok-add_sequence_roles.ensures ∙ ap (λ j. c.add_plain_role.new.out.items ++ line_roles j (sequence_of_list i.then.items)) c.deeper_level.ensures) in
+    let d = step start (((Begins k ∷ []) ++ condition) ++ (Plain ∷ [])) first b (c.in_ok-add_sequence_roles.ensures ∙ ap (λ j. c.add_plain_role.new.out.items ++ line_roles j (sequence_of_list i.then.items)) c.in_ok-inner.ensures) in
     let e = step start ((((Begins k ∷ []) ++ condition) ++ (Plain ∷ [])) ++ first) others d c.in_ok-add_elsif_roles.ensures in
     let f = step start (((((Begins k ∷ []) ++ condition) ++ (Plain ∷ [])) ++ first) ++ others) (Begins k ∷ []) e c.in_ok-add_line_start_role-in-Some.ensures in
     let h = step start ((((((Begins k ∷ []) ++ condition) ++ (Plain ∷ [])) ++ first) ++ others) ++ (Begins k ∷ [])) last f
-    (c.in_ok-add_sequence_roles-in-Some.ensures ∙ ap (λ j. c.add_line_start_role-in-Some.new.out.items ++ line_roles j (sequence_of_list c.in-Some.statements.items)) c.deeper_level-in-Some.ensures) in
+    (c.in_ok-add_sequence_roles-in-Some.ensures ∙ ap (λ j. c.add_line_start_role-in-Some.new.out.items ++ line_roles j (sequence_of_list c.in-Some.statements.items)) c.in_ok-inner.ensures) in
     subst (λ z. IfOk c.add_line_start_role-in-Some-2.result (λ _. c.add_line_start_role-in-Some-2.new.out.items ≡ z))
     (closing start (((((((Begins k ∷ []) ++ condition) ++ (Plain ∷ [])) ++ first) ++ others) ++ (Begins k ∷ [])) ++ last) (Begins k ∷ []) _ h (else_shape (Begins k) Plain condition first others last)
     ∙ ap (λ s. start ++ line_roles k s) (sym tree)) c.add_line_start_role-in-Some-2.ensures
@@ -65,11 +65,11 @@ add_if_roles-returns-in-None t c =
     let k = c.args.level in
     let tree = if_parts c.args.i.now ∙ ap (λ o. branches (expression_of i.condition) (sequence_of_list i.then.items) (items_of elsif_of i.elsifs.items) (else_part_of o)) c.in-None.is in
     let condition = line_roles 0 (expression_of i.condition) in
-    let first = line_roles (deeper_level k) (sequence_of_list i.then.items) in
+    let first = line_roles (k + 1) (sequence_of_list i.then.items) in
     let others = line_roles k (items_of elsif_of i.elsifs.items) in
     let a = step start (Begins k ∷ []) condition c.in_ok-add_line_start_role.ensures c.in_ok-add_expression_roles.ensures in
     let b = step start ((Begins k ∷ []) ++ condition) (Plain ∷ []) a c.in_ok-add_plain_role.ensures in
-    let d = step start (((Begins k ∷ []) ++ condition) ++ (Plain ∷ [])) first b (c.in_ok-add_sequence_roles.ensures ∙ ap (λ j. c.add_plain_role.new.out.items ++ line_roles j (sequence_of_list i.then.items)) c.deeper_level.ensures) in
+    let d = step start (((Begins k ∷ []) ++ condition) ++ (Plain ∷ [])) first b (c.in_ok-add_sequence_roles.ensures ∙ ap (λ j. c.add_plain_role.new.out.items ++ line_roles j (sequence_of_list i.then.items)) c.in_ok-inner.ensures) in
     let e = step start ((((Begins k ∷ []) ++ condition) ++ (Plain ∷ [])) ++ first) others d c.in_ok-add_elsif_roles.ensures in
     subst (λ z. IfOk c.add_line_start_role-in-None.result (λ _. c.add_line_start_role-in-None.new.out.items ≡ z))
     (closing start (((((Begins k ∷ []) ++ condition) ++ (Plain ∷ [])) ++ first) ++ others) (Begins k ∷ []) _ e (if_shape (Begins k) Plain condition first others)

@@ -1,14 +1,14 @@
-use Rattle.std.proofs.Common.{◌-◌, length}
+use Rattle.std.proofs.Common.{◌-◌, All, length}
 use Rattle.ob0_tree.specs.Module.{max_nesting}
 use Rattle.ob0_tree.specs.View.{items_of, procedure_of}
-use Rattle.ob0_parse.specs.KeptTokens.{AreKeptTreesInPlace}
+use Rattle.ob0_parse.specs.KeptTokens.{IsKeptTreeInPlace}
 use Rattle.ob0_parse_descent.proofs.Items.{Taking}
 use Rattle.ob0_parse.proofs.parse_module_block.parse_module_procedures.Given as goal
 
 abbrev pub invariant-loop-procedure : goal.invariant-loop-procedure
 invariant-loop-procedure l = record {
-  taking : Taking (items_of procedure_of l.kept.made.items) max_nesting l.parser.tokens.now l.at l.next;
-  kept : AreKeptTreesInPlace l.parser.tokens.now l.kept;
+  taking : Taking (items_of procedure_of l.procedures.items) max_nesting l.parser.tokens.now l.at l.next;
+  kept : All (IsKeptTreeInPlace l.parser.tokens.now) l.kept.items;
 }
 
 abbrev pub decreases-loop-procedure : goal.decreases-loop-procedure

@@ -6,7 +6,7 @@ use Rattle.ob0_refs.specs.Declarations.{hover_parameter}
 use Rattle.ob0_refs.specs.Parameters.{parameter_view}
 use Rattle.ob0_tree.specs.Places.{token_text_at}
 use Rattle.ob0_types_table.specs.KnownTables.{shapes_of}
-use Rattle.ob0_types_table.specs.Tables.{formal_view}
+use Rattle.ob0_types_table.specs.DeclarationTableView.{formal_view}
 use Rattle.ob0_refs.proofs.declaration_texts.hover_parameters_of.Goals as goal
 
 pub loop-token-preserved : goal.loop-token-preserved

@@ -3,7 +3,7 @@ use Rattle.ob0_refs.proofs.Parameters.{Gathered}
 use Rattle.ob0_refs.specs.Parameters.{parameter_view}
 use Rattle.ob0_tree.specs.Places.{token_text_at}
 use Rattle.ob0_types_table.specs.KnownTables.{shapes_of}
-use Rattle.ob0_types_table.specs.Tables.{formal_view}
+use Rattle.ob0_types_table.specs.DeclarationTableView.{formal_view}
 use Rattle.ob0_refs.proofs.declaration_texts.hover_parameters_of.Given as goal
 
 abbrev pub invariant-loop-token : goal.invariant-loop-token

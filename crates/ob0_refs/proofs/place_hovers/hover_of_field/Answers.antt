@@ -1,9 +1,9 @@
 use Rattle.std.proofs.Common.{◌∙◌, Some, option_map, ap, sym}
 use Rattle.ob0_scope_table.specs.Resolution.{Resolution}
 use Rattle.ob0_types_table.specs.KnownTables.{shapes_of}
-use Rattle.ob0_types_table.specs.Tables.{type_shape}
+use Rattle.ob0_types_table.specs.DeclarationTableView.{type_shape}
 use Rattle.ob0_types_fields.specs.FieldTypes.{TypedField, typed_field_by_objects}
-use Rattle.ob0_types_fields.specs.Search.{typed_field_view}
+use Rattle.ob0_types_fields.specs.ConstructorSearch.{typed_field_view}
 use Rattle.ob0_refs.specs.Questions.{hover_of_field_with_type}
 use Rattle.ob0_refs.proofs.place_hovers.hover_of_field.Goals as goal
 

@@ -6,4 +6,4 @@ use Rattle.ob0_rpc.proofs.Appending.{text_written}
 use Rattle.ob0_rpc.proofs.json_text.write_json_string.Goals as goal
 
 pub returns : goal.returns
-returns c = on_ok_weaker c.write_piece-2.result (λ is. text_written c.args.text.now _ _ _ _ (subst IsUtf8 c.as_bytes.ensures.value c.as_bytes.ensures.utf8) c.in_ok-write_piece.ensures (c.in_ok-write_escaped_text.ensures ∙ ap (λ t. c.write_piece.new.out.items ++ escape t) c.as_bytes.ensures.value) is) c.write_piece-2.ensures
+returns c = on_ok_weaker c.write_verbatim-2.result (λ is. text_written c.args.text.now _ _ _ _ (subst IsUtf8 c.as_bytes.ensures.value c.as_bytes.ensures.utf8) c.in_ok-write_verbatim.ensures (c.in_ok-write_escaped_text.ensures ∙ ap (λ t. c.write_verbatim.new.out.items ++ escape t) c.as_bytes.ensures.value) is) c.write_verbatim-2.ensures

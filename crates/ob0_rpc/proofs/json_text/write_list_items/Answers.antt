@@ -1,6 +1,6 @@
 use Rattle.std.proofs.Common.{false, arith, refl, sym, subst}
 use Rattle.std.proofs.lemmas.Bool.{lt-ltb}
-use Rattle.ob0_rpc.specs.Appending.{AppendsItem}
+use Rattle.ob0_rpc.specs.Appending.{AppendsListItem}
 use Rattle.ob0_rpc.proofs.Appending.{each_done, each_next, each_none}
 use Rattle.ob0_rpc.proofs.json_text.write_list_items.Goals as goal
 
@@ -10,7 +10,7 @@ loop-value-init g c = (each_none false _, refl)
 pub loop-value-preserved : goal.loop-value-preserved
 loop-value-preserved g c = (
   each_next g.W.WriteJson.value c.args.values.now c.loop-value.value-index _ _ _ _ _ (omega arith) c.loop-value.invariant.0 c.loop-value.invariant.1
-      (subst (λ e. AppendsItem c.loop-value.needs_comma (g.W.WriteJson.value e) c.loop-value.out.items c.write_item_and_reserve.new.out.items) c.value-item.is c.in_ok-write_item_and_reserve.ensures),
+      (subst (λ e. AppendsListItem c.loop-value.needs_comma (g.W.WriteJson.value e) c.loop-value.out.items c.write_list_item_and_reserve.new.out.items) c.value-item.is c.in_ok-write_list_item_and_reserve.ensures),
   sym (lt-ltb 0 _ (omega arith)),
 )
 

@@ -9,5 +9,5 @@ returns c =
     let buffer = c.write_range_ending_at-at.new.buffer in
     let at = c.write_range_ending_at-at.result in
     let whole = take_all (176 - at) (drop at buffer) (omega (arith, length-drop at buffer)) in
-    on_ok_weaker c.write_piece.result (λ is.
-    put_down _ _ _ _ _ refl c.write_range_ending_at-at.ensures.text (is ∙ ap (λ t. c.args.out.now.items ++ t) whole) c.write_range_ending_at-at.ensures.reads) c.write_piece.ensures
+    on_ok_weaker c.write_verbatim.result (λ is.
+    put_down _ _ _ _ _ refl c.write_range_ending_at-at.ensures.text (is ∙ ap (λ t. c.args.out.now.items ++ t) whole) c.write_range_ending_at-at.ensures.reads) c.write_verbatim.ensures

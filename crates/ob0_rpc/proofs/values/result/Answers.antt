@@ -10,7 +10,7 @@ use Rattle.ob0_rpc.proofs.values.result.Goals as goal
 pub returns : goal.returns
 returns c =
     let is = c.in_ok-message.ensures in
-    IfOk-weaker c.text_of.result _ _ (λ bytes text whole can.
+    IfOk-weaker c.message_text.result _ _ (λ bytes text whole can.
     let plain = ap has_float is ∙ plain_result c.args.id.now (view c.args.value) whole in
     let small = subst (λ (d : Data). depth d ≤ 127) (sym is) (shallow_result c.args.id.now (view c.args.value) can.shallow) in
-    subst (λ (d : Data). Writes d bytes.items) is (text plain small)) c.text_of.ensures
+    subst (λ (d : Data). Writes d bytes.items) is (text plain small)) c.message_text.ensures

@@ -1,6 +1,6 @@
 use Rattle.std.proofs.Common.{Some, ap, ◌∙◌}
 use Rattle.std.proofs.lemmas.Result.{MatchResult-weaker}
-use Rattle.ob0_types_table.specs.Tables.{standard_procedure_of}
+use Rattle.ob0_types_table.specs.DeclarationTableView.{standard_procedure_of}
 use Rattle.ob0_language_types.specs.Expressions.{a_standard}
 use Rattle.ob0_run_lowering.proofs.Called.{line_written}
 use Rattle.ob0_run_lowering.proofs.lowered_calls.lower_standard_call.Goals as goal

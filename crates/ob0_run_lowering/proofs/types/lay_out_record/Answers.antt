@@ -1,6 +1,6 @@
 use Rattle.std.proofs.Common.{◌∙◌, ap}
 use Rattle.ob0_run_cells.specs.Cells.{size}
-use Rattle.ob0_types_table.specs.Tables.{type_shape}
+use Rattle.ob0_types_table.specs.DeclarationTableView.{type_shape}
 use Rattle.ob0_types_table.specs.declared.known.Field.{Field}
 use Rattle.ob0_run_lowering.proofs.LaidOut.{laid_begins, laid_ends, laid_goes_on}
 use Rattle.ob0_run_lowering.proofs.types.lay_out_record.Goals as goal

@@ -1,5 +1,5 @@
 use Rattle.std.proofs.Common.{[], take}
-use Rattle.ob0_types_table.specs.Tables.{extended_shapes}
+use Rattle.ob0_types_table.specs.DeclarationTableView.{extended_shapes}
 use Rattle.ob0_run_lowering.specs.Layouts.{HaveLayouts}
 use Rattle.ob0_run_lowering.proofs.types.lay_out_types.Given as goal
 

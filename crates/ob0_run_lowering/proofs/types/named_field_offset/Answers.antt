@@ -1,7 +1,7 @@
 use Rattle.std.proofs.Common.{sym, ap, ◌∙◌}
 use Rattle.ob0_types_table.specs.FieldPlaces.{selected_field}
 use Rattle.ob0_types_table.specs.KnownTables.{shapes_of}
-use Rattle.ob0_types_table.specs.Tables.{type_shape}
+use Rattle.ob0_types_table.specs.DeclarationTableView.{type_shape}
 use Rattle.ob0_language_values.specs.Values.{at_field}
 use Rattle.ob0_run_cells.specs.Cells.{step_offset}
 use Rattle.ob0_run_lowering.proofs.types.named_field_offset.Goals as goal

@@ -1,5 +1,5 @@
 use Rattle.std.proofs.Common.{◌≡◌, Some, None, slice_get, slice_index_or, ap, ◌∙◌, subst}
-use Rattle.ob0_types_table.specs.Tables.{faulty_shape, record_or_faulty}
+use Rattle.ob0_types_table.specs.DeclarationTableView.{faulty_shape, record_or_faulty}
 use Rattle.ob0_run_lowering.proofs.LaidOut.{HasRecord, read-past, read-there, record-there}
 use Rattle.ob0_run_lowering.proofs.types.record_layout_at.Goals as goal
 

@@ -29,7 +29,7 @@ evaluate_general_operation-returns-in-Ok t c =
     let ls = levels_of c.args.level.now in
     let o = out-Operation c.args.o.now in
     let a : SFits w32 c.in-Ok.left = search rules in
-    c.into_flat_outcome.ensures ∙ c.apply.ensures ∙ ap (outcome_of_applied_link ls c.args.cells.now o.link) (to_z-of_z a) ∙ ap (λ z. z >>= outcome_of_applied_link ls c.args.cells.now o.link) c.in-Ok.ensures ∙ sym (applied_to ls c.args.cells.now (first_operand_of o.first) o.link)
+    c.into_flat_outcome.ensures ∙ c.apply_link.ensures ∙ ap (outcome_of_applied_link ls c.args.cells.now o.link) (to_z-of_z a) ∙ ap (λ z. z >>= outcome_of_applied_link ls c.args.cells.now o.link) c.in-Ok.ensures ∙ sym (applied_to ls c.args.cells.now (first_operand_of o.first) o.link)
 
 pub evaluate_general_operation-returns-in-Err : goal.evaluate_general_operation-returns-in-Err
 evaluate_general_operation-returns-in-Err t c =
@@ -42,6 +42,6 @@ evaluate_operation-returns-in-Variable t c =
     let ls = levels_of c.args.level.now in
     let o = out-Operation c.args.o.now in
     let a : SFits w32 c.variable_value.result = search rules in
-    c.into_flat_outcome.ensures ∙ c.apply.ensures ∙ ap (outcome_of_applied_link ls c.args.cells.now o.link) (to_z-of_z a)
+    c.into_flat_outcome.ensures ∙ c.apply_link.ensures ∙ ap (outcome_of_applied_link ls c.args.cells.now o.link) (to_z-of_z a)
     ∙ ap (λ z. z >>= outcome_of_applied_link ls c.args.cells.now o.link) (sym c.variable_value.ensures ∙ sym (ap (λ f. number ls c.args.cells.now (first_operand_of f)) c.in-Variable.is))
     ∙ sym (applied_to ls c.args.cells.now (first_operand_of o.first) o.link)

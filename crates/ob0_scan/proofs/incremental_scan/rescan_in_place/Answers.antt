@@ -1,7 +1,7 @@
 use Rattle.std.proofs.Common.{◌≡◌, ◌≤◌, ◌+◌, ◌-◌, ℕ, List, length, refl, sym, ap, ap₂, ◌∙◌, subst, take, drop, arith}
 use Rattle.ob0_scan.specs.declared.lexeme.Token.{Token}
 use Rattle.ob0_scan.specs.TextWithTokens.{TextWithTokens, IsScanOf}
-use Rattle.ob0_scan.specs.Reused.{kinds, names_in, words_of_tokens, Reuses}
+use Rattle.ob0_scan.specs.Reused.{kinds, spellings_of_identifiers_in, words_of_tokens, ReusesOldLexemes}
 use Rattle.ob0_scan.specs.RescanState.{scan_with_new_middle}
 use Rattle.ob0_scan.proofs.Alike.{kinds_stay}
 use Rattle.ob0_scan.proofs.Named.{back_written, front_written, names_stay, words_stay}
@@ -21,8 +21,8 @@ pub returns-in_ok-tokens-in-Ok-clause-reused : goal.returns-in_ok-tokens-in-Ok-c
 returns-in_ok-tokens-in-Ok-clause-reused c =
     let b = c.in-Ok.between in
     let read : c.len.result + c.len-in-Ok.result ≡ length b.tokens.items + length b.comments.items = omega (arith, c.len.ensures, c.len-in-Ok.ensures, b.tokens.ok, b.comments.ok) in
-    subst (λ (n : ℕ). Reuses c.args.old c.in_ok-tokens-in-Ok.tokens c.args.from c.args.removed c.args.added n) (sym read)
-    (subst (λ (s : TextWithTokens). Reuses c.args.old s c.args.from c.args.removed c.args.added (length b.tokens.items + length b.comments.items)) (sym c.in_ok-tokens-in-Ok.ensures) c.in-Ok.ensures.ok.reuses)
+    subst (λ (n : ℕ). ReusesOldLexemes c.args.old c.in_ok-tokens-in-Ok.tokens c.args.from c.args.removed c.args.added n) (sym read)
+    (subst (λ (s : TextWithTokens). ReusesOldLexemes c.args.old s c.args.from c.args.removed c.args.added (length b.tokens.items + length b.comments.items)) (sym c.in_ok-tokens-in-Ok.ensures) c.in-Ok.ensures.ok.reuses)
 
 pub returns-in_ok-tokens-in-Ok-clause-alike : goal.returns-in_ok-tokens-in-Ok-clause-alike
 returns-in_ok-tokens-in-Ok-clause-alike c =
@@ -35,7 +35,7 @@ returns-in_ok-tokens-in-Ok-clause-alike c =
 pub returns-in_ok-tokens-in-Ok-clause-same_names : goal.returns-in_ok-tokens-in-Ok-clause-same_names
 returns-in_ok-tokens-in-Ok-clause-same_names c =
     let b = c.in-Ok.between in
-    λ same. ap (λ (s : TextWithTokens). names_in s.text s.tokens) c.in_ok-tokens-in-Ok.ensures
+    λ same. ap (λ (s : TextWithTokens). spellings_of_identifiers_in s.text s.tokens) c.in_ok-tokens-in-Ok.ensures
     ∙ names_stay c.args.old c.args.new_text.now c.args.from c.args.removed c.args.added b c.requires c.in-Ok.ensures.ok
     (c.has_same_names_as_replaced-same_names.ensures same)
 

@@ -2,7 +2,7 @@ use Rattle.std.proofs.Common.{Bor, List, vec_len, ◌≡◌, ◌∙◌, ℕ, ◌
 use Rattle.ob0_scan.specs.declared.lexeme.Span.{Span}
 use Rattle.ob0_scan.specs.declared.lexeme.Token.{Token}
 use Rattle.ob0_scan.specs.declared.old_lexemes.LexemeSlices.{LexemeSlices}
-use Rattle.ob0_scan.specs.Reused.{ReplacesRange, NoLexemeBeginsAt, tokens_beginning_from, comments_beginning_from}
+use Rattle.ob0_scan.specs.Reused.{ReplacesRange, NoLexemeBeginsAt, tokens_beginning_at_or_after, comments_beginning_at_or_after}
 use Rattle.ob0_scan.specs.RescanState.{first_token_begins_at, first_comment_begins_at}
 use Rattle.ob0_scan.proofs.AtLexemes.{back_again}
 use Rattle.ob0_scan.proofs.RescannedMiddle.{reads_none, reads_more, none_begins, end_met}
@@ -18,10 +18,10 @@ loop-scanner-init c =
       same_front = refl;
       reads = λ _. reads_none c.args.old.now c.args.change.from c.args.change.removed c.args.change.added c.args.scanner.now;
       tokens = λ place far _.
-          ap (tokens_beginning_from place) (c.lexemes_beginning_from-rest.ensures.tokens ∙ ap (tokens_beginning_from first) c.lexeme_slices.ensures.tokens)
+          ap (tokens_beginning_at_or_after place) (c.lexemes_beginning_at_or_after-rest.ensures.tokens ∙ ap (tokens_beginning_at_or_after first) c.lexeme_slices.ensures.tokens)
           ∙ back_again (λ (t : Token). t.span.start) first place c.args.old.now.tokens far;
       comments = λ place far _.
-          ap (comments_beginning_from place) (c.lexemes_beginning_from-rest.ensures.comments ∙ ap (comments_beginning_from first) c.lexeme_slices.ensures.comments)
+          ap (comments_beginning_at_or_after place) (c.lexemes_beginning_at_or_after-rest.ensures.comments ∙ ap (comments_beginning_at_or_after first) c.lexeme_slices.ensures.comments)
           ∙ back_again (λ (t : Span). t.start) first place c.args.old.now.comments far;
     }
 
@@ -43,8 +43,8 @@ loop-scanner-preserved c =
             | then-is_empty+then-scanner-change+else-first_lexeme_begins_at w ↦ (
                 let place = w.offset_in_old_text-place.result in
                 let same : place ≡ here.at + removed - added = omega (arith, w.offset_in_old_text-place.ensures) in
-                let tokens : w.skip_lexemes_before-rest.result.tokens.now ≡ tokens_beginning_from place old.tokens = w.skip_lexemes_before-rest.ensures.tokens ∙ inv.tokens place (omega (arith, w.offset_in_old_text-place.ensures, w.if-scanner-change.true)) (omega (arith, w.offset_in_old_text-place.ensures)) in
-                let comments : w.skip_lexemes_before-rest.result.comments.now ≡ comments_beginning_from place old.comments = w.skip_lexemes_before-rest.ensures.comments ∙ inv.comments place (omega (arith, w.offset_in_old_text-place.ensures, w.if-scanner-change.true)) (omega (arith, w.offset_in_old_text-place.ensures)) in
+                let tokens : w.skip_lexemes_before-rest.result.tokens.now ≡ tokens_beginning_at_or_after place old.tokens = w.skip_lexemes_before-rest.ensures.tokens ∙ inv.tokens place (omega (arith, w.offset_in_old_text-place.ensures, w.if-scanner-change.true)) (omega (arith, w.offset_in_old_text-place.ensures)) in
+                let comments : w.skip_lexemes_before-rest.result.comments.now ≡ comments_beginning_at_or_after place old.comments = w.skip_lexemes_before-rest.ensures.comments ∙ inv.comments place (omega (arith, w.offset_in_old_text-place.ensures, w.if-scanner-change.true)) (omega (arith, w.offset_in_old_text-place.ensures)) in
                 subst (NoLexemeBeginsAt old) same (none_begins old c.lexeme_slices.ensures.scan place
                 (ap₂ (λ ts cs. first_token_begins_at place ts || first_comment_begins_at place cs) (sym tokens) (sym comments) ∙ sym w.first_lexeme_begins_at.ensures ∙ w.if-first_lexeme_begins_at.false)))
             | else-is_empty w ↦ elim w.else-is_empty.branch [
@@ -54,17 +54,17 @@ loop-scanner-preserved c =
           ]);
       tokens = λ place far later. elim c.if-is_empty.branch [
         | then-is_empty+then-scanner-change+else-first_lexeme_begins_at w ↦
-            ap (λ (r : LexemeSlices). tokens_beginning_from place r.tokens.now) w.rest-is ∙ ap (tokens_beginning_from place) w.skip_lexemes_before-rest.ensures.tokens
+            ap (λ (r : LexemeSlices). tokens_beginning_at_or_after place r.tokens.now) w.rest-is ∙ ap (tokens_beginning_at_or_after place) w.skip_lexemes_before-rest.ensures.tokens
             ∙ back_again (λ (t : Token). t.span.start) w.offset_in_old_text-place.result place c.loop-scanner.rest.tokens.now (omega (arith, later, w.offset_in_old_text-place.ensures, c.in_ok-step.ensures.further))
             ∙ inv.tokens place far (omega (arith, later, c.in_ok-step.ensures.further))
-        | else-is_empty w ↦ ap (λ (r : LexemeSlices). tokens_beginning_from place r.tokens.now) w.rest-is ∙ inv.tokens place far (omega (arith, later, c.in_ok-step.ensures.further))
+        | else-is_empty w ↦ ap (λ (r : LexemeSlices). tokens_beginning_at_or_after place r.tokens.now) w.rest-is ∙ inv.tokens place far (omega (arith, later, c.in_ok-step.ensures.further))
       ];
       comments = λ place far later. elim c.if-is_empty.branch [
         | then-is_empty+then-scanner-change+else-first_lexeme_begins_at w ↦
-            ap (λ (r : LexemeSlices). comments_beginning_from place r.comments.now) w.rest-is ∙ ap (comments_beginning_from place) w.skip_lexemes_before-rest.ensures.comments
+            ap (λ (r : LexemeSlices). comments_beginning_at_or_after place r.comments.now) w.rest-is ∙ ap (comments_beginning_at_or_after place) w.skip_lexemes_before-rest.ensures.comments
             ∙ back_again (λ (t : Span). t.start) w.offset_in_old_text-place.result place c.loop-scanner.rest.comments.now (omega (arith, later, w.offset_in_old_text-place.ensures, c.in_ok-step.ensures.further))
             ∙ inv.comments place far (omega (arith, later, c.in_ok-step.ensures.further))
-        | else-is_empty w ↦ ap (λ (r : LexemeSlices). comments_beginning_from place r.comments.now) w.rest-is ∙ inv.comments place far (omega (arith, later, c.in_ok-step.ensures.further))
+        | else-is_empty w ↦ ap (λ (r : LexemeSlices). comments_beginning_at_or_after place r.comments.now) w.rest-is ∙ inv.comments place far (omega (arith, later, c.in_ok-step.ensures.further))
       ];
     }
 

@@ -1,6 +1,6 @@
 use Rattle.std.proofs.Common.{◌≡◌, ℕ, ◌+◌, ◌-◌, ◌≤◌, length}
 use Rattle.ob0_scan.specs.UnderWay.{IsConsistentScanner}
-use Rattle.ob0_scan.specs.Reused.{tokens_beginning_from, comments_beginning_from}
+use Rattle.ob0_scan.specs.Reused.{tokens_beginning_at_or_after, comments_beginning_at_or_after}
 use Rattle.ob0_scan.specs.RescanState.{AddsNewLexemes}
 use Rattle.ob0_scan.proofs.incremental_scan.scan_until_old_lexeme.Given as goal
 
@@ -12,8 +12,8 @@ invariant-loop-scanner l = record {
   same_text : l.scanner.text ≡ l.fn.scanner.text;
   same_front : l.scanner.front ≡ l.fn.scanner.front;
   reads : length l.scanner.faults.items ≡ 0 → AddsNewLexemes l.old l.change.from l.change.removed l.change.added l.fn.scanner l.scanner;
-  tokens : (place : ℕ) → l.change.from + l.change.removed ≤ place → l.scanner.at + l.change.removed ≤ place + l.change.added → tokens_beginning_from place l.rest.tokens.now ≡ tokens_beginning_from place l.old.tokens;
-  comments : (place : ℕ) → l.change.from + l.change.removed ≤ place → l.scanner.at + l.change.removed ≤ place + l.change.added → comments_beginning_from place l.rest.comments.now ≡ comments_beginning_from place l.old.comments;
+  tokens : (place : ℕ) → l.change.from + l.change.removed ≤ place → l.scanner.at + l.change.removed ≤ place + l.change.added → tokens_beginning_at_or_after place l.rest.tokens.now ≡ tokens_beginning_at_or_after place l.old.tokens;
+  comments : (place : ℕ) → l.change.from + l.change.removed ≤ place → l.scanner.at + l.change.removed ≤ place + l.change.added → comments_beginning_at_or_after place l.rest.comments.now ≡ comments_beginning_at_or_after place l.old.comments;
 }
 
 abbrev pub decreases-loop-scanner : goal.decreases-loop-scanner

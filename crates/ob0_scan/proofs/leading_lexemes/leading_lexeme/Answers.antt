@@ -5,19 +5,19 @@ use Rattle.std.proofs.lemmas.Slice.Eq.{starts_is}
 use Rattle.std.proofs.lemmas.Bool.Decides.{Decides-eqb}
 use Rattle.ob0_scan.specs.declared.lexeme.LexemeKind.TheVariants as lexeme
 use Rattle.ob0_scan.specs.declared.lexeme.TokenKind.TheVariants as token
-use Rattle.ob0_scan.specs.Classes.{is_space}
+use Rattle.ob0_scan.specs.Classes.{is_white_space}
 use Rattle.ob0_scan.specs.TextStart.{StartsWithLexeme, StartsWithNoLexeme}
 use Rattle.ob0_scan.proofs.Families.{family-mark}
 use Rattle.ob0_scan.proofs.Runs.{space_first}
 use Rattle.ob0_scan.proofs.Symbols.{symbol_first, no_mark}
 use Rattle.ob0_scan.proofs.leading_lexemes.leading_lexeme.Goals as goal
 
-pub returns-then-is_space : goal.returns-then-is_space
-returns-then-is_space c =
+pub returns-then-is_white_space : goal.returns-then-is_white_space
+returns-then-is_white_space c =
     let text = c.args.text.now in
     let same = c.as_bytes-bytes.ensures.value in
-    let head = subst (λ t. is_space (get_or t 0 0) ≡ true) same (sym c.if-is_space.ensures) in
-    subst (StartsWithLexeme text lexeme.Space) (sym (c.leading_space_len.ensures ∙ ap (prefix_len is_space) same)) (space_first text head c.requires)
+    let head = subst (λ t. is_white_space (get_or t 0 0) ≡ true) same (sym c.if-is_white_space.ensures) in
+    subst (StartsWithLexeme text lexeme.Space) (sym (c.leading_white_space_len.ensures ∙ ap (prefix_len is_white_space) same)) (space_first text head c.requires)
 
 -- If `starts_with` is false, the text doesn't begin with the pair `(*`
 no_pair : (text : List ℕ) → false ≡ starts_with eqb text (40 ∷ 42 ∷ []) → take 2 text ≢ 40 ∷ 42 ∷ []
@@ -42,7 +42,7 @@ returns-in_default c =
       boundary = c.first_char_len.ensures.boundary;
       fault = record {
         no_lexeme = subst StartsWithNoLexeme same (no_mark bytes
-            (family-mark byte (sym c.if-is_space.ensures) (sym c.if-is_ascii_alphabetic.ensures.value) (sym c.if-is_ascii_digit.ensures.value))
+            (family-mark byte (sym c.if-is_white_space.ensures) (sym c.if-is_ascii_alphabetic.ensures.value) (sym c.if-is_ascii_digit.ensures.value))
             (no_pair bytes c.if-starts_with.ensures.value)
             c.in_default.ensures.none);
         fault_at_start = (

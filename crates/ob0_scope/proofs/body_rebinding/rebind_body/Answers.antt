@@ -4,7 +4,8 @@ use Rattle.ob0_scan.specs.TextWithTokens.{TextWithTokens}
 use Rattle.ob0_tree.specs.ParsedModule.{tree_of}
 use Rattle.ob0_scope_table.specs.Resolution.{is_duplicate_or_end_name, ordinal_in, undeclared_faults_by_table}
 use Rattle.ob0_scope_table.specs.Bindings.{resolution_with}
-use Rattle.ob0_scope_numbering.specs.MarkWalk.{initial_walk_state, visit_module}
+use Rattle.ob0_scope_numbering.specs.MarkWalk.{initial_walk_state}
+use Rattle.ob0_scope_numbering.specs.IdentifierWalk.{visit_module}
 use Rattle.ob0_scope_numbering.specs.BodyWalk.{renumber_module, initial_walk_state_with_table}
 use Rattle.ob0_scope_numbering.specs.Written.{original_spellings}
 use Rattle.ob0_scope_numbering.proofs.BodyTables.{body_numbered}
@@ -31,7 +32,7 @@ returns c =
     let within : length m.source.tokens ≤ length b.ordinals.items = omega (arith, c.if-len-tokens.false, c.len.ensures, count, b.ordinals.ok) in
     let numbered = body_numbered was.old m c.args.low c.args._changed_end b.ordinals.items b.declaration_tokens.items was.parsed was.change (marks_resolved (resolution_with (record m { source = was.old }) b) was.resolved) was.resolved.declaring within in
     let all = c.in_ok-report_undeclared.ensures
-    ∙ (λ i. c.in_ok-faults.faults.items ++ undeclared_faults_by_table (c.tokens-tokens.ensures.source i) (c.deref-3.ensures.value i) (c.deref-4.ensures.value i)) in
+    ∙ (λ i. c.in_ok-faults.faults.items ++ undeclared_faults_by_table (c.deref-3.ensures.value i) (c.deref-4.ensures.value i)) in
     resolution_marked m c.in_ok-ordinals.ordinals.items b.declaration_tokens.items b.occurrences.items c.in_ok-faults.faults.items c.report_undeclared.new.faults.items was.parsed
     (subst (λ (os : List (Option ℕ)). HasMarks (ordinal_in os) (visit_module (tree_of m) (initial_walk_state (original_spellings m.source))).marks) (sym made) numbered.marks)
     (λ token e. ap (λ (os : List (Option ℕ)). ordinal_in os token) made ∙ (numbered.elsewhere token e ∙ was.resolved.ordinals_only_at_names token e))

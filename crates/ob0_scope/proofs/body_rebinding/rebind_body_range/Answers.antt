@@ -30,6 +30,6 @@ returns c =
     let numbered = c.in_ok-ordinals.ensures ∙ (λ i. (renumber_module (c.deref-3.ensures.value i) range.first (tree_of m) (initial_walk_state_with_table (original_spellings m.source) (table i))).marks) in
     let used : c.in_ok-occurrences.occurrences.items ≡ tokens_in_changed_text range b.occurrences.items own = c.in_ok-occurrences.ensures ∙ ap (λ is. tokens_in_changed_text range is own) c.deref-4.ensures.value in
     let all = c.in_ok-report_undeclared.ensures
-    ∙ (λ i. c.in_ok-faults.faults.items ++ undeclared_faults_by_table (c.tokens-tokens.ensures.source i) (c.deref-6.ensures.value i) (c.deref-7.ensures.value i)) in
+    ∙ (λ i. c.in_ok-faults.faults.items ++ undeclared_faults_by_table (c.deref-6.ensures.value i) (c.deref-7.ensures.value i)) in
     new_body_bound m b range own c.in_ok-ordinals.ordinals.items c.in_ok-declaration_tokens.declaration_tokens.items c.in_ok-occurrences.occurrences.items c.in_ok-faults.faults.items c.report_undeclared.new.faults.items
     c.requires long declared numbered used c.in_ok-faults.ensures all

@@ -8,7 +8,7 @@ use Rattle.ob0_tree.specs.declared.tree.Role.TheVariants as role
 use Rattle.ob0_tree.proofs.Occurring.{looked_up-occurrences}
 use Rattle.ob0_tree.specs.FirstIdentifier.{token_of_first_identifier}
 use Rattle.ob0_scope_table.specs.BodyReplaced.{body_at_path, body_at_path_in_block, closing_name_at_path, closing_name_at_path_in_block, path_to_body_in_block, path_to_body_in_module}
-use Rattle.ob0_scope.specs.Carried.{NamesInBody, with_identifier}
+use Rattle.ob0_scope.specs.Carried.{BodyNamesView, with_identifier}
 use Rattle.ob0_scope.proofs.NewBody.{names_walked}
 use Rattle.ob0_scope.proofs.body_rebinding.rebind_new_body.Goals as goal
 
@@ -25,8 +25,8 @@ rebind_body_range-requires c =
     record {
       same = c.args.same;
       was_bound = c.requires;
-      first = ap (λ s. token_of_first_identifier (identifiers role.Declaring s)) (sym there) ∙ (sym (ap (λ (n : NamesInBody). n.first) walked) ∙ c.in-Some.is);
+      first = ap (λ s. token_of_first_identifier (identifiers role.Declaring s)) (sym there) ∙ (sym (ap (λ (n : BodyNamesView). n.first) walked) ∙ c.in-Some.is);
       closing = closed;
       old_closing = c.old_closing_token.ensures;
-      uses = c.deref.ensures.value ∙ (ap (λ (n : NamesInBody). n.uses) walked ∙ (looked_up-occurrences role.Declaring (λ n xs. refl) found ∙ ap occurrences there));
+      uses = c.deref.ensures.value ∙ (ap (λ (n : BodyNamesView). n.uses) walked ∙ (looked_up-occurrences role.Declaring (λ n xs. refl) found ∙ ap occurrences there));
     }

@@ -2,9 +2,10 @@ use Rattle.std.proofs.Common.{option_and_then, option_map, sym, ap, ◌∙◌, s
 use Rattle.std.specs.List.{position_from}
 use Rattle.ob0_tree.specs.ParsedModule.{ParsedModule}
 use Rattle.ob0_scope.specs.declared.naming.BoundName as named
-use Rattle.ob0_scope.specs.Listing.{TokensAreDisjoint, is_identifier_at_offset}
+use Rattle.ob0_scope_table.specs.Spans.{TokensAreDisjoint}
+use Rattle.ob0_scope_table.proofs.TokenOrder.{scan_apart}
+use Rattle.ob0_scope.specs.Listing.{is_identifier_at_offset}
 use Rattle.ob0_scope.proofs.Placed.{name_found, named_so}
-use Rattle.ob0_scope.proofs.TokensAt.{scan_apart}
 use Rattle.ob0_scope.proofs.naming.name_at.Goals as goal
 
 pub returns-in-Some-ordinal_at : goal.returns-in-Some-ordinal_at

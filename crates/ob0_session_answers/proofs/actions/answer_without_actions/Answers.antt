@@ -4,5 +4,5 @@ use Rattle.ob0_session_answers.proofs.actions.answer_without_actions.Goals as go
 
 pub returns : goal.returns
 returns c =
-    let there = rw c.as_slice.ensures at c.answer_text.ensures in
-    IfOk-weaker c.answer_text.result _ _ (λ bytes sent. sent (record { shallow = omega arith })) there
+    let there = rw c.as_slice.ensures at c.success_response_text.ensures in
+    IfOk-weaker c.success_response_text.result _ _ (λ bytes sent. sent (record { shallow = omega arith })) there

@@ -5,7 +5,7 @@ use Rattle.serde_json.specs.Data.{Data, array}
 use Rattle.serde_json.specs.View.{items_of}
 use Rattle.ob0_text.specs.Units.{width_of}
 use Rattle.ob0_edits_tokens.specs.Ranges.{range_of}
-use Rattle.ob0_rpc.specs.MessageViews.{id_data}
+use Rattle.ob0_rpc.specs.MessageViews.{json_of_id}
 use Rattle.ob0_rpc.specs.Shapes.{result_message}
 use Rattle.ob0_rpc.specs.Writing.{FitsInMessage, Writes}
 use Rattle.ob0_session_json.specs.Shapes.{range_location_value}
@@ -21,4 +21,4 @@ returns g c =
     let found = c.as_slice-ranges.ensures.value ∙ c.in_ok-ranges.ensures in
     let same = ap (λ rs. array (items_of (map shown rs))) found ∙ ap (λ ds. array (items_of ds)) (map-map shown placed c.args.spans.now) in
     let can = locations_can_be_sent unit c.args.uri.now text c.args.spans.now in
-    IfOk-weaker c.answer_text.result _ _ (λ bytes sent. subst (λ (d : Data). Writes (result_message (id_data c.args.id.now) d) bytes.items) same (sent (subst FitsInMessage (sym same) can))) c.answer_text.ensures
+    IfOk-weaker c.success_response_text.result _ _ (λ bytes sent. subst (λ (d : Data). Writes (result_message (json_of_id c.args.id.now) d) bytes.items) same (sent (subst FitsInMessage (sym same) can))) c.success_response_text.ensures

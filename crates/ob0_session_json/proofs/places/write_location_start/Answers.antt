@@ -8,5 +8,5 @@ pub returns-clause-kept : goal.returns-clause-kept
 returns-clause-kept c =
     let head = codes ",{\"range\":" in
     let range = compact_text (range_value c.args.range.start c.args.range.end) in
-    let is = c.write_piece_ending_at.ensures.text ∙ ap (λ t. head ++ t) c.write_range_ending_at-at.ensures.text ∙ sym (append_assoc head range (drop 192 c.args.buffer.now)) in
-    kept c.args.buffer.now c.write_piece_ending_at.new.buffer (head ++ range) c.write_piece_ending_at.result (omega arith) (omega arith) (omega arith) is
+    let is = c.write_verbatim_ending_at.ensures.text ∙ ap (λ t. head ++ t) c.write_range_ending_at-at.ensures.text ∙ sym (append_assoc head range (drop 192 c.args.buffer.now)) in
+    kept c.args.buffer.now c.write_verbatim_ending_at.new.buffer (head ++ range) c.write_verbatim_ending_at.result (omega arith) (omega arith) (omega arith) is

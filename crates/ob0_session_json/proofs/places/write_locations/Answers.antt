@@ -1,7 +1,7 @@
 use Rattle.std.proofs.Common.{◌≡◌, ◌∙◌, ◌++◌, ◌+◌, ◌-◌, if◌then◌else◌, ap, arith, drop, false, length, map, refl, subst, sym}
 use Rattle.std.proofs.lemmas.Bool.{lt-ltb}
 use Rattle.std.proofs.lemmas.List.{length-drop, take_all}
-use Rattle.ob0_rpc.specs.Appending.{AppendsEach}
+use Rattle.ob0_rpc.specs.Appending.{AppendsEachValue}
 use Rattle.ob0_rpc.proofs.Appending.{each_done, each_next, each_none}
 use Rattle.ob0_session_json.specs.Places.{EndsWithUriMember}
 use Rattle.ob0_session_json.specs.Shapes.{range_location_value}
@@ -36,4 +36,4 @@ loop-range-preserved c =
 pub returns : goal.returns
 returns c =
     let each = each_done (range_location_value c.args.uri.now) c.args.ranges.now c.loop-range.range-index _ _ (omega arith) c.loop-range.invariant.0 in
-    subst (λ t. AppendsEach false (map (range_location_value c.args.uri.now) c.args.ranges.now) t c.loop-range.out.items) c.reserve.ensures.items each
+    subst (λ t. AppendsEachValue false (map (range_location_value c.args.uri.now) c.args.ranges.now) t c.loop-range.out.items) c.reserve.ensures.items each

@@ -1,6 +1,6 @@
 use Rattle.std.proofs.Common.{◌∙◌, ℕ, List, subst}
 use Rattle.std.proofs.lemmas.Result.{IfOk-weaker}
-use Rattle.ob0_rpc.specs.MessageViews.{id_data}
+use Rattle.ob0_rpc.specs.MessageViews.{json_of_id}
 use Rattle.ob0_rpc.specs.Writing.{Writes}
 use Rattle.ob0_session_json.specs.Shapes.{edit_refusal}
 use Rattle.ob0_session_json.proofs.refusals.refusal_with_reason.Goals as goal
@@ -8,4 +8,4 @@ use Rattle.ob0_session_json.proofs.refusals.refusal_with_reason.Goals as goal
 pub returns : goal.returns
 returns c =
     let reported = c.as_str.ensures.value ∙ c.in_ok-text.ensures in
-    IfOk-weaker c.refusal_message.result _ _ (λ bytes sent. subst (λ (said : List ℕ). Writes (edit_refusal (id_data c.args.id.now) said) bytes.items) reported sent) c.refusal_message.ensures
+    IfOk-weaker c.refusal_message.result _ _ (λ bytes sent. subst (λ (said : List ℕ). Writes (edit_refusal (json_of_id c.args.id.now) said) bytes.items) reported sent) c.refusal_message.ensures

@@ -1,7 +1,5 @@
 use Rattle.std.proofs.Common.{◌≡◌, fold, map, take}
-use Rattle.std.specs.Prelude.{is_some}
 use Rattle.std.specs.Option.{option_map}
-use Rattle.ob0_text.specs.ChangedBytes.{CoversAllChanges}
 use Rattle.ob0_text.specs.OpenDocuments.{changed_text, text_change_of}
 use Rattle.ob0_text.specs.Entries.{StoredTextUsesUnit}
 use Rattle.ob0_text.proofs.documents.apply_all_changes.Given as goal
@@ -10,6 +8,4 @@ abbrev pub invariant-loop-change : goal.invariant-loop-change
 invariant-loop-change g l = record {
   counted : StoredTextUsesUnit g.T.TextStore.unit_of l.unit l.text;
   made : option_map g.T.TextStore.content l.text ≡ fold (changed_text l.unit) (option_map g.T.TextStore.content l.initial.text) (map text_change_of (take l.change-index l.changes));
-  known : l.known ≡ is_some (option_map g.T.TextStore.content l.initial.text);
-  covered : CoversAllChanges (option_map g.T.TextStore.content l.initial.text) (option_map g.T.TextStore.content l.text) l.covering_change;
 }

@@ -42,7 +42,7 @@ if_nesting-returns-in-Some t c =
     let first = two_deep condition then_part c.expression_nesting.ensures c.sequence_nesting.ensures c.max-first.ensures in
     let others = two_deep elsifs other c.elsifs_nesting-others.ensures c.sequence_nesting-in-Some.ensures c.max.ensures in
     let all = two_deep (max condition then_part) (max elsifs other) first others c.max-in-Some.ensures in
-    one_deeper (max (max condition then_part) (max elsifs other)) all c.one_level_deeper.ensures ∙ ap (λ t. capped_to_u32 (nesting t)) (sym tree)
+    one_deeper (max (max condition then_part) (max elsifs other)) all c.capped_increment.ensures ∙ ap (λ t. capped_to_u32 (nesting t)) (sym tree)
 
 pub if_nesting-returns-in-None : goal.if_nesting-returns-in-None
 if_nesting-returns-in-None t c =
@@ -54,7 +54,7 @@ if_nesting-returns-in-None t c =
     let first = two_deep condition then_part c.expression_nesting.ensures c.sequence_nesting.ensures c.max-first.ensures in
     let others = two_deep elsifs 0 c.elsifs_nesting-others.ensures refl (max_zero c.elsifs_nesting-others.result) in
     let all = two_deep (max condition then_part) (max elsifs 0) first others c.max-in-None.ensures in
-    one_deeper (max (max condition then_part) (max elsifs 0)) all c.one_level_deeper-in-None.ensures ∙ ap (λ t. capped_to_u32 (nesting t)) (sym tree)
+    one_deeper (max (max condition then_part) (max elsifs 0)) all c.capped_increment-in-None.ensures ∙ ap (λ t. capped_to_u32 (nesting t)) (sym tree)
 
 pub statement_nesting-returns-in-While : goal.statement_nesting-returns-in-While
 statement_nesting-returns-in-While t c =
@@ -62,7 +62,7 @@ statement_nesting-returns-in-While t c =
     let body = nesting (sequence_of_list c.deref-in-While-2.result.now.body.items) in
     let tree = while_read c.in-While.w c.deref-in-While.ensures c.deref-in-While-2.ensures in
     let inner = two_deep condition body c.expression_nesting.ensures c.sequence_nesting.ensures c.max.ensures in
-    one_deeper (max condition body) inner c.one_level_deeper.ensures
+    one_deeper (max condition body) inner c.capped_increment.ensures
     ∙ ap (λ t. capped_to_u32 (nesting t)) (sym tree ∙ sym (ap statement_of c.in-While.is))
 
 pub statement_nesting-returns-in-Repeat : goal.statement_nesting-returns-in-Repeat
@@ -71,5 +71,5 @@ statement_nesting-returns-in-Repeat t c =
     let condition = nesting (expression_of c.deref-in-Repeat-2.result.now.condition) in
     let tree = repeat_read c.in-Repeat.r c.deref-in-Repeat.ensures c.deref-in-Repeat-2.ensures in
     let inner = two_deep body condition c.sequence_nesting-in-Repeat.ensures c.expression_nesting-in-Repeat.ensures c.max-in-Repeat.ensures in
-    one_deeper (max body condition) inner c.one_level_deeper-in-Repeat.ensures
+    one_deeper (max body condition) inner c.capped_increment-in-Repeat.ensures
     ∙ ap (λ t. capped_to_u32 (nesting t)) (sym tree ∙ sym (ap statement_of c.in-Repeat.is))

@@ -18,7 +18,7 @@ pub record_type_nesting-returns : goal.record_type_nesting-returns
 record_type_nesting-returns t c =
     let groups = c.args.r.now.groups.items in
     let all = list_ends c.loop-group.invariant c.loop-group-test.false ∙ ap (λ xs. capped_to_u32 (nesting (items_of further_field_group_of xs))) c.deref-group-items.ensures.value in
-    one_deeper (nesting (items_of further_field_group_of groups)) all c.one_level_deeper.ensures ∙ ap capped_to_u32 (groups_nest groups)
+    one_deeper (nesting (items_of further_field_group_of groups)) all c.capped_increment.ensures ∙ ap capped_to_u32 (groups_nest groups)
 
 pub type_nesting-returns-in-Record : goal.type_nesting-returns-in-Record
 type_nesting-returns-in-Record t c =

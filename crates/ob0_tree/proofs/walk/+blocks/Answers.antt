@@ -4,7 +4,7 @@ use Rattle.ob0_tree.specs.declared.tree.Block.{out-Block}
 use Rattle.ob0_tree.specs.declared.tree.Procedure.{out-Procedure}
 use Rattle.ob0_tree.specs.declared.tree.Role.TheVariants as role
 use Rattle.ob0_tree.specs.Tree.{identifiers}
-use Rattle.ob0_tree.specs.View.{items_of, constants_of, types_of, variables_of, procedure_of, body_of, formals_of, block_of}
+use Rattle.ob0_tree.specs.View.{items_of, constant_section_of, type_section_of, variable_section_of, procedure_of, body_of, formals_of, block_of}
 use Rattle.ob0_tree.specs.Visited.{state_after_visit, state_after_identifiers}
 use Rattle.ob0_tree.proofs.Visits.{all_visited, four_visited, then_visited, visits_on}
 use Rattle.ob0_tree.proofs.walk.+blocks.Goals as goal
@@ -17,12 +17,12 @@ walk_block-returns g t c =
     let b = out-Block c.args.b.now in
     let start = c.args.visitor.now in
     let step = g.V.Visitor.seen in
-    let constants = identifiers role.Declaring (constants_of b.constants) in
-    let types = identifiers role.Declaring (types_of b.types) in
-    let variables = identifiers role.Declaring (variables_of b.variables) in
+    let constants = identifiers role.Declaring (constant_section_of b.constants) in
+    let types = identifiers role.Declaring (type_section_of b.types) in
+    let variables = identifiers role.Declaring (variable_section_of b.variables) in
     let procedures = identifiers role.Declaring (items_of procedure_of b.procedures.items) in
-    let walked = all_visited c.loop-p.invariant c.loop-p-test.false ∙ ap (λ xs. state_after_identifiers step (identifiers role.Declaring (items_of procedure_of xs)) c.walk_variables.new.visitor) c.deref-p-items.ensures.value in
-    let before = four_visited step start constants types variables procedures c.in_ok-walk_constants.ensures c.in_ok-walk_types.ensures c.in_ok-walk_variables.ensures in
+    let walked = all_visited c.loop-p.invariant c.loop-p-test.false ∙ ap (λ xs. state_after_identifiers step (identifiers role.Declaring (items_of procedure_of xs)) c.walk_variable_declarations.new.visitor) c.deref-p-items.ensures.value in
+    let before = four_visited step start constants types variables procedures c.in_ok-walk_constant_declarations.ensures c.in_ok-walk_type_declarations.ensures c.in_ok-walk_variable_declarations.ensures in
     subst (λ z. OnOk c.walk_body.result (c.walk_body.new.visitor ≡ z))
     (then_visited step start (constants ++ (types ++ (variables ++ procedures))) (identifiers role.Declaring (body_of b.body)) (walked ∙ before)
     ∙ ap (λ t. state_after_visit step t start) (sym (block_parts c.args.b.now))) c.walk_body.ensures

@@ -12,7 +12,7 @@ sections_listed [] = refl
 sections_listed (s ∷ ss) = refl
 
 pub loop-s-preserved : goal.loop-s-preserved
-loop-s-preserved g c = visits_on further_parameter_section_of c.s-item.result c.walk_section.new.visitor c.loop-s.invariant c.loop-s-test.true c.s-item.is c.in_ok-walk_section.ensures
+loop-s-preserved g c = visits_on further_parameter_section_of c.s-item.result c.walk_formal_section.new.visitor c.loop-s.invariant c.loop-s-test.true c.s-item.is c.in_ok-walk_formal_section.ensures
 
 pub returns : goal.returns
 returns g c =

@@ -3,7 +3,7 @@ use Rattle.std.specs.Vec.{vec_len}
 use Rattle.ob0_tree.specs.ParsedModule.{tree_of}
 use Rattle.ob0_tree.specs.View.{body_of}
 use Rattle.ob0_types.specs.OneBody.{OneBody, body_with_token_in_module}
-use Rattle.ob0_types_check.proofs.Reported.{is_nothing}
+use Rattle.ob0_types_check.proofs.ResultWithFaults.{is_nothing}
 use Rattle.ob0_types.proofs.FieldsAgain.{fields_over}
 use Rattle.ob0_types.proofs.FieldsKept.{none_typed, table_holds}
 use Rattle.ob0_types.proofs.checked.fields_after_body_change.Goals as goal

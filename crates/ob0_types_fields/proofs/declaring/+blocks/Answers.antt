@@ -1,7 +1,7 @@
 use Rattle.std.proofs.Common.{◌≡◌, ℕ, ◌+◌, ◌++◌, sym, ap, ◌∙◌, arith}
 use Rattle.ob0_tree.proofs.Viewed.{block_parts}
 use Rattle.ob0_tree.specs.declared.tree.Block.{out-Block}
-use Rattle.ob0_tree.specs.View.{block_of, items_of, procedure_of, types_of, variables_of}
+use Rattle.ob0_tree.specs.View.{block_of, items_of, procedure_of, type_section_of, variable_section_of}
 use Rattle.ob0_language_names.specs.Parts.{section_types, section_variables}
 use Rattle.ob0_language_types.specs.Declarations.{block_constructor_count, procedures_constructor_count, types_constructor_count, variables_constructor_count}
 use Rattle.ob0_types_fields.specs.Identifiers.{fields_declared_in_block, fields_declared_in_procedures}
@@ -15,8 +15,8 @@ add_block_declared_fields-returns-clause-found t c =
     let b = out-Block c.args.b.now in
     let start = c.args.found.now.items in
     let k : ℕ = c.args.word_count.now in
-    let ts = section_types (types_of b.types) in
-    let vs = section_variables (variables_of b.variables) in
+    let ts = section_types (type_section_of b.types) in
+    let vs = section_variables (variable_section_of b.variables) in
     let ps = items_of procedure_of b.procedures.items in
     let jv : ℕ = k + types_constructor_count ts in
     let jp : ℕ = jv + variables_constructor_count vs in
@@ -32,8 +32,8 @@ add_block_declared_fields-returns-clause-found t c =
 pub add_block_declared_fields-returns-clause-word_count : goal.add_block_declared_fields-returns-clause-word_count
 add_block_declared_fields-returns-clause-word_count t c =
     let b = out-Block c.args.b.now in
-    let ts = section_types (types_of b.types) in
-    let vs = section_variables (variables_of b.variables) in
+    let ts = section_types (type_section_of b.types) in
+    let vs = section_variables (variable_section_of b.variables) in
     let ends = declaring_end c.loop-p.invariant c.loop-p-test.false in
     let listed = ap (λ xs. procedures_constructor_count (items_of procedure_of xs)) c.deref-p-items.ensures.value in
     let whole : block_constructor_count (block_of c.args.b.now) ≡ types_constructor_count ts + (variables_constructor_count vs + procedures_constructor_count (items_of procedure_of b.procedures.items)) = ap block_constructor_count (block_parts c.args.b.now) in

@@ -1,5 +1,5 @@
 use Rattle.ob0_world_determined.proofs.laws.diagnoses_are_determined.Goals as goal
-use Rattle.ob0_world_determined.proofs.Reports.{diagnoses_are_determined}
+use Rattle.ob0_world_determined.proofs.ReportsErrorsOf.{diagnoses_are_determined}
 
 pub returns : goal.returns
-returns c = diagnoses_are_determined c.scan_is_unique.ensures c.reported_faults_are_unique.ensures c.refusal_is_unique.ensures c.resolution_is_determined.ensures
+returns c = diagnoses_are_determined c.scan_is_unique.ensures c.reported_faults_are_unique.ensures c.reported_refusal_is_unique.ensures c.resolution_is_determined.ensures

@@ -1,7 +1,7 @@
 use Rattle.std.proofs.Common.{◌∙◌, ℕ, List, ap, inr, map, sym, subst}
 use Rattle.std.proofs.lemmas.Result.{IfOk-weaker}
-use Rattle.ob0_analysis.specs.Diagnosed.{Reports, reported_diagnosis_of, reported_diagnosis_of_fault}
-use Rattle.ob0_analysis.specs.AnalysisInvariants.{IsValidAnalysisResult, text_of}
+use Rattle.ob0_analysis.specs.Diagnosed.{ReportsErrorsOf, reported_diagnosis_of, reported_diagnosis_of_fault}
+use Rattle.ob0_analysis.specs.AnalysisInvariants.{IsValidAnalysisResult, text_of_analysis_result}
 use Rattle.ob0_analysis.proofs.Scanning.{finds_lexemes}
 use Rattle.ob0_analysis.proofs.analysis.Analysis.diagnoses.Goals as goal
 
@@ -9,4 +9,4 @@ pub returns-in-Unscannable-clause-reported : goal.returns-in-Unscannable-clause-
 returns-in-Unscannable-clause-reported c =
     let by = subst IsValidAnalysisResult c.in-Unscannable.is c.self.invariant in
     IfOk-weaker c.diagnoses_of_faults.result _ _ (λ list is.
-    subst (λ (t : List ℕ). Reports t (map reported_diagnosis_of list.items)) (sym (ap text_of c.in-Unscannable.is) ∙ c.self.view_is) (inr (finds_lexemes _ _ _ by.0 by.1 (is ∙ ap (map reported_diagnosis_of_fault) c.as_slice.ensures.value)))) c.diagnoses_of_faults.ensures
+    subst (λ (t : List ℕ). ReportsErrorsOf t (map reported_diagnosis_of list.items)) (sym (ap text_of_analysis_result c.in-Unscannable.is) ∙ c.self.view_is) (inr (finds_lexemes _ _ _ by.0 by.1 (is ∙ ap (map reported_diagnosis_of_fault) c.as_slice.ensures.value)))) c.diagnoses_of_faults.ensures

@@ -1,8 +1,18 @@
-use Rattle.std.proofs.Common.{refl}
-use Rattle.ob0_parse.proofs.FromTree.{of_tree}
+use Rattle.std.proofs.Common.{[], refl}
+use Rattle.std.proofs.lemmas.List.Elements.{All-cons, All-nil}
+use Rattle.ob0_parse.specs.KeptTokens.{IsKeptTreeInPlace}
+use Rattle.ob0_parse.proofs.FromTree.{parts_taken}
+use Rattle.ob0_parse.proofs.kept.KeptTrees.from_tree.Goals.{in-Some+in_ok-push, in_default}
 use Rattle.ob0_parse.proofs.kept.KeptTrees.from_tree.Goals as goal
 
 pub returns : goal.returns
 returns c = λ s parsed.
-    let both = of_tree s c.args.tree parsed _ _ _ _ _ c.locate_body-body.result c.into_block-block.ensures c.take-statements.ensures.value refl c.into_procedures-made.ensures c.locate_body-body.ensures in
-    record { made = both.0; waiting = rw c.new.ensures.items tt; body = both.1 }
+    let parts = parts_taken s c.args.tree parsed _ _ _ _ _ c.into_block-block.ensures c.take-statements.ensures.value refl c.into_procedures-procedures.ensures in
+    let P = IsKeptTreeInPlace s.tokens in
+    record {
+      trees = c.in_ok-keep_procedures.ensures s.tokens parts.procedures
+          (elim c.match-locate_body.branch [
+            | in-Some+in_ok-push w ↦ rw (w.trees-is, w.in_ok-push.ensures.items, c.new-trees.ensures.items) (All-cons P w.in-Some.body [] (w.in-Some.ensures s.tokens parts) (All-nil P))
+            | in_default w ↦ rw (w.trees-is, c.new-trees.ensures.items) (All-nil P)
+          ]);
+    }

@@ -15,7 +15,7 @@ use Rattle.ob0_parse_descent.proofs.parser.Parser.+statements.Goals as goal
 
 pub parse_statement-returns : goal.parse_statement-returns
 parse_statement-returns t c =
-    taken_empty c.if-has_identifier_at.ensures c.if-has_word_at.ensures c.if-has_word_at-2.ensures c.if-has_word_at-3.ensures
+    taken_empty c.if-has_identifier_at.ensures c.if-has_reserved_word_at.ensures c.if-has_reserved_word_at-2.ensures c.if-has_reserved_word_at-3.ensures
 
 pub parse_further_statement-returns-in_err-statement : goal.parse_further_statement-returns-in_err-statement
 parse_further_statement-returns-in_err-statement t c =
@@ -88,56 +88,56 @@ pub parse_if-returns : goal.parse_if-returns
 parse_if-returns t c =
     rw (c.in_ok-boxed.ensures.ok, if_made _) (taken_branches (expression_of c.in_ok-condition.condition) (sequence_of_vec c.in_ok-then.then) (elsifs_of_vec c.in_ok-elsifs.elsifs) (else_part_of c.in_ok-otherwise.otherwise) c.in_ok-inner.ensures c.requires.0 c.in_ok-condition.ensures c.in_ok-start.ensures c.in_ok-then.ensures c.in_ok-elsifs.ensures c.in_ok-otherwise.ensures c.in_ok-end.ensures)
 
-pub parse_elsifs-loop-elsifs-init : goal.parse_elsifs-loop-elsifs-init
-parse_elsifs-loop-elsifs-init t c =
+pub parse_elsif_parts-loop-elsifs-init : goal.parse_elsif_parts-loop-elsifs-init
+parse_elsif_parts-loop-elsifs-init t c =
     rw c.new-elsifs.ensures.items (taking_none elsif_part _ _ _ c.requires)
 
-pub parse_elsifs-returns-in_err-elsif : goal.parse_elsifs-returns-in_err-elsif
-parse_elsifs-returns-in_err-elsif t c =
+pub parse_elsif_parts-returns-in_err-elsif : goal.parse_elsif_parts-returns-in_err-elsif
+parse_elsif_parts-returns-in_err-elsif t c =
     let p = err_from_is_err_and c.from_residual.result c.from_residual.ensures.1 in
     rw (p.1, p.2) (taking_fails (items_of elsif_of c.loop-elsifs.elsifs.items) c.loop-elsifs.invariant c.in_err-elsif.ensures)
 
-pub parse_elsifs-loop-elsifs-preserved : goal.parse_elsifs-loop-elsifs-preserved
-parse_elsifs-loop-elsifs-preserved t c =
+pub parse_elsif_parts-loop-elsifs-preserved : goal.parse_elsif_parts-loop-elsifs-preserved
+parse_elsif_parts-loop-elsifs-preserved t c =
     let item = rw c.in-Some.is at c.in_ok-elsif.ensures in
     rw c.in_ok-push_with_doubling.ensures.added (taking_more elsif_of c.loop-elsifs.elsifs.items _ _ _ _ _ _ c.loop-elsifs.invariant item.0)
 
-pub parse_elsifs-returns : goal.parse_elsifs-returns
-parse_elsifs-returns t c =
+pub parse_elsif_parts-returns : goal.parse_elsif_parts-returns
+parse_elsif_parts-returns t c =
     let absent = rw c.in_default.is at c.in_ok-elsif.ensures in
     taking_done (items_of elsif_of c.loop-elsifs.elsifs.items) c.loop-elsifs.invariant absent
 
 pub parse_elsif-returns-in_err-condition : goal.parse_elsif-returns-in_err-condition
 parse_elsif-returns-in_err-condition t c =
     let p = err_from_is_err_and c.from_residual.result c.from_residual.ensures.1 in
-    rw (p.1, p.2) (elsif_fails c.if-not-has_word_at.ensures.0 (fails_in c.in_err-condition.ensures))
+    rw (p.1, p.2) (elsif_fails c.if-not-has_reserved_word_at.ensures.0 (fails_in c.in_err-condition.ensures))
 
 pub parse_elsif-returns-in_err-start : goal.parse_elsif-returns-in_err-start
 parse_elsif-returns-in_err-start t c =
     let p = err_from_is_err_and c.from_residual-in_err-start.result c.from_residual-in_err-start.ensures.1 in
-    rw (p.1, p.2) (elsif_fails c.if-not-has_word_at.ensures.0 (fails_pass (expression_of c.in_ok-condition.condition) c.in_ok-condition.ensures (fails_in_token c.in_err-start.ensures)))
+    rw (p.1, p.2) (elsif_fails c.if-not-has_reserved_word_at.ensures.0 (fails_pass (expression_of c.in_ok-condition.condition) c.in_ok-condition.ensures (fails_in_token c.in_err-start.ensures)))
 
 pub parse_elsif-returns-in_err-then : goal.parse_elsif-returns-in_err-then
 parse_elsif-returns-in_err-then t c =
     let p = err_from_is_err_and c.from_residual-in_err-then.result c.from_residual-in_err-then.ensures.1 in
-    rw (p.1, p.2) (elsif_fails c.if-not-has_word_at.ensures.0 (fails_pass (expression_of c.in_ok-condition.condition) c.in_ok-condition.ensures (fails_pass_token c.in_ok-start.ensures.0 c.in_ok-start.ensures.2 c.in_err-then.ensures)))
+    rw (p.1, p.2) (elsif_fails c.if-not-has_reserved_word_at.ensures.0 (fails_pass (expression_of c.in_ok-condition.condition) c.in_ok-condition.ensures (fails_pass_token c.in_ok-start.ensures.0 c.in_ok-start.ensures.2 c.in_err-then.ensures)))
 
 pub parse_elsif-returns : goal.parse_elsif-returns
 parse_elsif-returns t c =
-    (taken_elsif (expression_of c.in_ok-condition.condition) (sequence_of_vec c.in_ok-then.then) c.if-not-has_word_at.ensures.0 c.in_ok-condition.ensures c.in_ok-start.ensures c.in_ok-then.ensures, omega (arith, c.in_ok-condition.ensures.forward, c.in_ok-start.ensures.2, c.in_ok-then.ensures.forward))
+    (taken_elsif (expression_of c.in_ok-condition.condition) (sequence_of_vec c.in_ok-then.then) c.if-not-has_reserved_word_at.ensures.0 c.in_ok-condition.ensures c.in_ok-start.ensures c.in_ok-then.ensures, omega (arith, c.in_ok-condition.ensures.forward, c.in_ok-start.ensures.2, c.in_ok-then.ensures.forward))
 
-pub parse_else-returns-then-not-has_word_at : goal.parse_else-returns-then-not-has_word_at
-parse_else-returns-then-not-has_word_at t c =
-    taken_no_item else_part _ _ _ c.requires (no_item 11 refl c.if-not-has_word_at.ensures)
+pub parse_else_part-returns-then-not-has_reserved_word_at : goal.parse_else_part-returns-then-not-has_reserved_word_at
+parse_else_part-returns-then-not-has_reserved_word_at t c =
+    taken_no_item else_part _ _ _ c.requires (no_item 11 refl c.if-not-has_reserved_word_at.ensures)
 
-pub parse_else-returns-in_err-statements : goal.parse_else-returns-in_err-statements
-parse_else-returns-in_err-statements t c =
+pub parse_else_part-returns-in_err-statements : goal.parse_else_part-returns-in_err-statements
+parse_else_part-returns-in_err-statements t c =
     let p = err_from_is_err_and c.from_residual.result c.from_residual.ensures.1 in
-    rw (p.1, p.2) (fails_maybe (led_fails leads_else_branch c.if-not-has_word_at.ensures.0 c.in_err-statements.ensures))
+    rw (p.1, p.2) (fails_maybe (led_fails leads_else_branch c.if-not-has_reserved_word_at.ensures.0 c.in_err-statements.ensures))
 
-pub parse_else-returns : goal.parse_else-returns
-parse_else-returns t c =
-    taken_item _ (taken_led leads_else_branch (sequence_of_vec c.in_ok-statements.statements) c.if-not-has_word_at.ensures.0 c.in_ok-statements.ensures)
+pub parse_else_part-returns : goal.parse_else_part-returns
+parse_else_part-returns t c =
+    taken_item _ (taken_led leads_else_branch (sequence_of_vec c.in_ok-statements.statements) c.if-not-has_reserved_word_at.ensures.0 c.in_ok-statements.ensures)
 
 pub parse_while-returns-in_err-inner : goal.parse_while-returns-in_err-inner
 parse_while-returns-in_err-inner t c =

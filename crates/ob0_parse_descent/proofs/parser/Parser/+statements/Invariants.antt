@@ -22,14 +22,14 @@ decreases-parse_while l = 10 * l.room + 2
 abbrev pub decreases-parse_repeat : goal.decreases-parse_repeat
 decreases-parse_repeat l = 10 * l.room + 2
 
-abbrev pub decreases-parse_elsifs : goal.decreases-parse_elsifs
-decreases-parse_elsifs l = 10 * l.room + 7
+abbrev pub decreases-parse_elsif_parts : goal.decreases-parse_elsif_parts
+decreases-parse_elsif_parts l = 10 * l.room + 7
 
 abbrev pub decreases-parse_elsif : goal.decreases-parse_elsif
 decreases-parse_elsif l = 10 * l.room + 6
 
-abbrev pub decreases-parse_else : goal.decreases-parse_else
-decreases-parse_else l = 10 * l.room + 6
+abbrev pub decreases-parse_else_part : goal.decreases-parse_else_part
+decreases-parse_else_part l = 10 * l.room + 6
 
 abbrev pub invariant-parse_sequence-loop-statements : goal.invariant-parse_sequence-loop-statements
 invariant-parse_sequence-loop-statements l = Listing statement_of further_statement_of l.statements.items l.room l.self.tokens.now l.at l.next
@@ -37,8 +37,8 @@ invariant-parse_sequence-loop-statements l = Listing statement_of further_statem
 abbrev pub decreases-parse_sequence-loop-statements : goal.decreases-parse_sequence-loop-statements
 decreases-parse_sequence-loop-statements l = length l.self.tokens.now - l.next
 
-abbrev pub invariant-parse_elsifs-loop-elsifs : goal.invariant-parse_elsifs-loop-elsifs
-invariant-parse_elsifs-loop-elsifs l = Taking (items_of elsif_of l.elsifs.items) l.room l.self.tokens.now l.at l.next
+abbrev pub invariant-parse_elsif_parts-loop-elsifs : goal.invariant-parse_elsif_parts-loop-elsifs
+invariant-parse_elsif_parts-loop-elsifs l = Taking (items_of elsif_of l.elsifs.items) l.room l.self.tokens.now l.at l.next
 
-abbrev pub decreases-parse_elsifs-loop-elsifs : goal.decreases-parse_elsifs-loop-elsifs
-decreases-parse_elsifs-loop-elsifs l = length l.self.tokens.now - l.next
+abbrev pub decreases-parse_elsif_parts-loop-elsifs : goal.decreases-parse_elsif_parts-loop-elsifs
+decreases-parse_elsif_parts-loop-elsifs l = length l.self.tokens.now - l.next

@@ -104,4 +104,4 @@ parse_type-returns-then-has_identifier_at t c =
 
 pub parse_type-returns : goal.parse_type-returns
 parse_type-returns t c =
-    rw c.syntax_error.ensures (type_missing c.if-has_identifier_at.ensures c.if-has_word_at.ensures c.if-has_word_at-2.ensures)
+    rw c.syntax_error.ensures (type_missing c.if-has_identifier_at.ensures c.if-has_reserved_word_at.ensures c.if-has_reserved_word_at-2.ensures)

@@ -5,4 +5,4 @@ pub returns-then-has_identifier_at : goal.returns-then-has_identifier_at
 returns-then-has_identifier_at c = name_is_section _ _ c.if-has_identifier_at.ensures
 
 pub returns : goal.returns
-returns c = word_is_section c.has_word_at.result c.if-has_identifier_at.ensures c.has_word_at.ensures
+returns c = word_is_section c.has_reserved_word_at.result c.if-has_identifier_at.ensures c.has_reserved_word_at.ensures

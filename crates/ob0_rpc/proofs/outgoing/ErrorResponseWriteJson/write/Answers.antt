@@ -1,13 +1,13 @@
 use Rattle.std.proofs.Common.{◌≡◌, Option, Some, None, option_map, codes, refl, subst}
 use Rattle.std.proofs.lemmas.Result.{on_ok_weaker}
 use Rattle.serde_json.specs.Data.{Data}
-use Rattle.ob0_rpc.specs.Appending.{AppendsMember, or_null}
-use Rattle.ob0_rpc.specs.MessageViews.{id_data, id_or_null}
+use Rattle.ob0_rpc.specs.Appending.{AppendsMember, json_or_null}
+use Rattle.ob0_rpc.specs.MessageViews.{json_of_id, id_or_null}
 use Rattle.ob0_rpc.specs.declared.incoming.Id.{Id}
 use Rattle.ob0_rpc.proofs.Appending.{object_of}
 use Rattle.ob0_rpc.proofs.outgoing.ErrorResponseWriteJson.write.Goals as goal
 
-same_id : {A : Type 0} (of : A → Id) (o : Option A) → or_null (λ a. id_data (of a)) o ≡ id_or_null (option_map of o)
+same_id : {A : Type 0} (of : A → Id) (o : Option A) → json_or_null (λ a. json_of_id (of a)) o ≡ id_or_null (option_map of o)
 same_id of (Some a) = refl
 same_id of None = refl
 

@@ -9,6 +9,6 @@ pub returns : goal.returns
 returns c =
     let said = c.as_bytes.ensures.value ∙ c.as_str.ensures.value in
     let utf8 = subst IsUtf8 said c.as_bytes.ensures.utf8 in
-    on_ok_weaker c.write_edit_range.result (λ is.
-    edit_put_down _ c.args.self.now.range.start c.args.self.now.range.end _ _ _ _ utf8 c.in_ok-write_piece.ensures (c.in_ok-write_escaped_text.ensures ∙ ap (λ t. c.write_piece.new.out.items ++ escape t) said) is c.write_edit_range.ensures.reads)
-    c.write_edit_range.ensures.text
+    on_ok_weaker c.write_edit_after_new_text.result (λ is.
+    edit_put_down _ c.args.self.now.range.start c.args.self.now.range.end _ _ _ _ utf8 c.in_ok-write_verbatim.ensures (c.in_ok-write_escaped_text.ensures ∙ ap (λ t. c.write_verbatim.new.out.items ++ escape t) said) is c.write_edit_after_new_text.ensures.reads)
+    c.write_edit_after_new_text.ensures.text

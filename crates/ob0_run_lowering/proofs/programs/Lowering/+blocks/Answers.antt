@@ -5,8 +5,8 @@ use Rattle.ob0_scope_table.specs.LabelledTrees.{tree_with_labels}
 use Rattle.ob0_run_lowering.specs.declared.scene.Scene.{Scene}
 use Rattle.ob0_run_machine.specs.declared.code.Routine.{Routine}
 use Rattle.ob0_run_lowering.specs.Blocks.{LowersBlock}
-use Rattle.ob0_run_lowering.specs.PlacedNames.{HiddenLocationsAreRestored}
-use Rattle.ob0_run_lowering.specs.declared.visible_locations.Frame.{Frame}
+use Rattle.ob0_run_lowering.specs.PlacedNames.{HiddenSitesAreRestored}
+use Rattle.ob0_run_lowering.specs.declared.visible_sites.Frame.{Frame}
 use Rattle.ob0_run_lowering.proofs.LoweredBlocks.{block_means, goes_itself, goes_on, procedure_means}
 use Rattle.ob0_run_lowering.proofs.FollowingSites.{follows_then}
 use Rattle.ob0_run_lowering.proofs.programs.Lowering.+blocks.Goals as goal
@@ -46,7 +46,7 @@ lower_procedure-returns t c = λ rest.
       pushed = c.in_ok-index.ensures.pushed;
       first_is = ap (λ n. record { depth = n; cells = 0; var_parameter_count = 0 }) deep;
       placed = (c.place_formals.new.self, c.in_ok-frame.ensures, lowers);
-      back = subst (HiddenLocationsAreRestored c.reserve_routine.new.self.visible c.lower_block.new.self.visible) (sym c.set_routine.ensures.visible)
-          (c.restore_hidden_locations.ensures c.reserve_routine.new.self.visible (follows_then c.reserve_routine.new.self.visible c.place_formals.new.self c.lower_block.new.self.visible c.in_ok-frame.ensures.follows lowers.follows) c.hidden_count-outside.ensures);
+      back = subst (HiddenSitesAreRestored c.reserve_routine.new.self.visible c.lower_block.new.self.visible) (sym c.set_routine.ensures.visible)
+          (c.restore_hidden_sites.ensures c.reserve_routine.new.self.visible (follows_then c.reserve_routine.new.self.visible c.place_formals.new.self c.lower_block.new.self.visible c.in_ok-frame.ensures.follows lowers.follows) c.hidden_site_count-outside.ensures);
       kept = c.set_routine.ensures.procedures;
     }

@@ -1,5 +1,5 @@
 use Rattle.ob0_tree.specs.View.{items_of, procedure_of}
-use Rattle.ob0_scope_numbering.specs.TableWalk.{visit_procedures}
+use Rattle.ob0_scope_numbering.specs.IdentifierWalk.{visit_procedures}
 use Rattle.ob0_scope_numbering.proofs.Going.{Going}
 use Rattle.ob0_scope_numbering.proofs.numbering.NumberingWalk.+blocks.Given as goal
 

@@ -1,5 +1,5 @@
 use Rattle.std.proofs.Common.{◌∷◌, sym, ap, ◌∙◌}
-use Rattle.ob0_scope_numbering.specs.TableWalk.{number_declarations}
+use Rattle.ob0_scope_numbering.specs.IdentifierWalk.{number_declarations}
 use Rattle.ob0_scope_numbering.proofs.Going.{gone_through}
 use Rattle.ob0_scope_numbering.proofs.Declaring.{names_further}
 use Rattle.ob0_scope_numbering.proofs.numbering.NumberingWalk.number_names.Goals as goal

@@ -1,4 +1,4 @@
-use Rattle.ob0_scope_numbering.specs.TableWalk.{number_declarations}
+use Rattle.ob0_scope_numbering.specs.IdentifierWalk.{number_declarations}
 use Rattle.ob0_scope_numbering.proofs.Going.{Going}
 use Rattle.ob0_scope_numbering.proofs.numbering.NumberingWalk.number_names.Given as goal
 

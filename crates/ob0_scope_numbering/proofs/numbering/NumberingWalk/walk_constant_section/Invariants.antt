@@ -1,5 +1,5 @@
 use Rattle.ob0_tree.specs.View.{items_of, constant_of}
-use Rattle.ob0_scope_numbering.specs.TableWalk.{visit_constants}
+use Rattle.ob0_scope_numbering.specs.IdentifierWalk.{visit_constants}
 use Rattle.ob0_scope_numbering.proofs.Going.{Going}
 use Rattle.ob0_scope_numbering.proofs.numbering.NumberingWalk.walk_constant_section.Given as goal
 

@@ -10,7 +10,7 @@ returns-in-Some-Some c =
     let requested = actions_request_view c.args.self.now c.args.version in
     let here = c.in-Some-Some.here.items in
     let everywhere = c.in-Some-Some.everywhere.items in
-    let there = rw (c.as_slice-in-Some-Some-2.ensures, c.action.ensures, c.action-in-Some-Some.ensures, c.as_slice.ensures.value, c.as_slice-in-Some-Some.ensures.value, to_z-of_z c.ranges.version) at c.answer_text.ensures in
+    let there = rw (c.as_slice-in-Some-Some-2.ensures, c.action.ensures, c.action-in-Some-Some.ensures, c.as_slice.ensures.value, c.as_slice-in-Some-Some.ensures.value, to_z-of_z c.ranges.version) at c.success_response_text.ensures in
     let can = two_can (code_action_of requested OneUse here) (code_action_of requested Everywhere everywhere)
     (shallow_action requested.client requested.uri requested.version here (title OneUse)) (shallow_action requested.client requested.uri requested.version everywhere (title Everywhere)) in
-    rw (c.in-Some-Some.is-0, c.in-Some-Some.is-1) (IfOk-weaker c.answer_text.result _ _ (λ bytes sent. sent can) there)
+    rw (c.in-Some-Some.is-0, c.in-Some-Some.is-1) (IfOk-weaker c.success_response_text.result _ _ (λ bytes sent. sent can) there)

@@ -8,5 +8,5 @@ pub returns : goal.returns
 returns c =
     let requested = actions_request_view c.args.self.now c.args.version in
     let es = c.args.edits.now in
-    let there = rw (c.as_slice.ensures, c.action.ensures, to_z-of_z c.ranges.version) at c.answer_text.ensures in
-    IfOk-weaker c.answer_text.result _ _ (λ bytes sent. sent (one_can (code_action_of requested c.args.how es) (shallow_action requested.client requested.uri requested.version es (title c.args.how)))) there
+    let there = rw (c.as_slice.ensures, c.action.ensures, to_z-of_z c.ranges.version) at c.success_response_text.ensures in
+    IfOk-weaker c.success_response_text.result _ _ (λ bytes sent. sent (one_can (code_action_of requested c.args.how es) (shallow_action requested.client requested.uri requested.version es (title c.args.how)))) there

@@ -25,4 +25,4 @@ returns-in-None g c =
     let text : List ℕ = g.T.TextStore.content c.args.text.now in
     let is = λ (r : Resolution) (found : Option Hover). option_map hover_view found ≡ hover_at_offset r c.offset-offset.result in
     let found = found_of c.args.analysis.now text is c.in_ok-found.field-0 c.in_ok-found.ensures.utf8 (sym c.requires) c.in_ok-found.ensures.found in
-    IfOk-weaker c.answer_text.result _ _ (λ bytes sent. (null, inr (subst (λ (a : Option (Option Hover)). FoundOf text is a) c.in-None.is found, refl), sent null_can_be_sent)) c.answer_text.ensures
+    IfOk-weaker c.success_response_text.result _ _ (λ bytes sent. (null, inr (subst (λ (a : Option (Option Hover)). FoundOf text is a) c.in-None.is found, refl), sent null_can_be_sent)) c.success_response_text.ensures

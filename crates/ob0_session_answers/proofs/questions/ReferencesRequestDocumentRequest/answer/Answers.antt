@@ -2,7 +2,7 @@ use Rattle.std.proofs.Common.{◌≡◌, ℕ, List, Option, Vec, Global, map, in
 use Rattle.std.proofs.lemmas.Result.{IfOk-weaker}
 use Rattle.serde_json.specs.Data.{Data, array}
 use Rattle.serde_json.specs.View.{items_of}
-use Rattle.ob0_rpc.specs.MessageViews.{document_place_view, id_data}
+use Rattle.ob0_rpc.specs.MessageViews.{document_place_view, json_of_id}
 use Rattle.ob0_rpc.specs.Shapes.{result_message}
 use Rattle.ob0_rpc.specs.Writing.{Writes}
 use Rattle.ob0_scan.specs.declared.lexeme.Span.{Span}
@@ -17,7 +17,7 @@ returns-in-Some g c =
     let unit = g.T.TextStore.unit_of c.args.text.now in
     let text : List ℕ = g.T.TextStore.content c.args.text.now in
     let at = document_place_view c.args.self.now.place.now in
-    let id = id_data c.args.self.now.id.now in
+    let id = json_of_id c.args.self.now.id.now in
     let is = λ (r : Resolution) (found : Vec Span Global). AreReferencesAt r c.offset.result c.args.self.now.include_declaration found.items in
     let found = found_of c.args.analysis.now text is c.in_ok-found.field-0 c.in_ok-found.ensures.utf8 (sym c.requires) c.in_ok-found.ensures.found in
     let there = subst (λ (a : Option (Vec Span Global)). FoundOf text is a) c.in-Some.is found in

@@ -7,5 +7,5 @@ use Rattle.ob0_session_answers.proofs.renaming.RenameRequest.answer_with_edits.G
 pub returns : goal.returns
 returns c =
     let requested = rename_request_view c.args.self.now c.args.version in
-    let there = rw (to_z-of_z c.ranges.version, c.as_str.ensures.value) at c.answer_text.ensures in
-    IfOk-weaker c.answer_text.result _ _ (λ bytes sent. sent (workspace_edit_can_be_sent requested.client requested.at.uri requested.version c.args.edits.now)) there
+    let there = rw (to_z-of_z c.ranges.version, c.as_str.ensures.value) at c.success_response_text.ensures in
+    IfOk-weaker c.success_response_text.result _ _ (λ bytes sent. sent (workspace_edit_can_be_sent requested.client requested.at.uri requested.version c.args.edits.now)) there

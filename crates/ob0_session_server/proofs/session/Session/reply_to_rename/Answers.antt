@@ -1,6 +1,6 @@
 use Rattle.std.proofs.Common.{ap, refl}
 use Rattle.std.proofs.lemmas.Result.{IfOk-weaker}
-use Rattle.ob0_rpc.specs.MessageViews.{document_place_view, id_data}
+use Rattle.ob0_rpc.specs.MessageViews.{document_place_view, json_of_id}
 use Rattle.ob0_session_answers.specs.Renamed.{RepliesToRename}
 use Rattle.ob0_session_server.specs.Answers.{renames}
 use Rattle.ob0_session_server.proofs.Answering.{reacts_about}
@@ -10,7 +10,7 @@ pub returns : goal.returns
 returns g c =
     let s = c.args.self.now in
     let place = document_place_view c.args.place.now in
-    let id = id_data c.args.id.now in
+    let id = json_of_id c.args.id.now in
     IfOk-weaker c.reply_about_document.result _ _ (λ sent h.
     reacts_about s c.reply_about_document.new.self id place.uri (λ version. renames s.held.unit (record { id = id; client = s.client; at = place; version = version; new = c.args.new.now }))
     (λ version unit text message. RepliesToRename unit (record { id = id; client = s.client; at = place; version = version; new = c.args.new.now }) text message) sent

@@ -2,9 +2,9 @@ use Rattle.std.proofs.Common.{◌++◌, None, sym, ap, ◌∙◌}
 use Rattle.ob0_tree.proofs.Viewed.{block_parts, procedure_made}
 use Rattle.ob0_tree.specs.declared.tree.Block.{out-Block}
 use Rattle.ob0_tree.specs.declared.tree.Procedure.{out-Procedure, roll-out-Procedure}
-use Rattle.ob0_tree.specs.View.{block_of, formals_of, items_of, procedure_of, types_of, variables_of}
+use Rattle.ob0_tree.specs.View.{block_of, formals_of, items_of, procedure_of, type_section_of, variable_section_of}
 use Rattle.ob0_types_fields.specs.FieldTypes.{constructed_types}
-use Rattle.ob0_types_fields.specs.Search.{state_after_constructors, constructor_walk_meanings, search_view_in_walk, shape_in_walk}
+use Rattle.ob0_types_fields.specs.ConstructorSearch.{state_after_constructors, constructor_walk_meanings, search_view_in_walk, shape_in_walk}
 use Rattle.ob0_types_fields.proofs.ConstructorWalks.{after_both, found_stays, items_end, items_go_on}
 use Rattle.ob0_types_fields.proofs.field_types.ConstructorWalk.+blocks.Goals as goal
 
@@ -17,8 +17,8 @@ search_block-returns t c =
     let b = out-Block c.args.b.now in
     let m = constructor_walk_meanings c.args.self.now in
     let start = search_view_in_walk c.args.self.now c.args.search in
-    let ts = constructed_types m None (types_of b.types) in
-    let vs = constructed_types m None (variables_of b.variables) in
+    let ts = constructed_types m None (type_section_of b.types) in
+    let vs = constructed_types m None (variable_section_of b.variables) in
     let ps = constructed_types m None (items_of procedure_of b.procedures.items) in
     items_end c.loop-p.invariant c.loop-p-test.false
     ∙ (λ i. state_after_constructors (c.search_variable_section-search.ensures i) (constructed_types m None (items_of procedure_of (c.deref-p-items.ensures.value i))))

@@ -2,7 +2,7 @@ use Rattle.std.proofs.Common.{sym, ap, ◌∙◌}
 use Rattle.ob0_tree.proofs.Viewed.{made_record_type}
 use Rattle.ob0_tree.specs.View.{further_field_group_of, items_of, type_of}
 use Rattle.ob0_types_fields.specs.FieldTypes.{constructed_types}
-use Rattle.ob0_types_fields.specs.Search.{state_after_constructors, constructor_walk_meanings, search_view_in_walk, shape_in_walk}
+use Rattle.ob0_types_fields.specs.ConstructorSearch.{state_after_constructors, constructor_walk_meanings, search_view_in_walk, shape_in_walk}
 use Rattle.ob0_types_table.specs.KnownTables.{shapes_of}
 use Rattle.ob0_types_fields.proofs.ConstructorWalks.{items_end, items_go_on, record_walked}
 use Rattle.ob0_types_fields.proofs.field_types.ConstructorWalk.+types.Goals as goal

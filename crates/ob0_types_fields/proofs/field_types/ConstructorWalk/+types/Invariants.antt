@@ -1,5 +1,5 @@
 use Rattle.ob0_tree.specs.View.{further_field_group_of}
-use Rattle.ob0_types_fields.specs.Search.{constructor_walk_meanings, search_view_in_walk, shape_in_walk}
+use Rattle.ob0_types_fields.specs.ConstructorSearch.{constructor_walk_meanings, search_view_in_walk, shape_in_walk}
 use Rattle.ob0_types_fields.proofs.ConstructorWalks.{OverItems}
 use Rattle.ob0_types_fields.proofs.field_types.ConstructorWalk.+types.Given as goal
 

@@ -1,4 +1,4 @@
-use Rattle.ob0_types_fields.specs.Search.{search_view_in_walk}
+use Rattle.ob0_types_fields.specs.ConstructorSearch.{search_view_in_walk}
 use Rattle.ob0_types_fields.proofs.ConstructorWalks.{items_go_on}
 use Rattle.ob0_types_fields.proofs.field_types.ConstructorWalk.search_formals.Goals as goal
 

@@ -1,7 +1,7 @@
 use Rattle.std.proofs.Common.{ap, ◌∙◌}
 use Rattle.ob0_tree.specs.View.{type_of}
 use Rattle.ob0_types_fields.specs.FieldTypes.{constructed_types}
-use Rattle.ob0_types_fields.specs.Search.{state_after_constructors, constructor_walk_meanings, search_view_in_walk}
+use Rattle.ob0_types_fields.specs.ConstructorSearch.{state_after_constructors, constructor_walk_meanings, search_view_in_walk}
 use Rattle.ob0_types_fields.proofs.ConstructorWalks.{items_go_on}
 use Rattle.ob0_types_fields.proofs.field_types.ConstructorWalk.search_type_section.Goals as goal
 

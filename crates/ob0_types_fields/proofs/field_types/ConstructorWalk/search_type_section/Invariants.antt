@@ -1,6 +1,6 @@
 use Rattle.std.proofs.Common.{None}
 use Rattle.ob0_tree.specs.View.{type_declaration_of}
-use Rattle.ob0_types_fields.specs.Search.{constructor_walk_meanings, search_view_in_walk}
+use Rattle.ob0_types_fields.specs.ConstructorSearch.{constructor_walk_meanings, search_view_in_walk}
 use Rattle.ob0_types_fields.proofs.ConstructorWalks.{OverItems}
 use Rattle.ob0_types_fields.proofs.field_types.ConstructorWalk.search_type_section.Given as goal
 

@@ -1,8 +1,8 @@
 use Rattle.std.proofs.Common.{◌≡◌, ◌++◌, IfOk, Option, Some, option_and_then, option_map, sym, ap, ◌∙◌, subst}
 use Rattle.ob0_language_types.specs.Typing.{field_type}
 use Rattle.ob0_types_table.specs.KnownTables.{shapes_of}
-use Rattle.ob0_types_table.specs.Parts.{parts_shape}
-use Rattle.ob0_types_table.specs.Tables.{type_shape}
+use Rattle.ob0_types_table.specs.TypeWithParts.{shape_of_type_with_parts}
+use Rattle.ob0_types_table.specs.DeclarationTableView.{type_shape}
 use Rattle.ob0_types_fields.specs.Owned.{field_if_owned, owner}
 use Rattle.ob0_types_fields.specs.Walk.{field_walk_meanings, record_shape_in_walk}
 use Rattle.ob0_language_values.specs.Values.{Shape}
@@ -13,7 +13,7 @@ returns-in-Record-clause-found c =
     let w = c.args.self.now in
     let shapes = shapes_of w.table.now in
     let base : Some (record_shape_in_walk w c.in-Record.shape.now) ≡ option_map (type_shape shapes) c.args.base =
-    ap Some (ap (parts_shape shapes) (sym c.in-Record.is) ∙ c.parts.ensures.shape) ∙ ap (option_map (type_shape shapes)) (sym c.in-Some.is) in
+    ap Some (ap (shape_of_type_with_parts shapes) (sym c.in-Record.is) ∙ c.parts.ensures.shape) ∙ ap (option_map (type_shape shapes)) (sym c.in-Some.is) in
     subst (λ (s : Option Shape). IfOk c.add_record_selection.result (λ _. c.add_record_selection.new.found.items ≡ c.args.found.now.items ++ field_if_owned c.args.name (owner s ((field_walk_meanings w).written c.args.name)))) base c.add_record_selection.ensures.found
 
 pub returns-in-Record-clause-following : goal.returns-in-Record-clause-following
@@ -22,5 +22,5 @@ returns-in-Record-clause-following c =
     let shapes = shapes_of w.table.now in
     let x = (field_walk_meanings w).written c.args.name in
     let base : Some (record_shape_in_walk w c.in-Record.shape.now) ≡ option_map (type_shape shapes) c.args.base =
-    ap Some (ap (parts_shape shapes) (sym c.in-Record.is) ∙ c.parts.ensures.shape) ∙ ap (option_map (type_shape shapes)) (sym c.in-Some.is) in
+    ap Some (ap (shape_of_type_with_parts shapes) (sym c.in-Record.is) ∙ c.parts.ensures.shape) ∙ ap (option_map (type_shape shapes)) (sym c.in-Some.is) in
     subst (λ (s : Option Shape). IfOk c.add_record_selection.result (λ t. option_map (type_shape shapes) t ≡ option_and_then (λ z. field_type z x) s)) base c.add_record_selection.ensures.following

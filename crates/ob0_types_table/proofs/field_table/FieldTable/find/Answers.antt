@@ -1,7 +1,7 @@
 use Rattle.std.proofs.Common.{option_map, ap, ◌∙◌}
 use Rattle.ob0_types_table.specs.FieldIndex.{type_of_first_field_named}
 use Rattle.ob0_types_table.specs.declared.field_table.FirstField.{FirstField}
-use Rattle.ob0_types_table.specs.Tables.{field_shapes, type_shape}
+use Rattle.ob0_types_table.specs.DeclarationTableView.{field_shapes, type_shape}
 use Rattle.ob0_language_types.specs.Typing.{shape_of_field}
 use Rattle.ob0_types_table.proofs.FirstFields.{first_field_named_from-shape, first_field_named_from-type}
 use Rattle.ob0_types_table.proofs.field_table.FieldTable.find.Goals as goal

@@ -1,7 +1,7 @@
 use Rattle.std.proofs.Common.{option_map, ap, ◌∙◌}
 use Rattle.ob0_types_table.specs.declared.field_table.FirstField.{FirstField}
 use Rattle.ob0_types_table.specs.FieldPlaces.{position_of_field}
-use Rattle.ob0_types_table.specs.Tables.{field_shapes}
+use Rattle.ob0_types_table.specs.DeclarationTableView.{field_shapes}
 use Rattle.ob0_types_table.proofs.FirstFields.{first-place}
 use Rattle.ob0_types_table.proofs.field_table.FieldTable.index_of_name.Goals as goal
 

@@ -1,6 +1,6 @@
 use Rattle.std.proofs.Common.{Some, ap, arith, sym, ◌∙◌}
 use Rattle.std.proofs.lemmas.Option.{slice_get-get_or, slice_get_past}
-use Rattle.ob0_types_table.proofs.Tables.{counted_at-table, shape_at-past, shape_at-table}
+use Rattle.ob0_types_table.proofs.DeclarationTableView.{counted_at-table, shape_at-past, shape_at-table}
 use Rattle.ob0_types_table.proofs.known.DeclarationTable.entry.Goals as goal
 
 pub returns-then-place-len : goal.returns-then-place-len

@@ -25,15 +25,15 @@ check_expression-returns-in-Factor t c =
 pub check_expression-returns-in-CompoundExpression : goal.check_expression-returns-in-CompoundExpression
 check_expression-returns-in-CompoundExpression t c =
     let facts = facts_in c.args.self.now c.args.only_constants in
-    IfOk-weaker c.check_compound.result _ _ (λ o h. reports_same h (ap (λ e. report_on_expression facts (compound_expression_of e)) c.deref.ensures ∙ sym (ap (λ e. report_on_expression facts (expression_of e)) c.in-CompoundExpression.is))) c.check_compound.ensures
+    IfOk-weaker c.check_compound_expression.result _ _ (λ o h. reports_same h (ap (λ e. report_on_expression facts (compound_expression_of e)) c.deref.ensures ∙ sym (ap (λ e. report_on_expression facts (expression_of e)) c.in-CompoundExpression.is))) c.check_compound_expression.ensures
 
-pub check_compound-returns-in-None : goal.check_compound-returns-in-None
-check_compound-returns-in-None t c =
+pub check_compound_expression-returns-in-None : goal.check_compound_expression-returns-in-None
+check_compound_expression-returns-in-None t c =
     let facts = facts_in c.args.self.now c.args.only_constants in
     reports_same c.in_ok-left.ensures (sym (ap (report_on_expression facts) (compound_alone c.args.c.now c.in-None.is) ∙ alone_reported facts (simple_expression_of (out-CompoundExpression c.args.c.now).left)))
 
-pub check_compound-returns-in_ok-right-in-Some : goal.check_compound-returns-in_ok-right-in-Some
-check_compound-returns-in_ok-right-in-Some t c =
+pub check_compound_expression-returns-in_ok-right-in-Some : goal.check_compound_expression-returns-in_ok-right-in-Some
+check_compound_expression-returns-in_ok-right-in-Some t c =
     let facts = facts_in c.args.self.now c.args.only_constants in
     let compared = out-Comparison c.deref-compared.result.now in
     let left = simple_expression_of (out-CompoundExpression c.args.c.now).left in

@@ -8,9 +8,9 @@ use Rattle.ob0_types_check.proofs.reporting.checker_state.CheckerState.add_known
 pub returns : goal.returns
 returns c = λ g h.
     let old = c.args.gathered.now in
-    let next : gathering.KnownFields = record { fields = c.add.new.self.fields; size = c.combine-gathered.result } in
+    let next : gathering.KnownFields = record { fields = c.add.new.self.fields; size = c.size_of_both-gathered.result } in
     let w = size_of c.size_of.result in
     one_more g c.args.self.now old next c.args.name c.args.of w h
     (c.in_ok-add.ensures.fields ∙ ap (λ n. known_fields_of old.fields.items ++ record { name = n; of = c.args.of } ∷ []) c.text.ensures)
-    (c.combine-gathered.ensures ∙ ap (λ z. capped_size (sum_of_sizes (size_of z) w)) c.in_ok-add.ensures.size)
+    (c.size_of_both-gathered.ensures ∙ ap (λ z. capped_size (sum_of_sizes (size_of z) w)) c.in_ok-add.ensures.size)
     c.size_of.ensures

@@ -12,7 +12,7 @@ pub returns-then-formals-arguments : goal.returns-then-formals-arguments
 returns-then-formals-arguments c =
     let facts = facts_in c.args.self.now false in
     let differs = count_differs facts c.args.procedure c.args.formals.now c.args.arguments.now c.if-formals-arguments.true in
-    on_ok_weaker c.report_at.result (λ h. h ∙ sym (ap (λ f. c.args.faults.now.items ++ f) differs)) c.report_at.ensures
+    on_ok_weaker c.report_at_token.result (λ h. h ∙ sym (ap (λ f. c.args.faults.now.items ++ f) differs)) c.report_at_token.ensures
 
 pub loop-formal-preserved : goal.loop-formal-preserved
 loop-formal-preserved c =

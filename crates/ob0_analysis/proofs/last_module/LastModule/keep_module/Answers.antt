@@ -1,8 +1,0 @@
-use Rattle.std.proofs.Common.{sym}
-use Rattle.ob0_analysis.proofs.LastModule.{is_last}
-use Rattle.ob0_analysis.proofs.last_module.LastModule.keep_module.Goals as goal
-
-pub returns : goal.returns
-returns c =
-    let wider = c.in_ok-wider.ensures in
-    is_last c.args.tokens.now c.args.tree.now c.args.bindings c.args.types c.args.same c.in_ok-wider.wider c.in_ok-place.place c.requires wider.0 (rw c.tokens.ensures at wider.1) (sym c.in_ok-place.ensures)

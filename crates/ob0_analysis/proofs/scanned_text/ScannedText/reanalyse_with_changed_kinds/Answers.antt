@@ -1,6 +1,0 @@
-use Rattle.ob0_analysis.proofs.scanned_text.ScannedText.reanalyse_with_changed_kinds.Goals as goal
-
-pub analyse_tokens-requires-clause-kept : goal.analyse_tokens-requires-clause-kept
-analyse_tokens-requires-clause-kept c =
-    let before = c.requires in
-    c.in_ok-kept.ensures before.old.tokens _ before.same (c.from_tree.ensures before.old before.parsed)

@@ -1,9 +1,0 @@
-use Rattle.std.proofs.Common.{rules, arith}
-use Rattle.ob0_parse.proofs.Moved.{next, ends, arguments_moved}
-use Rattle.ob0_parse.proofs.leaf_moves.move_arguments.Goals as goal
-
-pub loop-i-preserved : goal.loop-i-preserved
-loop-i-preserved c = next c.loop-i.invariant (search (rules, arith)) c.index_mut.ensures.value c.move_expression.ensures
-
-pub returns : goal.returns
-returns c = arguments_moved c.args.by _ _ (ends c.loop-i.invariant.1 (search (rules, arith)))

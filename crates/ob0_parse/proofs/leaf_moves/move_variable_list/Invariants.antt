@@ -1,7 +1,0 @@
-use Rattle.std.proofs.Common.{◌≡◌, length}
-use Rattle.ob0_tree.specs.View.{variable_of}
-use Rattle.ob0_parse.proofs.Moved.{MovedTrees}
-use Rattle.ob0_parse.proofs.leaf_moves.move_variable_list.Given as goal
-
-abbrev pub invariant-loop-i : goal.invariant-loop-i
-invariant-loop-i l = (length l.listed.items ≡ length l.initial.listed.items) × MovedTrees variable_of l.by l.initial.listed.items l.i l.listed.items

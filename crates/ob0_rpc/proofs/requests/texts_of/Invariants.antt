@@ -1,9 +1,0 @@
-use Rattle.std.proofs.Common.{◌≡◌, ◌++◌, drop, map, option_map, string_bytes}
-use Rattle.serde_json.specs.View.{items_view}
-use Rattle.ob0_rpc.specs.Requesting.{texts_of}
-use Rattle.ob0_rpc.proofs.requests.texts_of.Given as goal
-
--- The loop's invariant: all texts are the texts so far, followed by the texts of the remaining
--- items.
-abbrev pub invariant-loop-item : goal.invariant-loop-item
-invariant-loop-item l = texts_of (items_view l.items) ≡ option_map (λ later. map string_bytes l.texts.items ++ later) (texts_of (items_view (drop l.item-index l.items)))

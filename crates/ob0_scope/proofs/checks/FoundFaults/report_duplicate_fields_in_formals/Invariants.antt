@@ -1,7 +1,0 @@
-use Rattle.ob0_scope_table.specs.DuplicatesAndEndNames.{duplicate_field_faults_in_formals}
-use Rattle.ob0_tree.specs.View.{items_of, further_parameter_section_of}
-use Rattle.ob0_scope.proofs.Checking.{Gathering}
-use Rattle.ob0_scope.proofs.checks.FoundFaults.report_duplicate_fields_in_formals.Given as goal
-
-abbrev pub invariant-loop-s : goal.invariant-loop-s
-invariant-loop-s l = Gathering (λ xs. duplicate_field_faults_in_formals l.tokens (items_of further_parameter_section_of xs)) l.s-items l.initial.self l.s-index l.self

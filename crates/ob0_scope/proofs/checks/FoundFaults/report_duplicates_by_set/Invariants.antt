@@ -1,5 +1,0 @@
-use Rattle.ob0_scope.proofs.Checking.{Seeing, has}
-use Rattle.ob0_scope.proofs.checks.FoundFaults.report_duplicates_by_set.Given as goal
-
-abbrev pub invariant-loop-name : goal.invariant-loop-name
-invariant-loop-name l = Seeing l.tokens l.names l.initial.self l.name-index (has l.seen) l.self

@@ -1,0 +1,30 @@
+-- Defines faults whose places are tokens, and the spans that these faults have in a text.
+-- Rule: none; used in contracts about the faults of names and types.
+use Rattle.std.specs.Prelude.{ℕ, ◌-◌, min, length}
+use Rattle.ob0_scan.specs.declared.fault.Fault.{Fault}
+use Rattle.ob0_scan.specs.declared.fault.FaultCode.{FaultCode}
+use Rattle.ob0_scan.specs.TextWithTokens.{TextWithTokens}
+use Rattle.ob0_scope_table.specs.Spans.{span_at}
+use Rattle.ob0_scope_table.specs.declared.faults.FaultAtTokens.{FaultAtTokens}
+
+-- returns the fault with this code at one token
+abbrev pub fault_at_token : FaultCode → ℕ → FaultAtTokens
+fault_at_token c token = record { code = c; first = token; last = token }
+
+-- Returns the index of a token in a text with `count` tokens. A token that doesn't exist counts as
+-- the last token. Returns 0 if the text has no tokens.
+abbrev pub token_or_last : ℕ → ℕ → ℕ
+token_or_last count token = min token (count - 1)
+
+-- returns a fault with its span in the text `source`, which goes from the start of the fault's first
+-- token to the end of its last token
+abbrev pub fault_with_span : TextWithTokens → FaultAtTokens → Fault
+fault_with_span source f =
+    record {
+      code = f.code;
+      span =
+          record {
+            start = (span_at source (token_or_last (length source.tokens) f.first)).start;
+            end = (span_at source (token_or_last (length source.tokens) f.last)).end;
+          };
+    }

@@ -1,0 +1,13 @@
+use Rattle.std.proofs.Common.{sym, ap, ◌∙◌}
+use Rattle.ob0_language_names.specs.Parts.{section_variables}
+use Rattle.ob0_tree.specs.View.{variable_section_of}
+use Rattle.ob0_types_check.specs.DeclarationFaults.{report_on_variable_declarations}
+use Rattle.ob0_types_check.specs.CheckerViews.{declarations_in_state}
+use Rattle.ob0_types_check.proofs.Chains.{reports_nothing, reports_same}
+use Rattle.ob0_types_check.proofs.ReportedDeclarations.{variables_ended}
+use Rattle.ob0_types_check.proofs.reporting.ReportingWalk.report_variable_section.Goals as goal
+
+pub returns-in-None : goal.returns-in-None
+returns-in-None c =
+    let p = declarations_in_state c.args.self.now.checker_state in
+    reports_same (reports_nothing c.args.self.now.faults.items p) (sym (ap (λ z. report_on_variable_declarations p (section_variables (variable_section_of z))) c.in-None.is ∙ variables_ended p))
