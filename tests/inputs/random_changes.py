@@ -105,6 +105,30 @@ def statement_at(text: str, chance: random.Random) -> tuple[int, int, str]:
     return place, place, f"; {chance.choice([*same, f'{one} := {other}', one])} "
 
 
+# After which of these a statement or a declaration begins.
+BEFORE_PARTS = {";", "BEGIN", "THEN", "ELSE", "DO", "REPEAT", "CONST", "TYPE", "VAR"}
+
+
+def part_of(text: str, chance: random.Random) -> tuple[int, int]:
+    """A whole statement, declaration or procedure, with the semicolon after it; an empty range if the text has none."""
+    found = list(LEXEME.finditer(text))
+    ends = [at for at, it in enumerate(found) if it[0] == ";" and at > 2]
+    if not ends:
+        return 0, 0
+    end = chance.choice(ends)
+    heads = [at for at in range(end) if found[at][0] == "PROCEDURE" and found[at + 1][0] == found[end - 1][0]]
+    if found[end - 2][0] == "END" and heads:
+        return found[heads[-1]].start(), found[end].end()
+    before = [at for at in range(end) if found[at][0] in BEFORE_PARTS]
+    first = before[-1] + 1 if before else 0
+    return found[first].start(), found[end].end()
+
+
+def place_of_part(text: str, chance: random.Random) -> int:
+    """A place where a statement or a declaration may begin, or the text's start if it has none."""
+    return chance.choice([it.end() for it in LEXEME.finditer(text) if it[0] in BEFORE_PARTS] or [0])
+
+
 def replacement(text: str, chance: random.Random) -> str:
     """What is put in: nothing, a piece, or a lexeme or a part of the text."""
     way = chance.random()
@@ -129,6 +153,7 @@ class Edited:
         self.undo: list[tuple[int, str, str]] = []  # where something was put in, that, and what was there
         self.typing: list[str] = []  # what is left of a statement that is being typed
         self.cursor = 0  # where it goes
+        self.moved = ""  # what was taken out, to be put in somewhere else
 
     def put(self, start: int, end: int, new: str) -> Message:
         """Changes the text, and gives the change."""
@@ -141,21 +166,32 @@ class Edited:
         if self.typing and self.chance.random() < 0.8:
             return self.type(self.cursor, self.typing)
         self.typing = []
+        if self.moved and self.chance.random() < 0.8:
+            place, moved = place_of_part(self.text, self.chance), self.moved
+            self.moved = ""
+            return self.exchange(place, place, f" {moved}")
         if self.undo and (self.chance.random() < 0.57 or len(self.text) > 6000):
             start, new, old = self.undo.pop()
             return self.put(start, start + len(new), old)
         way = self.chance.random()
-        if way < 0.22:
+        if way < 0.2:
             start, end, new = blank_at(self.text, self.chance)
-        elif way < 0.6:
+        elif way < 0.56:
             start, end, new = word_at(self.text, self.chance)
-        elif way < 0.78:
+        elif way < 0.64:
+            start, end = part_of(self.text, self.chance)
+            self.moved, new = self.text[start:end], ""
+        elif way < 0.82:
             start, end, new = statement_at(self.text, self.chance)
-            if way < 0.72 and new[0] == ";" and is_border(self.text, start) and ways.is_module(self.text):
+            if way < 0.76 and new[0] == ";" and is_border(self.text, start) and ways.is_module(self.text):
                 return self.type(start, re.findall(r"\s*\S{1,3}|\s+", new))
         else:
             start, end = at_random(self.text, self.chance)
             new = replacement(self.text, self.chance)
+        return self.exchange(start, end, new)
+
+    def exchange(self, start: int, end: int, new: str) -> Message | None:
+        """Puts something in the place of a range. Returns None if a position would be between CR and LF."""
         old = self.text[start:end]
         whole = self.text[:start] + new + self.text[end:]
         # (no position is between CR and LF, before the change or when it is taken back)
@@ -236,7 +272,7 @@ def converse(seed: int) -> Counter[str]:
 
 # What has to be among many changes: each kind, and changes of one body of a module with faults of each kind in each place.
 PLACES = ["before it", "in it", "after it"]
-WAYS = [*ways.SHORT, ways.DECLARATIONS, ways.TOKENS, ways.LEXEMES]
+WAYS = [*ways.SHORT, ways.PARSED, *ways.LONG, ways.LEXEMES]
 FAULTS = [f"{of} {where}" for of in ("names", "types") for where in PLACES]
 KINDS = [*WAYS, *FAULTS]
 ENOUGH = 10_000  # (the rarest kinds are in few conversations, some ten of a thousand changes or none)
@@ -248,8 +284,8 @@ def figures(conversations: list[Counter[str]]) -> str:
     count = len(conversations) * STEPS
     missing = [it for it in ["no fault", "statements without a fault", *KINDS] if not found[it]]
     holds(count < ENOUGH or not missing, f"of {count:,} changes none was {missing}")
-    short = sum(found[it] for it in ways.SHORT)
-    holds(count < 1000 or short * 2 > count, f"of {count:,} changes only {short:,} leave what is known but for one body")
+    long = sum(found[it] for it in ways.LONG)
+    holds(count < 1000 or long * 4 < count, f"after {long:,} of {count:,} changes the whole module is examined again")
     kinds = ", ".join(f"{found[it]:,} {it}" for it in WAYS)
     faults = ", ".join(f"{found[it]:,} of {it}" for it in FAULTS)
     return (f"{count:,} changes (after each what a new server says: {found['no fault']:,} texts without a fault; {kinds}; "

@@ -1,7 +1,7 @@
 """What can stay of an analysis after a change, by the rule of docs/ARCHITECTURE.md ("What is kept of a text"): all that is known
 where the tokens are written as they were; the tree or the refusal where they are of the kinds that they were, and then all bodies
 but one where the change lies in that one; and all else where the statements of one body were replaced by others, also where texts
-without a tree lie between."""
+without a tree lie between. Otherwise, if the text has a tree, all its names are bound and all its types are checked: the long way."""
 from __future__ import annotations
 
 from typing import List, NamedTuple, Optional
@@ -12,8 +12,10 @@ from reference.scanner import Token, scan
 
 WORDS, BODY, REFUSED, STATEMENTS = "written as before", "in one body", "refused alike", "other statements in one body"
 MENDED = "mended in one body"
-DECLARATIONS, TOKENS, LEXEMES = "not in one body", "other tokens", "faults of lexemes"
+DECLARATIONS, TOKENS = "not in one body", "another module"
+PARSED, LEXEMES = "refused at other tokens", "faults of lexemes"
 SHORT = (WORDS, BODY, REFUSED, STATEMENTS, MENDED)
+LONG = (DECLARATIONS, TOKENS)
 
 
 class Lexed(NamedTuple):
@@ -116,7 +118,9 @@ def way_of(old: Optional[Lexed], new: Optional[Lexed], module: Optional[Lexed]) 
     if [it.kind for it in old.tokens] != [it.kind for it in new.tokens]:
         if are_statements(old, new):
             return STATEMENTS, None
-        return (MENDED if module is not None and module is not old and are_statements(module, new) else TOKENS), None
+        if module is not None and module is not old and are_statements(module, new):
+            return MENDED, None
+        return (PARSED if tree_of(new) is None else TOKENS), None
     if [it.text for it in old.tokens] == [it.text for it in new.tokens]:
         return WORDS, None
     return changed_body(old, new)
