@@ -229,7 +229,7 @@ module _ (indent : Indent) (text : List ℕ) where
       → Passing (all_gaps indent text ss scan.lexemes) left comments ss None 0 0 out
   passing_at_start s scan ss left comments out text_is left_is comments_is out_is = record {
     rest = scan.lexemes;
-    indexed_terminals_from = subst (λ t. LexemesFrom t 0 scan.lexemes []) (sym text_is)
+    from_there = subst (λ t. LexemesFrom t 0 scan.lexemes []) (sym text_is)
         (record { utf8 = scan.utf8; place = IsCharBoundary-start s.text scan.utf8; each = scan.lexed.each; rest = sym (append-nil (text_of_lexemes scan.lexemes) ∙ scan.lexed.whole) });
     left_is = left_is ∙ scan.tokens;
     comments_is = comments_is ∙ scan.comments;

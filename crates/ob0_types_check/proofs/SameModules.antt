@@ -294,10 +294,10 @@ module _ (old new : TextWithTokens) (os ns : List (Option ℕ)) (P : ℕ → Typ
 
   -- ---- bodies
 
-  pub body_same : (p : KnownDeclarations) (b : Tree ℕ (maybe body)) → Each b → So (report_on_body (so_old p) b) (report_on_body (so_new p) b)
-  unfolding report_on_body
-  body_same p none h = rightly so_old so_new p
-  body_same p (one (begins statements)) h = record { value = p; before = refl; after = refl; faults = sequence_same old new os ns P w (types_so_far p.made) (declared_at p) false statements h }
+  pub body_same : (p : KnownDeclarations) (b : Tree ℕ (maybe body)) → Each b → body_faults (so_old p) b ≡ body_faults (so_new p) b
+  unfolding body_faults
+  body_same p none h = refl
+  body_same p (one (begins statements)) h = sequence_same old new os ns P w (types_so_far p.made) (declared_at p) false statements h
 
   -- ---- blocks and procedures
 
@@ -316,7 +316,7 @@ module _ (old new : TextWithTokens) (os ns : List (Option ℕ)) (P : ℕ → Typ
   }
 
   abbrev Walks : ResultWithFaults WalkProgress → ResultWithFaults WalkProgress → Type 0
-  Walks r s = Alike old new walked_old walked_new r s
+  Walks r s = Alike walked_old walked_new r s
 
   body_walked : (own : ℕ) (z : Both) (b : Tree ℕ (maybe body)) → Each b → Walks (report_body_if_wanted true own (walked_old z) b) (report_body_if_wanted true own (walked_new z) b)
   body_walked own z b h = record { value = after_body own z b; before = refl; after = refl; faults = body_same z.so b h }
@@ -332,28 +332,29 @@ module _ (old new : TextWithTokens) (os ns : List (Option ℕ)) (P : ℕ → Typ
   mutual
     unfolding report_on_block
 
-    pub block_same : (p : KnownDeclarations) (b : Tree ℕ block) → Each b → So (report_on_block (so_old p) b) (report_on_block (so_new p) b)
-    block_same p (forms_block (declares cs ts vs ps) statements) h =
-        goes_on (λ q. report_on_type_declarations q (section_types ts) >>= (λ r. report_on_variable_declarations r (section_variables vs) >>= (λ s. report_on_procedures s ps >>= (λ t. report_on_body t statements))))
-        (λ q. report_on_type_declarations q (section_types ts) >>= (λ r. report_on_variable_declarations r (section_variables vs) >>= (λ s. report_on_procedures s ps >>= (λ t. report_on_body t statements))))
-        (constants_same p (section_constants cs) (constants_each cs h.0.0))
+    pub block_same : (own : ℕ) (z : Both) (b : Tree ℕ block) → Each b → Walks (report_on_block every_body own (walked_old z) b) (report_on_block every_body own (walked_new z) b)
+    block_same own z (forms_block (declares cs ts vs ps) a) h =
+        goes_on (λ q. report_on_type_declarations q (section_types ts) >>= (λ r. report_on_variable_declarations r (section_variables vs) >>= (λ s. report_on_procedures every_body (with_declarations (walked_old z) s) ps >>= (λ t. report_body_if_wanted true own t a))))
+        (λ q. report_on_type_declarations q (section_types ts) >>= (λ r. report_on_variable_declarations r (section_variables vs) >>= (λ s. report_on_procedures every_body (with_declarations (walked_new z) s) ps >>= (λ t. report_body_if_wanted true own t a))))
+        (constants_same z.so (section_constants cs) (constants_each cs h.0.0))
         (λ q.
-        goes_on (λ r. report_on_variable_declarations r (section_variables vs) >>= (λ s. report_on_procedures s ps >>= (λ t. report_on_body t statements)))
-        (λ r. report_on_variable_declarations r (section_variables vs) >>= (λ s. report_on_procedures s ps >>= (λ t. report_on_body t statements)))
+        goes_on (λ r. report_on_variable_declarations r (section_variables vs) >>= (λ s. report_on_procedures every_body (with_declarations (walked_old z) s) ps >>= (λ t. report_body_if_wanted true own t a)))
+        (λ r. report_on_variable_declarations r (section_variables vs) >>= (λ s. report_on_procedures every_body (with_declarations (walked_new z) s) ps >>= (λ t. report_body_if_wanted true own t a)))
         (types_same q (section_types ts) (types_each ts h.0.1))
         (λ r.
-        goes_on (λ s. report_on_procedures s ps >>= (λ t. report_on_body t statements)) (λ s. report_on_procedures s ps >>= (λ t. report_on_body t statements))
+        goes_on (λ s. report_on_procedures every_body (with_declarations (walked_old z) s) ps >>= (λ t. report_body_if_wanted true own t a)) (λ s. report_on_procedures every_body (with_declarations (walked_new z) s) ps >>= (λ t. report_body_if_wanted true own t a))
         (variables_same r (section_variables vs) (variables_each vs h.0.2))
-        (λ s. goes_on (λ t. report_on_body t statements) (λ t. report_on_body t statements) (procedures_same s ps h.0.3) (λ t. body_same t statements h.1))))
+        (λ s. goes_on (λ t. report_body_if_wanted true own t a) (λ t. report_body_if_wanted true own t a) (procedures_same (further z s) ps h.0.3) (λ y. body_walked own y a h.1))))
 
-    procedures_same : (p : KnownDeclarations) (ps : Tree ℕ (items procedure)) → Each ps → So (report_on_procedures (so_old p) ps) (report_on_procedures (so_new p) ps)
-    procedures_same p end h = rightly so_old so_new p
-    procedures_same p (more d rest) h = goes_on (λ q. report_on_procedures q rest) (λ q. report_on_procedures q rest) (procedure_same p d h.0) (λ q. procedures_same q rest h.1)
+    procedures_same : (z : Both) (ps : Tree ℕ (items procedure)) → Each ps → Walks (report_on_procedures every_body (walked_old z) ps) (report_on_procedures every_body (walked_new z) ps)
+    procedures_same z end h = rightly walked_old walked_new z
+    procedures_same z (more d rest) h = goes_on (λ v. report_on_procedures every_body v rest) (λ v. report_on_procedures every_body v rest) (procedure_same z d h.0) (λ y. procedures_same y rest h.1)
 
-    procedure_same : (p : KnownDeclarations) (d : Tree ℕ (item procedure)) → Each d → So (report_on_procedure (so_old p) d) (report_on_procedure (so_new p) d)
-    procedure_same p (declares_procedure x fs b closing) h =
-        goes_on (λ g. report_on_block (declarations_after_heading x g) b) (λ g. report_on_block (declarations_after_heading x g) b) (sections_same (record { formals = []; following = p }) (formal_sections fs) (formals_each fs h.1))
-        (λ g. block_after b (λ q. block_same q b h.2) g x h.0)
+    procedure_same : (z : Both) (d : Tree ℕ (item procedure)) → Each d → Walks (report_on_procedure every_body (walked_old z) d) (report_on_procedure every_body (walked_new z) d)
+    procedure_same z (declares_procedure x fs b closing) h =
+        goes_on (λ g. report_on_block every_body closing (with_declarations (walked_old z) (declarations_after_heading x g)) b) (λ g. report_on_block every_body closing (with_declarations (walked_new z) (declarations_after_heading x g)) b)
+        (sections_same (record { formals = []; following = z.so }) (formal_sections fs) (formals_each fs h.1))
+        (λ g. block_after closing z b (λ y. block_same closing y b h.2) g x h.0)
 
 -- ---- a module
 
@@ -365,4 +366,4 @@ module_same old new same tree b =
     let P : ℕ → Type 0 = λ k. Unit {0} in
     let likeness : Alikeness old new b.ordinals.items b.ordinals.items P = record { count = same_count old new same; written = λ k u. λ j. same_texts old new same j k; value = λ k u. λ j. same_values old new same j k; bound = λ k u. refl } in
     let whole : Tree ℕ block = module_block (tree_of (parsed_module old tree)) in
-    ap (λ fs. filter is_undeclared_fault b.faults.items ++ fs) (block_same old new b.ordinals.items b.ordinals.items P likeness (known_declarations_at_start (resolution_with (parsed_module old tree) b)) whole (each_token P (λ k. tt) whole)).faults
+    ap (λ fs. filter is_undeclared_fault b.faults.items ++ fs) (block_same old new b.ordinals.items b.ordinals.items P likeness tree.closing (record { so = known_declarations_at_start (resolution_with (parsed_module old tree) b); in_old = []; in_new = [] }) whole (each_token P (λ k. tt) whole)).faults

@@ -121,12 +121,6 @@ one_then {Z} {A} {Y} {B} {f} {g} {h} {k} {t} {u} {v} J K next other another down
       same = reported_equal (ap (λ (x : ResultWithFaults B). x.known) last) (λ i. (a.same i).faults ++ (last i).faults);
     }
 
--- the state that both texts share, and the lists of bodies with faults in each of them
-record Both : Type 0 where
-  so : KnownDeclarations
-  in_old : List ℕ
-  in_new : List ℕ
-
 module _ (old new : TextWithTokens) (os ns : List (Option ℕ)) (P : ℕ → Type 0) (w : Alikeness old new os ns P) (wanted : ℕ → Bool) where
   abbrev walked_before : Both → WalkProgress
   walked_before z = walked_old old new os ns P w z
@@ -152,19 +146,13 @@ module _ (old new : TextWithTokens) (os ns : List (Option ℕ)) (P : ℕ → Typ
       → With (report_body_if_wanted true own (walked_before z) a) (report_body_if_wanted true own (walked_now z) a) (report_body_if_wanted (wanted own) own (walked_now z) a)
   body_with own z a each were = one (wanted own) refl each
     where
-      before_faults : List FaultAtTokens
-      before_faults = (report_on_body (so_before z.so) a).faults
-
-      now_faults : List FaultAtTokens
-      now_faults = (report_on_body (so_now z.so) a).faults
-
       at_end : Both
       at_end = after_body old new os ns P w own z a
 
       one : (b : Bool) → wanted own ≡ b → Unless b (EachTokenHas P a) → With (report_body_if_wanted true own (walked_before z) a) (report_body_if_wanted true own (walked_now z) a) (report_body_if_wanted b own (walked_now z) a)
       one true e each = record { value = at_end; before = refl; after = refl; same = refl }
       one false e each =
-          let none : now_faults ≡ [] = sym (body_same old new os ns P w z.so a each).faults ∙ none_unless before_faults own z.in_old e were in
+          let none : body_faults (walked_now z).so_far a ≡ [] = sym (body_same old new os ns P w z.so a each) ∙ none_unless (body_faults (walked_before z).so_far a) own z.in_old e were in
           record {
             value = at_end;
             before = refl;

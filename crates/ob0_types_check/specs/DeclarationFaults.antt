@@ -126,14 +126,14 @@ abbrev pub with_declarations : WalkProgress → KnownDeclarations → WalkProgre
 with_declarations w p = record { so_far = p; bodies_with_faults = w.bodies_with_faults }
 
 -- returns the faults of a body's statements; a missing body has no faults
-unfoldable pub body_faults : KnownDeclarations → Tree ℕ (maybe body) → List Fault
+unfoldable pub body_faults : KnownDeclarations → Tree ℕ (maybe body) → List FaultAtTokens
 unfolding sequence_faults
 body_faults p none = []
 body_faults p (one (begins statements)) = sequence_faults (facts_at p false) statements
 
 -- appends `own`, the closing name of a body's block, to the list `bodies_with_faults` if the body's list of faults
 -- isn't empty
-abbrev pub with_body_if_faulty : List Fault → ℕ → List ℕ → List ℕ
+abbrev pub with_body_if_faulty : List FaultAtTokens → ℕ → List ℕ → List ℕ
 with_body_if_faulty [] own bodies_with_faults = bodies_with_faults
 with_body_if_faulty (fault ∷ faults) own bodies_with_faults = bodies_with_faults ++ own ∷ []
 

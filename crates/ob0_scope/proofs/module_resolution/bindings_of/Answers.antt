@@ -18,6 +18,6 @@ returns c =
     let gone = c.in_ok-numbering.ensures
     ∙ ap (number_module (tree_of m)) (c.original_spellings.ensures ∙ ap original_spellings c.tokens-tokens.ensures.source) in
     let all = c.in_ok-report_undeclared.ensures ∙ (λ i. once ++ undeclared_faults_by_table (c.deref.ensures.value i) (c.deref-2.ensures.value i)) in
-    resolution_made m (listing.visit_module (tree_of m) (listing.initial_walk_state written)) parts.result.2.items parts.result.0.items parts.result.1.items once faults
+    resolution_made m (visit_module (tree_of m) (listing.initial_walk_state written)) parts.result.2.items parts.result.0.items parts.result.1.items once faults
     c.tokens-tokens.ensures.parsed refl (parts.ensures.table ∙ ap (λ (v : WalkState). v.marks) gone) (parts.ensures.declaration_tokens ∙ ap (λ (v : WalkState). v.declaration_tokens) gone)
     (parts.ensures.uses ∙ ap (λ (v : WalkState). v.uses) gone) c.in_ok-faults.ensures all
