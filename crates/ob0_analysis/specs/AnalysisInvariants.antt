@@ -43,8 +43,8 @@ IsValidParseOutcome (NoTree ill) =
 IsValidParseOutcome (Module m) = Unit {0}
 
 -- States that the failure to analyse the changed text is right. If the reason is lexical faults,
--- the text can't be scanned, and these are the lexical faults to report for it (`AreFaultsOfRefusedText`).
--- Always holds for lack of memory.
+-- the text can't be scanned, and these are the lexical faults to report for it
+-- (`AreFaultsOfRefusedText`). Always holds for lack of memory.
 abbrev pub IsRightReanalysisFailure : List ℕ → ReanalysisFailure → Type 0
 IsRightReanalysisFailure text (reanalysis_failure.Faults faults last) = (IsScannable text → ⊥) × AreFaultsOfRefusedText text faults.items
 IsRightReanalysisFailure text reanalysis_failure.Memory = Unit {0}
@@ -55,8 +55,8 @@ text_of_analysis_result (Unscannable ill) = string_bytes ill.text
 text_of_analysis_result (Read read) = read
 
 -- States that the result of analysing a text is right. If the result is lexical faults, the text
--- can't be scanned, and these are the lexical faults to report for it (`AreFaultsOfRefusedText`). For any other
--- result this always holds, because a `ScannedTextAnalysis` has its own invariant.
+-- can't be scanned, and these are the lexical faults to report for it (`AreFaultsOfRefusedText`).
+-- For any other result this always holds, because a `ScannedTextAnalysis` has its own invariant.
 abbrev pub IsValidAnalysisResult : AnalysisResult → Type 0
 IsValidAnalysisResult (Unscannable ill) =
     (IsScannable (string_bytes ill.text) → ⊥) × AreFaultsOfRefusedText (string_bytes ill.text) ill.faults.items

@@ -31,8 +31,8 @@ pub record IsEarlierModule
   pub written : PrefixAndSuffixHaveSameWords s old new
 
 -- States that `last` has the names and types of an earlier text that was a module. All tokens of
--- the earlier text that may differ from the current text `new` must lie in one body, and
--- `last.place` must have the token indexes that bound this body.
+-- the earlier text that may differ from the current text `new` must lie in one body. `last.place`
+-- must have the token indexes that bound this body.
 pub record IsLastModuleOf (new : TextWithTokens) (last : LastModule) : Type 0 where
   pub tree : ModuleTree
   pub earlier_module : IsEarlierModule new tree last.bindings last.types last.same
@@ -46,10 +46,10 @@ pub record WidensDifference (narrow wide : CommonPrefixAndSuffix) : Type 0 where
   pub back : narrow.old_suffix ≤ wide.old_suffix
   pub adds_equally_many_tokens : wide.new_suffix + narrow.old_suffix ≡ narrow.new_suffix + wide.old_suffix
 
--- States that a change from an old text to a new text keeps the last module right: if `before`
--- belongs to the old text, then `after` belongs to the new text. This must hold for any old text
--- and any scanned new text (`IsScan`) that share the tokens described by `change`. Always holds if
--- `after` is None.
+-- States that a change from an old text to a new text keeps the last module right. If `before`
+-- belongs to the old text, `after` belongs to the new text. This must hold for any old text and any
+-- scanned new text (`IsScan`) that share the tokens described by `change`. Always holds if `after`
+-- is None.
 abbrev pub KeepsLastModule : Option LastModule → CommonPrefixAndSuffix → Option LastModule → Type 0
 KeepsLastModule before change after =
     (old new : TextWithTokens)

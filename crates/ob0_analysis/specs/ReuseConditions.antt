@@ -37,9 +37,10 @@ pub record AreResultsKeptForPreviousText (c : RescanWithComparison) (kept_trees 
   pub same_kinds : c.same_kinds ≡ true → AreKeptTreesInPlace c.rescan.tokens.tokens kept_trees
   pub was : IfSome last (IsLastModuleOf old)
 
--- States that the previous text was a module with this tree, these bindings and this result of checking
--- its types. The scan `c` of the changed text must be right about the tokens that both texts share. If
--- `c` reports that all kinds, all names or all spellings are the same, `c` must also be right about that.
+-- States that the previous text was a module with this tree, these bindings and this result of
+-- checking its types. The scan `c` of the changed text must be right about the tokens that both
+-- texts share. If `c` reports that all kinds, all names or all spellings are the same, `c` must
+-- also be right about that.
 pub record WasModuleBeforeChange
     (c : RescanWithComparison) (tree : ModuleTree) (b : Bindings) (types : CheckResult) : Type 0 where
   pub earlier_module : IsEarlierModule c.rescan.tokens tree b types c.same

@@ -1,10 +1,10 @@
 //! Keeps the analysis of a text as one value, and updates it when the text changes.
 //!
 //! An `Analysis` owns one of two things:
-//! - For a text without lexical faults (a text that *has lexemes*), a `ScannedTextAnalysis`: the
-//!   parts of its module, or the parser's refusal and the tokens.
-//! - For a text with lexical faults, an `UnscannableTextAnalysis`: the text, its faults, and the
-//!   `ScannedTextAnalysis` of the last text that had lexemes, if it is kept.
+//! - For a text without lexical faults (a text that *has lexemes*), a `ScannedTextAnalysis`. It has
+//!   the parts of the module, or the parser's refusal and the tokens.
+//! - For a text with lexical faults, an `UnscannableTextAnalysis`. It has the text, its faults, and
+//!   the `ScannedTextAnalysis` of the last text that had lexemes, if this analysis is kept.
 //!
 //! In contracts, the value of an `Analysis` is only the text. Its invariant says that the analysis
 //! is right for that text (`IsValidAnalysisResult`, `IsValidParseOutcome`). So `analyse_text` and
@@ -18,15 +18,15 @@
 //!   has token indexes instead of names and numbers, so the new text has the same tree
 //!   (`tree_stays` of `ob0_parse`). Bindings are kept if the identifiers have the same spelling and
 //!   no name has a fault. If all tokens that may differ in spelling lie in one body, only the names
-//!   in that body are bound again, and the types outside the body are reused (`one_body.rt`).
-//!   Otherwise all names are bound and all types are checked again.
+//!   in that body are bound again. The types outside the body are reused (`one_body.rt`). Otherwise
+//!   all names are bound and all types are checked again.
 //! - All tokens have the same kinds as before, and the parser refused the old text: the refusal is
 //!   kept (`refusal_stays`). The parser looks only at kinds, so it would stop at the same token.
 //!   This saves the parsing for half of the keystrokes in an unfinished statement.
 //! - A kind has changed: the text is parsed, but procedures of the module's own block and the
 //!   module's body are reused (`reparse_tree`). If the tokens that differ lie in one body of both
-//!   modules, after the body's first identifier, all results outside the body are kept, with their
-//!   token indexes adapted (`new_body.rt`). The two modules are equal outside this body
+//!   modules, after its first identifier, all results outside the body are kept. Their token
+//!   indexes are adapted (`new_body.rt`). The two modules are equal outside this body
 //!   (`body_replaced` in `proofs/NewBody.antt`). Between the two modules there may be texts that
 //!   the parser refuses. Meanwhile the results for the earlier module are kept (`last_module.rt`).
 //!
@@ -36,11 +36,11 @@
 //! `types_depend_on_spellings` of `ob0_types`). Faults get their spans only when they are asked
 //! for.
 //!
-//! If a new text has lexical faults, all results for the last text that had lexemes are kept,
-//! because a failing scan returns the old tokens (`IsRightRescanRefusal`). The next successful scan
-//! starts from these tokens, after any number of texts with lexical faults. So if a bad character
-//! is typed and removed, nothing is lost. If the previous text or an earlier one was much longer
-//! than the new one (`MAX_SPARE_BYTES`, `room`), nothing is kept.
+//! If a new text has lexical faults, all results for the last text that had lexemes are kept. This
+//! is possible because a failing scan returns the old tokens (`IsRightRescanRefusal`). The next
+//! successful scan starts from these tokens, after any number of texts with lexical faults. So if a
+//! bad character is typed and removed, nothing is lost. If the previous text or an earlier one was
+//! much longer than the new one (`MAX_SPARE_BYTES`, `room`), nothing is kept.
 
 ghost use Rattle.std.specs.Prelude.{◌≡◌, ◌≤◌, IfErr, IfOk, MatchOption, length, map};
 ghost use Rattle.std.specs.Str.{IsUtf8};

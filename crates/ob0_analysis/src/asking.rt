@@ -1,13 +1,15 @@
 //! Answers questions about the module of a text, for example hover, definition and references.
 //!
 //! `ask` takes an analysis of the text. If the text is a well-typed module, `ask` passes the
-//! question a view of this module (`WellTyped`), built from the analysis's tokens, tree, bindings
-//! and types. Otherwise `ask` returns None, and `diagnoses` of the same analysis gives the reason.
+//! question a view of this module (`WellTyped`). The view is built from the analysis's tokens,
+//! tree, bindings and types. Otherwise `ask` returns None, and `diagnoses` of the same analysis
+//! gives the reason.
 //!
-//! A question is a struct with `impl Question`. The impl has the type `Answer` of the answers, the
-//! function `answer`, and a ghost member `answers = { λ question names answer. .. }`, which is the
-//! contract of `answer`. A contract about the characters of the text (`content`) is an implication
-//! with two conditions: `IsResolvedWellTypedModule (utf8 content) names` and
+//! A question is a struct with `impl Question`. The impl has the type `Answer` of the answers and
+//! the function `answer`. The contract of `answer` is the ghost member
+//! `answers = { λ question names answer. .. }`. A contract about the characters of the text
+//! (`content`) is an implication with two conditions:
+//! `IsResolvedWellTypedModule (utf8 content) names` and
 //! `content ≡ chars names.module_read.source.text`. If a question can be asked about only one text,
 //! the ghost member `is_about` states which text, and callers of `ask` must prove it.
 

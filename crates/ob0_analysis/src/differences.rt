@@ -4,8 +4,8 @@
 ghost use Rattle.std.specs.Prelude.{◌≡◌, ◌+◌, ◌-◌, ◌<◌, ◌≤◌, true, length, take, drop};
 ghost use Rattle.ob0_scan.specs.Reused.{ReplacesRange};
 
-/// A difference between two texts: the `removed` bytes at the byte offset `start` of the first text
-/// are replaced by `added` bytes in the second text.
+/// A difference between two texts. The second text has `added` bytes in place of the `removed`
+/// bytes at the byte offset `start` of the first text.
 #[derive(Clone, Copy, Debug, Drop, PartialEq, Eq)]
 pub(crate) struct TextDifference {
     pub(crate) start: usize,

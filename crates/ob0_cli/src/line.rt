@@ -1,20 +1,24 @@
 //! Reads the command line.
 //!
 //! To add a subcommand, write:
-//! - an `App` in `specs/Lines.antt`, and a case of `HasFoundValues`, `HasFilePath` and
+//! - an `App` in `specs/Lines.antt`, and a case in each of `HasFoundValues`, `HasFilePath` and
 //!   `HasNeededValues`;
-//! - in `proofs/Named.antt` a `.._fits` and a `.._needs`, by `refl` under
+//! - two lemmas in `proofs/Named.antt`, with names that end in `_fits` and `_needs`, by `refl` under
 //!   `unfolding clap_on_literals nth`;
-//! - if the `App` has several arguments, a line for each in the answers of its definition.
-//!   `add_argument` adds the arguments one after another, and needs each argument's clause `own`
-//!   (`global ≡ false`).
+//! - if the `App` has several arguments, a line for each argument in the proof of the function that
+//!   makes the subcommand. `add_argument` adds the arguments one after another, and needs each
+//!   argument's clause `own` (`global ≡ false`).
 //!
 //! Only the `App` of `serve` and `serve_definition` mention the options of `serve`.
 //!
-//! Traps: no `ghost` clause can depend on a `&str` parameter. So the greatest value of an option is
-//! a function of the option's name (`max_option_value`). In the files `Answers.antt` of the proofs,
-//! a local named `run` is called `run'`. A `where` block needs every `_` written out. Help texts
-//! are constants, one for each command. A test checks that their lines have at most 80 columns.
+//! Traps of the proofs:
+//! - No `ghost` clause can depend on a `&str` parameter. So the greatest value of an option is a
+//!   function of the option's name (`max_option_value`).
+//! - The files `Answers.antt` call a local variable `run` of the code `run'`.
+//! - A `where` block needs every `_` written out.
+//!
+//! Help texts are constants, one for each command. A test checks that their lines have at most 80
+//! columns.
 
 ghost use Rattle.std.specs.Prelude.{◌≡◌, ◌≢◌, ◌≤◌, Some, false, true, IfOk, IfErr, MatchOption, map};
 ghost use Rattle.clap.specs.Words.{App, Rule, app_of, first_of, found_of, new_app, rows_of, rule_of, subcommand_rows_of, with_rule, with_subcommand};

@@ -33,9 +33,9 @@ ChecksFile contents is_flushed has_failed before after IsPrintedOnStderr file st
     ⊎ EndsByFault has_failed before after file (MayStopCommandOnFile file) IsPrintedOnStderr status
 
 -- States that `run` ends with this status. With status 0 or 1, a run of the file's module on the
--- numbers of the input is printed, or the file's errors are printed (`RunEndsWithoutFault`). With
--- any other status, a fault ended the command (`EndsByFault`). At most `c` calls are open at a time
--- in the run, and each execution of a loop has at most `t` iterations.
+-- input's numbers is printed, or the file's errors are printed (`RunEndsWithoutFault`). With any
+-- other status, a fault ended the command (`EndsByFault`). At most `c` calls are open at a time in
+-- the run, and each execution of a loop has at most `t` iterations.
 abbrev pub RunsFile : {O I : Type 0}
     → (contents : O → Option (List ℕ))
     → (is_flushed has_failed : O → Bool)

@@ -71,8 +71,8 @@ OutputFailureMatchesFault before after f =
 
 -- ---- the faults that stop `run`
 
--- States that the file is a well-typed module, but that there are no numbers to run it on: the
--- input has failed (`input_failed`), or its bytes (`given`) are too long or aren't a list of
+-- States that the file is a well-typed module, but that there are no numbers to run it on. Either
+-- the input has failed (`input_failed`), or its bytes (`given`) are too long or aren't a list of
 -- numbers.
 abbrev pub ModuleLacksUsableInput : List ℕ → Option (List ℕ) → (input_failed : Bool) → Type 0
 ModuleLacksUsableInput file given input_failed = IsWellTypedModule file × IsUnusableInput given input_failed

@@ -55,7 +55,7 @@ PrintsCompleteRun file given c t before after =
     (r : Run) × PrintsRun file given c t before after r × (r.ending ≡ meaning_of_end end.Done)
 
 -- States that the run `r` of the file's module ends with a fault or at a bound (any end except
--- `Done`), and that its output is printed. The line that reports this end is printed on standard
+-- `Done`). The run's output is printed, and the line that reports this end is printed on standard
 -- error.
 pub record PrintsStoppedRun (file : List ℕ) (given : Option (List ℕ)) (c t : ℕ)
     (before after : Option (List ℕ)) (IsPrintedOnStderr : Option (List ℕ) → Type 0) : Type 0 where

@@ -63,8 +63,8 @@ fn parse_numbers(alloc: Global, text: &[u8]) -> Result<Option<Vec<i32>>, AllocEr
     Ok(Some(numbers))
 }
 
-/// Returns the length in bytes of the word with which `bytes` begins: the number of bytes before
-/// the first white space, or of all bytes if there is no white space.
+/// Returns the length in bytes of the word with which `bytes` begins. The word ends before the first
+/// white space, or at the end of `bytes` if there is no white space.
 fn word_len(bytes: &[u8]) -> usize
     ensures is { result ≡ position_or_len is_white_space bytes.now }
     ensures inside { result ≤ length bytes.now }

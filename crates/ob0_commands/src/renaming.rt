@@ -3,9 +3,9 @@
 //! `rename_text` analyses the text once. `rename_edits` of `ob0_edits` computes the edits from that
 //! analysis. If the text isn't a well-typed module, the diagnostics of the same analysis are
 //! printed, as in `valid_text_or_print_diagnoses`. `rename_utf8_text` does the work once the bytes
-//! are known to be UTF-8. It is a separate function because its proof needs a `&str`: the contract
-//! of `rename_edits` is about the characters of a text, and the contract of `diagnoses` is about
-//! the bytes. A `&str` relates the two.
+//! are known to be UTF-8. It is a separate function because its proof needs a `&str`. The contract of
+//! `rename_edits` is about the characters of a text, and the contract of `diagnoses` is about the
+//! bytes. A `&str` relates the two.
 
 ghost use Rattle.std.specs.Prelude.{◌≡◌, true, IfOk, IfErr, OnErr};
 ghost use Rattle.ob0_commands.specs.Endings.{EndsWithoutFault};

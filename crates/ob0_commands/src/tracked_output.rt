@@ -22,8 +22,8 @@ ghost use Rattle.ob0_commands.specs.StderrLines.{PrintsLine};
 use crate::faults::FileFault;
 use std::io::{self, Write};
 
-/// The size in bytes of the buffer through which files and inputs are read, and of the buffer in
-/// which output is collected before it is written.
+/// The size in bytes of two buffers. Files and inputs are read through one of them. Output is
+/// collected in the other before it is written.
 pub(crate) const PIECE_SIZE: usize = 8192;
 
 /// A writer that remembers whether it has been flushed since the last write, and whether a call of

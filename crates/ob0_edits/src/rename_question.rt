@@ -1,13 +1,15 @@
 //! Answers requests for renames in an analysed text.
 //!
-//! Declarations and fields are two cases of `AreRenameEdits` and `IsRenameRefusal` of `ob0_rename`.
-//! Both cases of `AreRenameEdits` state which tokens the edits replace by the new name
-//! (`WritesNewName`). So one lemma, `renames_in` of `proofs/Renamings`, covers declarations and
-//! fields. `RenamesInText` and `IsRenameRefusedInText` are about the module with its names bound
-//! (`IsResolvedWellTypedModule`), because fields are found through the bindings of names. The
-//! function `ask` answers a question about a well-typed text. Its contract is about the bytes of
-//! the text, while `RenamesInText` is about the characters. The lemma `new_name_found` derives
-//! `RenamesInText` from this contract.
+//! `rename_edits` asks a `RenameQuestion`. The function `ask` answers it only for a well-typed text.
+//!
+//! The proof has two steps. `AreRenameEdits` and `IsRenameRefusal` of `ob0_rename` have a case for
+//! declarations and a case for fields. Both cases of `AreRenameEdits` state which tokens get the new
+//! name (`WritesNewName`), so one lemma, `renames_in` of `proofs/Renamings`, covers both. Then the
+//! lemma `new_name_found` derives `RenamesInText`, which is about the text's characters, from the
+//! contract of `ask`, which is about its bytes.
+//!
+//! `RenamesInText` and `IsRenameRefusedInText` are about the module with its names bound
+//! (`IsResolvedWellTypedModule`), because fields are found through the bindings of names.
 
 ghost use Rattle.std.specs.Prelude.{◌≡◌, IfOk};
 ghost use Rattle.std.specs.Str.{chars};

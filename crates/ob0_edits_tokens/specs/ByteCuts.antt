@@ -1,4 +1,4 @@
--- Defines the edits that make cuts of a text in bytes, and the length of the text that cuts leave.
+-- Defines the edit for a cut, and the length of a text after cuts. A cut replaces a range of bytes.
 -- Rule: docs/PROTOCOL.md, Requests on documents 8 to 10; LSP 3.17, TextEdit.
 use Rattle.std.specs.Prelude.{ℕ, ◌+◌, ◌-◌, List, [], ◌∷◌, length}
 use Rattle.ob0_text.specs.declared.position_types.Range.{Range}
@@ -8,14 +8,14 @@ use Rattle.ob0_text.specs.Units.{width_of}
 use Rattle.ob0_edits_tokens.specs.Ranges.{range_of}
 
 -- Returns the edit, as a pair of its range and text, that makes the cut `c` in the text with the
--- characters `text`. The cut's places are byte offsets, and its replacement is a list of bytes.
+-- characters `text`. The cut's ends are byte offsets, and its replacement is a list of bytes.
 abbrev pub edit_at_cut : counting.Unit → List ℕ → Cut → Range × List ℕ
 edit_at_cut unit text c =
     (range_of (width_of unit) text (record { start = c.from; end = c.to }), c.new)
 
--- Returns the length in bytes of the rest of a text, starting at the offset `at`, once each cut is
--- applied. `at` and the cuts' places are byte offsets in the text before any cut is applied, and
--- `len` is the length of that text in bytes.
+-- Returns the length in bytes of the rest of a text, starting at the offset `at`, after all cuts
+-- are applied. `len` is the length of the text before the cuts, in bytes. `at` and the ends of the
+-- cuts are byte offsets in that text.
 abbrev pub length_with_cuts : ℕ → ℕ → List Cut → ℕ
 length_with_cuts len at [] = len - at
 length_with_cuts len at (c ∷ cs) = (c.from - at) + (length c.new + length_with_cuts len c.to cs)

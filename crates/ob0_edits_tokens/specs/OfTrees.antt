@@ -11,8 +11,9 @@ use Rattle.ob0_edits_tokens.specs.Changed.{words_of, changed_words, changes_at, 
 use Rattle.ob0_edits_tokens.specs.Replaced.{AreIdentifierIndexes}
 use Rattle.ob0_edits_tokens.specs.Written.{name_word}
 
--- Returns the terminals of the given words. The terminal of a name or integer has the index of its
--- word instead of the name or value. `k` is the index of the first given word in the text.
+-- Returns the terminals (tokens as a tree spells them) of the given words. The terminal of a name
+-- or integer has the index of its word instead of the name or value. `k` is the index of the first
+-- given word in the text.
 abbrev pub indexed_terminals_of_words : ℕ → List Word → List (Terminal ℕ)
 indexed_terminals_of_words k [] = []
 indexed_terminals_of_words k (w ∷ ws) = indexed_terminal k w.kind ∷ indexed_terminals_of_words (suc k) ws
@@ -35,9 +36,9 @@ number_at ws k = integer_value_or_zero (word_at ws k).kind
 abbrev pub renamed_word_text : List Word → List ℕ → List ℕ → ℕ → List ℕ
 renamed_word_text ws token_indexes new k = if is_in_list k token_indexes then new else word_text_at ws k
 
--- States that renaming keeps the spelling of trees. Let a tree with word indexes instead of names
--- spell the words of a text. If the identifiers with the indexes `token_indexes` get the name `new`
--- both in the tree and in the words, the renamed tree spells the renamed words.
+-- States that a renamed tree spells the renamed words. Assume that a tree with word indexes instead
+-- of names spells the words of a text. If the identifiers with the indexes `token_indexes` get the
+-- name `new`, both in the tree and in the words, the renamed tree spells the renamed words.
 abbrev pub RenamingKeepsSpelling : Type 0
 RenamingKeepsSpelling =
     (s : TextWithTokens) (sort : Sort) (t : Tree ℕ sort) (token_indexes new : List ℕ)

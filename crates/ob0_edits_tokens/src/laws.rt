@@ -13,9 +13,9 @@ pub fn identifier_may_replace_identifier()
     ensures { (new : List ℕ) → IsIdentifier new → MayReplaceIdentifier new (name_word new ∷ []) }
 {}
 
-/// Proves that renaming keeps the spelling of trees. Let a tree that has word indexes instead of
-/// names spell the words of a text. If the identifiers with the same indexes get a new name in the
-/// tree and in the words, the renamed tree spells the renamed words.
+/// Proves that a renamed tree spells the renamed words. Assume that a tree with word indexes instead
+/// of names spells the words of a text. If the identifiers at certain indexes get a new name, both
+/// in the tree and in the words, the renamed tree spells the renamed words.
 pub fn renaming_keeps_spelling()
     ensures { RenamingKeepsSpelling }
 {}

@@ -16,10 +16,10 @@ pub record FramerState : Type 0 where
   pub waiting : List (List ℕ)
   pub rest : StreamRest
 
--- States that reading a piece (second argument) completes the messages with these contents (third
--- argument). The first argument is the rest of the stream before the piece is read, and the last
--- argument is the rest afterwards. If no message can begin with the bytes that are left, the stream
--- is broken. A broken stream remains broken and completes nothing.
+-- States what reading a piece of the stream does. Arguments: the rest of the stream before the
+-- piece, the piece, the contents of the messages that the piece completes, and the rest after the
+-- piece. If no message can begin with the bytes that are left, the last argument is `Broken`. A
+-- broken stream remains broken and completes nothing.
 abbrev pub Feeds : StreamRest → List ℕ → List (List ℕ) → StreamRest → Type 0
 Feeds (Open rest) piece contents (Open left) = Frames (rest ++ piece) contents left × ¬ (CannotBeginMessage left)
 Feeds (Open rest) piece contents Broken =

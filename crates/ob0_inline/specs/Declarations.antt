@@ -1,5 +1,5 @@
 -- Defines two tests for the removal of a declaration: whether a token is a `;`, and whether a span
--- lies within another span.
+-- contains another span.
 -- Rule: docs/PROTOCOL.md, Requests on documents 9.
 use Rattle.std.specs.Prelude.{Bool, true, false, nat_le, ◌&&◌}
 use Rattle.ob0_scan.specs.declared.lexeme.Span.{Span}

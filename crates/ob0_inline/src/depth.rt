@@ -18,8 +18,8 @@ use std::alloc::Global;
 
 /// Returns whether the text that results from the edits is nested deeper than a module may be.
 /// `read` is the module before the edits. The contract assumes that the edits add at most one level
-/// of nesting. So the result is false if the depth of `read` is less than `MAX_NESTING`. Otherwise
-/// the edited text is parsed to find out.
+/// of nesting. So the result is false if `read` has fewer than `MAX_NESTING` levels. Otherwise the
+/// edited text is parsed to find out.
 pub(crate) fn is_edited_text_too_deep<T: TextStore>(
     alloc: Global,
     store: &T,

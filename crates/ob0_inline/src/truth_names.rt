@@ -99,8 +99,9 @@ pub(crate) fn has_shadowed_use(
     }
 }
 
-/// Returns whether the constant with the ordinal `constant` has a use in place of which `name`
-/// wouldn't be bound to the declaration with the ordinal `ordinal`.
+/// Returns whether `name` is shadowed at some use of the constant with the ordinal `constant`. It is
+/// shadowed there if, written in place of the use, it wouldn't be bound to the declaration with the
+/// ordinal `ordinal`.
 fn any_use_would_be_bound_elsewhere(
     alloc: Global,
     names: &Resolved,
@@ -120,8 +121,8 @@ fn any_use_would_be_bound_elsewhere(
     Ok(any_use_has_other_ordinal(names, &bound, constant, ordinal))
 }
 
-/// Returns whether some use of the constant with the ordinal `constant` has an item in `bound`
-/// other than `ordinal`. `bound` has an item for each occurrence, in text order: the ordinal of a
+/// Returns whether the item in `bound` for some use of the constant with the ordinal `constant`
+/// isn't `ordinal`. `bound` has an item for each occurrence, in text order: the ordinal of a
 /// declaration, or None.
 fn any_use_has_other_ordinal(
     names: &Resolved,

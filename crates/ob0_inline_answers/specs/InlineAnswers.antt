@@ -16,13 +16,15 @@ abbrev pub WellTypedTextsCanBeParsed : Type 0
 WellTypedTextsCanBeParsed = (text : List ℕ) → WellTypedText text → (m : ParsedModule) × IsParsedWellTypedModule (utf8 text) m
 
 -- States that a request to inline a constant at a use has an answer for each text, unit and
--- position, if the parser accepts each well-typed text (`WellTypedTextsCanBeParsed`).
+-- position. The premise is that the parser accepts each well-typed text
+-- (`WellTypedTextsCanBeParsed`).
 -- `AlwaysHasAnswer` is a double negation: it says that an answer can't be missing.
 abbrev pub InliningHereAlwaysHasAnswer : Type 0
 InliningHereAlwaysHasAnswer = WellTypedTextsCanBeParsed → (position : Position) → AlwaysHasAnswer (inline_here position)
 
 -- States that a request to inline a constant everywhere has an answer for each text, unit and
--- position, if the parser accepts each well-typed text (`WellTypedTextsCanBeParsed`).
+-- position. The premise is that the parser accepts each well-typed text
+-- (`WellTypedTextsCanBeParsed`).
 -- `AlwaysHasAnswer` is a double negation: it says that an answer can't be missing.
 abbrev pub InliningEverywhereAlwaysHasAnswer : Type 0
 InliningEverywhereAlwaysHasAnswer = WellTypedTextsCanBeParsed → (position : Position) → AlwaysHasAnswer (inline_all position)

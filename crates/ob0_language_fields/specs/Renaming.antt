@@ -113,7 +113,7 @@ abbrev pub is_duplicate_field : Tree Name module_text → ℕ → Name → Name 
 is_duplicate_field m r f new =
     list_any (λ t. (t.ordinal == r) && another_field_has_name t.declared f new) (records m)
 
--- states that the name `new` is free for the field `f` of the record with ordinal `r`: no other field of this record
--- has the name
+-- States that the name `new` is free for the field `f` of the record with ordinal `r`. A name is
+-- free if no other field of this record has it.
 abbrev pub IsFreeFieldName : Tree Name module_text → ℕ → Name → Name → Type 0
 IsFreeFieldName m r f new = is_duplicate_field m r f new ≡ false

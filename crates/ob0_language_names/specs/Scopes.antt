@@ -53,8 +53,8 @@ abbrev mutual
   ordinal_after_procedures k end = k
   ordinal_after_procedures k (more p rest) = ordinal_after_procedures (ordinal_after_procedure (suc k) p) rest
 
-  -- returns the first ordinal after the parameters and the block of a procedure; the procedure's name has ordinal `k -
-  -- 1`, so the first declaration after it has ordinal `k`
+  -- Returns the first ordinal after the parameters and the block of a procedure. The procedure's
+  -- name has ordinal `k - 1`, so the first declaration after it has ordinal `k`.
   pub ordinal_after_procedure : {N : Type 0} → ℕ → Tree N (item procedure) → ℕ
   ordinal_after_procedure k (declares_procedure x fs b closing) =
       ordinal_after_block (ordinal_after_names k (formal_names (formal_sections fs))) b

@@ -63,9 +63,10 @@ PlaceHasType typing p s = option_and_then (shape_at_path p.path) (slice_get typi
 abbrev pub signature_modes : Signature → List Mode
 signature_modes = map (λ f. f.mode)
 
--- States that a name's object in a run agrees with the name's object in the checked module, or that the name has no
--- object in either of them. Types, constants and standard procedures must be equal. The place of a variable must have
--- the variable's type. The modes of a procedure's parameters must be the modes in its signature.
+-- States that a name's object in a run agrees with the name's object in the checked module. If the
+-- name has no object in one of them, it must have none in the other. Types, constants and standard
+-- procedures must be equal. The place of a variable must have the variable's type. The modes of a
+-- procedure's parameters must be the modes in its signature.
 abbrev pub RunObjectAgreesWithCheckedObject : StoreTyping
     → Option (Object Shape Signature)
     → Option (Object Place (List Mode))

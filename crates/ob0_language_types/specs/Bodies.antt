@@ -115,9 +115,10 @@ abbrev mutual
   HoldsInProcedure Q env k (declares_procedure x fs b closing) =
       HoldsInBlock Q env (k + formals_constructor_count (formal_sections fs)) b
 
--- States that environments agree with declarations. If the statements of a block in a well-typed module are checked in
--- an environment that binds an ordinal to an object, `declared_object` returns the same object for this ordinal. An
--- ordinal is the number of a declaration in text order.
+-- States that environments agree with declarations. Let the statements of a block in a well-typed
+-- module be checked in an environment that binds an ordinal to an object. Then `declared_object`
+-- returns the same object for this ordinal. An ordinal is the number of a declaration in text
+-- order.
 abbrev pub BindingsMatchDeclarations : Type 0
 BindingsMatchDeclarations =
     (m : Tree Name module_text) → WellTyped m

@@ -97,8 +97,8 @@ argument_matches meaning f e =
     same_known_shape (Some f.shape) (elim f.mode
     [ by_value ↦ type_of meaning e | by_place ↦ variable_type meaning (lone_designator e) ])
 
--- Returns whether there are as many arguments as parameters, and each argument has the type and form that its parameter
--- requires (docs/LANGUAGE.md, Types 2 and 5).
+-- Returns whether there are as many arguments as parameters, and each argument has the type and
+-- form that its parameter requires. See docs/LANGUAGE.md, Types 2 and 5.
 unfoldable pub arguments_match : {N P : Type 0}
     → Meanings N Shape P
     → Signature

@@ -191,8 +191,8 @@ pub fn multiply_short_circuits(operator: MultiplyOperator, left: Scalar) -> bool
     }
 }
 
-/// Returns whether the relation holds between the operands, as a truth value. Any relation may
-/// compare two numbers. Only `=` and `#` may compare two truth values.
+/// Returns whether the relation holds between the operands, as a truth value. Every relation is
+/// defined for two numbers. Only `=` and `#` are defined for two truth values.
 ///
 /// # Errors
 ///

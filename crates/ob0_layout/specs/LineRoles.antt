@@ -7,8 +7,8 @@ use Rattle.ob0_tree.specs.Tree.{Sort, Tree, none, one, end, more, compares, rela
 use Rattle.ob0_layout.specs.declared.line_role.LineRole.{LineRole}
 use Rattle.ob0_layout.specs.declared.line_role.LineRole.TheVariants.{Begins, Opening, Joining, Plain}
 
--- Returns the list of roles with the first role replaced by `Begins level`. Returns an empty list
--- unchanged.
+-- Returns the list of roles with the first role replaced by `Begins level`. Returns an empty
+-- list unchanged.
 abbrev pub roles_with_line_start : ℕ → List LineRole → List LineRole
 roles_with_line_start level [] = []
 roles_with_line_start level (s ∷ ss) = Begins level ∷ ss

@@ -1,4 +1,4 @@
-//! Computes the role of each token in its line, by a walk over the module's tree.
+//! Computes the role of each token in its line, by visiting the module's tree.
 
 ghost use Rattle.std.specs.Prelude.{◌≡◌, ◌≤◌, ◌+◌, ◌^◌, ◌++◌, ◌∷◌, [], IfOk, MatchResult};
 ghost use Rattle.ob0_layout.specs.declared.line_role.LineRole.TheVariants.{Begins, Plain};

@@ -41,9 +41,9 @@ hover_parameters (x ∷ xs) (f ∷ fs) = hover_parameter x f ∷ hover_parameter
 hover_parameters [] fs = []
 hover_parameters (x ∷ xs) [] = []
 
--- Returns the hover text of a declaration, given its name, the names declared after this name, and
--- the constant, type, variable or procedure that it declares. Returns None for a constant whose
--- value is neither a number nor a truth value.
+-- Returns the hover text of a declaration. The arguments are its name, the names declared after
+-- this name, and the constant, type, variable or procedure that it declares. Returns None for a
+-- constant whose value is neither a number nor a truth value.
 abbrev pub hover_text_of_object : Name → List Name → Object Shape Signature → Option (List ℕ)
 hover_text_of_object name following (a_constant v) = hover_text_of_constant name v
 hover_text_of_object name following (a_type s) = Some (type_declaration_text name (type_text s))

@@ -11,20 +11,20 @@ use Rattle.ob0_language_names.specs.Parts.{formal_names, formal_sections, module
 use Rattle.ob0_scope_table.specs.Resolution.{declaring_names, declaration_token}
 use Rattle.ob0_refs.specs.Declarations.{names_declared_after}
 
--- Returns the headings of procedures in text order. Here a heading is a pair: the token of the
+-- Returns the heading of each procedure, in text order. Here a heading is a pair: the token of the
 -- procedure's name, and the tokens of its parameters' names.
 abbrev mutual
-  -- returns the headings of all procedures in a block, at any depth
+  -- returns the heading of each procedure in a block, at any depth
   pub block_headings : Tree ℕ block → List (ℕ × List ℕ)
   block_headings (forms_block (declares cs ts vs ps) statements) = headings ps
 
-  -- returns the headings of these procedures, each followed by the headings in the procedure's
-  -- block
+  -- returns the heading of each of these procedures, followed by the heading of each procedure in
+  -- its block
   pub headings : Tree ℕ (items procedure) → List (ℕ × List ℕ)
   headings end = []
   headings (more p rest) = procedure_headings p ++ headings rest
 
-  -- returns the heading of this procedure, followed by the headings in the procedure's block
+  -- returns the heading of this procedure, followed by the heading of each procedure in its block
   pub procedure_headings : Tree ℕ (item procedure) → List (ℕ × List ℕ)
   procedure_headings (declares_procedure x fs b closing) =
       (x, formal_names (formal_sections fs)) ∷ block_headings b

@@ -11,14 +11,14 @@ use Rattle.ob0_types.specs.CheckedModules.{IsWellTyped}
 use Rattle.ob0_refs.specs.Questions.{hover_at_offset, definition_at, references_at, answer_at_offset}
 use Rattle.ob0_refs.specs.declared.answers.Of.TheVariants as answer_of
 
--- states that the identifier at the byte offset `offset` has this span and refers to a field: the
--- field with the index `index`, counted from 0, in the record with the ordinal `k`
+-- States that the identifier at the byte offset `offset` has the span `span` and refers to a field.
+-- The field has the index `index`, counted from 0, in the record with the ordinal `k`.
 abbrev pub RefersToFieldAt : Resolution → ℕ → Span → ℕ → ℕ → Type 0
 RefersToFieldAt r offset span k index =
     answer_at_offset r offset ≡ Some record { span = span; of = answer_of.Field k index }
 
--- States that in a valid module, definition finds a span at each identifier that refers to a field:
--- at the field's declaration and at each selector.
+-- States that in a valid module, definition finds a span at each identifier that refers to a field.
+-- Such an identifier is the field's declaration or a selector.
 abbrev pub FieldsHaveDefinitions : Type 0
 FieldsHaveDefinitions =
     (r : Resolution) (offset k index : ℕ) (span : Span)
@@ -47,8 +47,8 @@ FieldRenamingChangesReferences =
     → RefersToFieldAt r offset span k index
     → RenamesFieldAt r offset span k
 
--- States that in a valid module, hover returns a text at each identifier that refers to a field: at
--- the field's declaration and at each selector.
+-- States that in a valid module, hover returns a text at each identifier that refers to a field.
+-- Such an identifier is the field's declaration or a selector.
 abbrev pub FieldsHaveHovers : Type 0
 FieldsHaveHovers =
     (r : Resolution) (offset k index : ℕ) (span : Span)

@@ -1,5 +1,5 @@
--- Converts the program's `Hover` to the specification's `HoverText`, and a `NameConflict` to its
--- span.
+-- Converts the program's `Hover` to the specification's `HoverText`, and a `NameConflict`
+-- to its span.
 -- Rule: none; used in contracts about the program's answers.
 use Rattle.std.specs.Prelude.{string_bytes}
 use Rattle.ob0_scan.specs.declared.lexeme.Span.{Span}

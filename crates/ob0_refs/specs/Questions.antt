@@ -153,8 +153,8 @@ hover_of_identifier r token (Name ordinal) =
     hover_of_name r.module_read (record { token = token; ordinal = ordinal })
 hover_of_identifier r token (Field k) = hover_of_field r (record { token = token; owner = k })
 
--- Returns the hover text of the identifier at a byte offset. Returns None if there is no name or field at
--- the offset, or if its declaration isn't found.
+-- Returns the hover text of the identifier at a byte offset. Returns None if there is no name or
+-- field at the offset, or if its declaration isn't found.
 abbrev pub hover_at_offset : Resolution → ℕ → Option HoverText
 hover_at_offset r offset =
     option_and_then (λ (x : ResolvedIdentifier). hover_of_identifier r x.token x.means) (identifier_meaning_at r offset)

@@ -1,5 +1,5 @@
-//! Defines the types of the answers about an identifier: what it refers to, its hover text, and the
-//! conflict of a new name for its declaration.
+//! Defines the types of the answers about an identifier. They say what it refers to, what its hover
+//! text is, and at which span a new name for its declaration has a conflict.
 
 use ob0_scan::Span;
 

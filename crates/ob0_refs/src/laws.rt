@@ -4,7 +4,7 @@
 ghost use Rattle.ob0_refs.specs.Laws.{FieldsHaveDefinitions, FieldRenamingChangesReferences, FieldsHaveHovers};
 
 /// Proves that in a valid module, definition finds a span at each identifier that refers to a
-/// field: at the field's declaration and at each selector.
+/// field. Such an identifier is the field's declaration or a selector.
 pub fn fields_have_definitions()
     ensures { FieldsHaveDefinitions }
 {}
@@ -15,8 +15,8 @@ pub fn field_renaming_changes_references()
     ensures { FieldRenamingChangesReferences }
 {}
 
-/// Proves that in a valid module, hover returns a text at each identifier that refers to a field:
-/// at the field's declaration and at each selector.
+/// Proves that in a valid module, hover returns a text at each identifier that refers to a field.
+/// Such an identifier is the field's declaration or a selector.
 pub fn fields_have_hovers()
     ensures { FieldsHaveHovers }
 {}

@@ -23,7 +23,8 @@ use Rattle.ob0_rename.specs.Renaming.{TargetsDeclaration, TargetsField, Renaming
 
 -- States that the edits write the new name at the tokens with the indexes `tokens` and change
 -- nothing else. Applied together, the edits give a text with the tree `tree` and with at most
--- `max_text_length` bytes. The tree is well-typed and has the same runs as the module before the edits.
+-- `max_text_length` bytes. The tree is well-typed and has the same runs as the module before the
+-- edits.
 pub record WritesNewName (r : Renaming) (tokens : List ℕ) (tree : Tree Name module_text)
     (edits : List Edit) : Type 0 where
   pub short : length (text_after_renaming r tokens) ≤ max_text_length

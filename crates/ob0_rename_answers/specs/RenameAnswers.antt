@@ -16,8 +16,9 @@ abbrev pub WellTypedTextsCanBeResolved : Type 0
 WellTypedTextsCanBeResolved =
     (text : List ℕ) → WellTypedText text → (names : Resolution) × IsResolvedWellTypedModule (utf8 text) names
 
--- States that a request for a rename has an answer for each text, unit, position and new name, if
--- each well-typed text has a module whose names are bound (`WellTypedTextsCanBeResolved`).
+-- States that a request for a rename has an answer for each text, unit, position and new name. The
+-- premise is that each well-typed text has a module whose names are bound
+-- (`WellTypedTextsCanBeResolved`).
 -- `AlwaysHasAnswer` is a double negation: it says that an answer can't be missing.
 abbrev pub RenamingAlwaysHasAnswer : Type 0
 RenamingAlwaysHasAnswer =

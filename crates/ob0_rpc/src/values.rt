@@ -1,4 +1,5 @@
-//! Writes responses whose result is a `serde_json::Value`, and notifications whose params are one.
+//! Writes responses whose result is a `serde_json::Value`, and notifications whose params are such a
+//! value.
 ghost use Rattle.std.specs.Prelude.{◌≡◌, ◌≤◌, false, IfOk};
 ghost use Rattle.serde_json.specs.Data.{depth};
 ghost use Rattle.serde_json.specs.View.{view};

@@ -17,8 +17,8 @@ use Rattle.ob0_run_cells.specs.Lowering.{end_of}
 abbrev pub run_of : execution.MachineRun → Run
 run_of r = record { output = map printed_item_of r.output; ending = end_of r.ending }
 
--- States that a program that is correct code for a well-typed module (`ProgramMeansModule`) has the run
--- of the module. This holds for each input and for all bounds `c` on open calls and `t` on
+-- States that a program that is correct code for a well-typed module (`ProgramMeansModule`) has the
+-- run of the module. This holds for each input and for all bounds `c` on open calls and `t` on
 -- iterations. Claims nothing if the number of cells would have more than 64 bits.
 abbrev pub LoweringKeepsRuns : Type 0
 LoweringKeepsRuns =

@@ -1,12 +1,12 @@
 -- States where lowered code finds the variables and procedures of a module, and when a program is
--- correct code for a module (`ProgramMeansModule`). A placement (`Placement`) has the place of each name
--- of an environment: a slot for a variable, a target for a procedure. Variables of the module are
--- `of_module`, at offsets that begin with 0. Variables of a procedure are `in_activation 0`, after
--- its value parameters. VAR parameters are `by_reference 0`, by their index among the VAR
+-- correct code for a module (`ProgramMeansModule`). A placement (`Placement`) has the place of each
+-- name of an environment: a slot for a variable, a target for a procedure. Variables of the module
+-- are `of_module`, at offsets that begin with 0. Variables of a procedure are `in_activation 0`,
+-- after its value parameters. VAR parameters are `by_reference 0`, by their index among the VAR
 -- parameters. A procedure may have any index, if the entry of the routine table at this index is
--- correct code for the procedure's block. `PlacementMatchesActivation` states that each binding of an activation
--- has the right place. For a procedure, this is stated with the placement at its declaration
--- (`BindingIsPlaced`). So no slot has to be translated back to an outer level.
+-- correct code for the procedure's block. `PlacementMatchesActivation` states that each binding of
+-- an activation has the right place. For a procedure, this is stated with the placement at its
+-- declaration (`BindingIsPlaced`). So no slot has to be translated back to an outer level.
 -- Rule: docs/LANGUAGE.md, Runs 1, 6.
 use Rattle.std.specs.Prelude.{◌≡◌, ℕ, suc, ◌+◌, true, false, List, [], ◌∷◌, drop, slice_get, Some}
 use Rattle.ob0_tree.specs.Tree.{Tree, begins, block, body, declares, declares_procedure, declares_variable, end, forms_block, item, items, maybe, module_text, more, none, one, procedure, variable}
@@ -56,14 +56,14 @@ target_of_binding_place nowhere = record { procedure = 0; up = 0 }
 target_of_binding_place (in_slot s) = record { procedure = 0; up = 0 }
 target_of_binding_place (at_target t) = t
 
--- returns the slot of the first binding of a placement, or the module's first cell if this binding
--- has no slot or the placement is empty
+-- Returns the slot of the first binding of a placement. Returns the module's first cell if this
+-- binding has no slot or the placement is empty.
 abbrev pub slot_of_first_binding : {N : Type 0} → Placement N → Slot
 slot_of_first_binding [] = of_module 0
 slot_of_first_binding (b ∷ placement) = slot_of_binding_place b.1
 
--- returns the target of the first binding of a placement, or index 0 and 0 levels out if this
--- binding has no target or the placement is empty
+-- Returns the target of the first binding of a placement. Returns index 0 and 0 levels out if this
+-- binding has no target or the placement is empty.
 abbrev pub target_of_first_binding : {N : Type 0} → Placement N → Target
 target_of_first_binding [] = record { procedure = 0; up = 0 }
 target_of_first_binding (b ∷ placement) = target_of_binding_place b.1
@@ -95,8 +95,8 @@ abbrev pub placement_seen_one_level_deeper : {N : Type 0} → Placement N → Pl
 placement_seen_one_level_deeper [] = []
 placement_seen_one_level_deeper (b ∷ placement) = (b.0, binding_place_seen_one_level_deeper b.1) ∷ placement_seen_one_level_deeper placement
 
--- The state while the names of an activation get their places: the placement so far, the number of
--- cells so far, and the number of VAR parameters so far.
+-- The state while the names of an activation get their places: the placement so far, and the
+-- numbers of cells and of VAR parameters so far.
 pub record PlacementState (N : Type 0) : Type 0 where
   pub placement : Placement N
   pub cells : ℕ
@@ -214,9 +214,9 @@ pub record RoutineAtIndexMeansProcedure {N : Type 0} (table : RoutineTable N) (c
       (placement_inside_procedure parameters ((x, local_procedure_target index) ∷ placement)) routine
 
 -- Runs 1 and 6: states that the variables of a block have `cells` cells, which follow the cells of
--- `p`. `size_of` returns the number of cells of each variable. `Inside` is the fact that has to hold
--- for the procedures and statements of the block, in the environment and the placement that include
--- the block's declarations.
+-- `p`. `size_of` returns the number of cells of each variable. `Inside` is the fact that has to
+-- hold for the block's procedures and statements. It is about the environment and the placement
+-- that include the block's declarations.
 pub record BlockIsPlaced {N : Type 0} (table : RoutineTable N) (at : ℕ → Slot)
     (checked : TypeEnvironment N) (p : PlacementState N) (k cells : ℕ) (b : Tree N block)
     (Inside : TypeEnvironment N → Placement N → Type 0) : Type 0 where
@@ -251,8 +251,8 @@ abbrev mutual
       (λ inner placement. RoutinesMeanProcedures table inner placement
       (constructors_before_procedures k (forms_block (declares cs ts vs ps) statements)) code statements ps)
 
-  -- Runs 6: states that the table has correct code for each of these procedures, and that `code` is
-  -- correct code for the statements of the block in which they are declared
+  -- Runs 6: states that the table has correct code for each of these procedures. Also states that
+  -- `code` is correct code for the statements of the block in which they are declared.
   pub RoutinesMeanProcedures : {N : Type 0}
       → RoutineTable N
       → TypeEnvironment N

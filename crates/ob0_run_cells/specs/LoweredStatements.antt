@@ -59,7 +59,7 @@ pub record Target : Type 0 where
   pub procedure : ℕ
   pub up : ℕ
 
--- The data that is unchanged while the statements of a body run: the types of the store, the
+-- The data that is unchanged while the statements of a body run. It has the types of the store, the
 -- meanings of names, and the activations that the body can see. `enters` is the effect of the
 -- module's calls, and `lowered_call_effect` is the effect of lowered calls.
 pub record BodyContext (N : Type 0) : Type 0 where
@@ -69,8 +69,8 @@ pub record BodyContext (N : Type 0) : Type 0 where
   pub enters : CallFunction N
   pub lowered_call_effect : execution.CallEffect
 
--- States that each lowered call has the effect of the module's call of the same procedure, if both
--- have the same arguments and begin in states that represent each other.
+-- States that each lowered call has the effect of the module's call of the same procedure. This has
+-- to hold if both calls have the same arguments and begin in states that represent each other.
 abbrev pub CallsRepresent : {N : Type 0} → TypeMeanings N → (N → Target) → BodyContext N → Type 0
 CallsRepresent {N} checked targets b =
     (x : N) (signature : Signature)
@@ -88,8 +88,9 @@ CallsRepresent {N} checked targets b =
 abbrev pub moment : {N : Type 0} → BodyContext N → Store → Moment N
 moment b store = record { typing = b.typing; store = store; active = b.active; levels = b.levels }
 
--- States that a body belongs to a checked module: all its moments do (`IsMomentOfModule`), and a
--- lowered call of a procedure's target has the effect of a call of the procedure.
+-- States that a body belongs to a checked module. All its moments belong to the module
+-- (`IsMomentOfModule`), and a lowered call of a procedure's target has the effect of the
+-- procedure's call.
 pub record IsBodyOfModule {N : Type 0} (checked : TypeMeanings N) (slots : N → Slot) (targets : N → Target)
     (b : BodyContext N) : Type 0 where
   pub is_moment : (store : Store)
@@ -97,8 +98,8 @@ pub record IsBodyOfModule {N : Type 0} (checked : TypeMeanings N) (slots : N →
       → IsMomentOfModule checked slots (moment b store)
   pub calls_represent : CallsRepresent checked targets b
 
--- states that a lowered step has the effect of a step of the module, in each body that belongs to
--- the checked module, and for each bound `t` on the iterations of a loop
+-- States that a lowered step has the effect of a step of the module. This has to hold in each body
+-- that belongs to the checked module, and for each bound `t` on the iterations of a loop.
 abbrev pub StepRepresents : {N : Type 0}
     → TypeMeanings N
     → (N → Slot)
@@ -162,8 +163,8 @@ CodeMeansElse checked slots targets cs last =
     StepRepresents checked slots targets (λ b t. execution.execute_sequence b.lowered_call_effect t b.levels cs)
     (λ b t. execute_else b.active b.enters t last)
 
--- States that branches are correct code for ELSIF parts, and that the instructions `cs`, which run
--- if no condition is TRUE, are correct code for the ELSE part after them.
+-- States that branches are correct code for ELSIF parts. Also states that the instructions `cs`,
+-- which run if no condition is TRUE, are correct code for the ELSE part after them.
 abbrev pub CodeMeansElsifs : {N : Type 0}
     → TypeMeanings N
     → (N → Slot)

@@ -1,5 +1,5 @@
--- States when lowered places, numbers and truths are correct: they have the same outcome as the
--- module's designators and expressions, at each moment of a run (`Moment`). Each such fact, for
+-- States when lowered places, numbers and truths are correct. They must have the same outcome as
+-- the module's designators and expressions, at each moment of a run (`Moment`). Each such fact, for
 -- example `NumberMeans`, relates lowered code to a function from moments to outcomes
 -- (`OutcomeByMoment`). The fact doesn't mention the tree of an expression, so operators need no
 -- types. Only places and variables need types. The value of an array or a record is in the cells at
@@ -133,9 +133,9 @@ PlaceMeans {N} checked slots q s value =
     ≡ (value m >>= (λ p. succeeds_with (address m.typing p))))
     × PlaceOutcomeHasType m.typing s (value m)
 
--- States that the lowered place `q` means a place with values of the type `s` (`PlaceMeans`), and
--- that `value` returns the value stored at this place. This holds at each moment of the checked
--- module (`IsMomentOfModule`).
+-- States that the lowered place `q` means a place with values of the type `s` (`PlaceMeans`). Also
+-- states that `value` returns the value stored at this place. Both hold at each moment of the
+-- checked module (`IsMomentOfModule`).
 abbrev pub PlaceHoldsValue : {N : Type 0}
     → TypeMeanings N
     → (N → Slot)
@@ -193,8 +193,9 @@ outcome_of_remaining_selectors rest m p =
     or_stuck (read_place m.store p) >>=
     (λ v. evaluate_selectors m.active m.store v rest >>= (λ steps. succeeds_with (extended_place p steps)))
 
--- States that `rest` completes a chain: there is an evaluation `so_far` of the first part, for
--- which `Means` holds, and `so_far` followed by `rest` has the outcome `whole` of the whole chain.
+-- States that `rest` completes a chain. There must be an evaluation `so_far` of the first part for
+-- which `Means` holds. `so_far` followed by `rest` must have the outcome `whole` of the whole
+-- chain.
 abbrev pub RestCompletesChain : {N A : Type 0}
     → TypeMeanings N
     → (N → Slot)

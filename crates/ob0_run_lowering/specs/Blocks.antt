@@ -68,9 +68,9 @@ CodeMeansRestOfBlock table s code statements ps =
 
 -- States that lowering leads from the state `s` with the remaining procedures `ps` of a block to
 -- the state `now` with the remaining procedures `left`. `w` and `v` are the data of lowering
--- (`Lowering`) before and after. `composes_meaning` is about each table that has the routines that
--- were added: if the table and some code are correct for `left` in the state `now`, they are
--- correct for `ps` in the state `s`.
+-- (`Lowering`) before and after. `composes_meaning` is about each table that has the added
+-- routines. If the table and some code are correct for `left` in the state `now`, they are correct
+-- for `ps` in the state `s`.
 pub record LowersFromState (t : DeclarationTableView) (w v : Lowering) (depth : ℕ) (s : BlockLoweringState)
     (statements : Tree Label (maybe body)) (ps left : Tree Label (items procedure)) : Type 0 where
   pub now : BlockLoweringState
@@ -94,8 +94,8 @@ pub record LowersProcedures (t : DeclarationTableView) (w v : Lowering) (depth :
   pub grown : KeepsRoutines w.procedures.items v.procedures.items
 
 -- States that the routine `entry` is correct code for a block, with each table that has the
--- procedures that were added while the block was lowered. `w` and `v` are the data of lowering
--- before and after.
+-- procedures added while the block was lowered. `w` and `v` are the data of lowering before and
+-- after.
 pub record RoutineMeansBlock (w v : Lowering) (f : Frame) (b : Tree Label block) (entry : Routine)
     (env : TypeEnvironment Label) (p : PlacementState Label) (k : ℕ) : Type 0 where
   pub means : (table : List lowered.Routine)
@@ -103,9 +103,9 @@ pub record RoutineMeansBlock (w v : Lowering) (f : Frame) (b : Tree Label block)
       → CodeMeansBlock (routine_table_by_label table) (variable_slot_at_depth f.depth) env p k entry.cells
       (sequence_of entry.body.items) b
 
--- States that the routine `entry` is correct code for a block, if the block is well-typed and the
--- names in scope have their places and their objects. Also states that the tables of sites and of
--- procedures only grow, from `w` to `v`.
+-- States that the routine `entry` is correct code for a block. This has to hold if the block is
+-- well-typed and the names in scope have their places and their objects. Also states that the
+-- tables of sites and of procedures only grow, from `w` to `v`.
 pub record LowersBlock (t : DeclarationTableView) (w v : Lowering) (f : Frame) (b : Tree Label block)
     (entry : Routine) : Type 0 where
   pub lowers_from : (env : TypeEnvironment Label) (p : PlacementState Label) (k : ℕ)

@@ -1,9 +1,10 @@
--- States that the bindings of a module agree with the table of its declarations. `BlockBindingsAreDeclared`
--- recurses over the tree, and is about each environment in which procedures or statements of a
--- block are checked. Each binding in this environment has an ordinal, and the object that the table
--- has at this ordinal. A well-typed module has this property (`module-declared`). In the module's
--- numbered tree, the ordinals in each environment descend. So each ordinal is bound once, and a
--- look-up of the ordinal finds its binding. No other fact about the order of ordinals is used.
+-- States that the bindings of a module agree with the table of its declarations.
+-- `BlockBindingsAreDeclared` recurses over the tree, and is about each environment in which
+-- procedures or statements of a block are checked. Each binding in this environment has an ordinal,
+-- and the object that the table has at this ordinal. A well-typed module has this property
+-- (`module-declared`). In the module's numbered tree, the ordinals in each environment descend. So
+-- each ordinal is bound once, and a look-up of the ordinal finds its binding. No other fact about
+-- the order of ordinals is used.
 -- Rule: none; used in contracts of lowering.
 use Rattle.std.specs.Prelude.{◌≡◌, ℕ, [], ◌∷◌, Some, Option}
 use Rattle.ob0_tree.specs.Tree.{Tree, block, items, procedure}
@@ -25,13 +26,14 @@ BindingsAreDeclared objects [] = Unit {0}
 BindingsAreDeclared objects (b ∷ env) =
     ((k : ℕ) × (b.0 ≡ declared k) × (objects k ≡ Some b.1)) × BindingsAreDeclared objects env
 
--- States that `BindingsAreDeclared` holds for each environment in which the procedures and the statements
--- of a block are checked. This includes the environments of all blocks inside this block.
+-- States that `BindingsAreDeclared` holds for each environment in which the procedures and the
+-- statements of a block are checked. This includes the environments of all blocks inside this
+-- block.
 abbrev pub BlockBindingsAreDeclared : ObjectByOrdinal → TypeEnvironment Label → ℕ → Tree Label block → Type 0
 BlockBindingsAreDeclared objects = HoldsInBlock (BindingsAreDeclared objects)
 
--- States that `BindingsAreDeclared` holds for each environment in which these procedures and their blocks
--- are checked, and for the environment after them.
+-- States that `BindingsAreDeclared` holds for each environment in which these procedures and their
+-- blocks are checked, and for the environment after them.
 abbrev pub ProcedureBindingsAreDeclared : ObjectByOrdinal
     → TypeEnvironment Label
     → ℕ

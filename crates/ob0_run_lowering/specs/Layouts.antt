@@ -1,5 +1,5 @@
--- States that a computed layout (`CellLayout`) is right for a type: it has the type's number of cells,
--- and a record's layout also has the offset of each field.
+-- States that a computed layout (`CellLayout`) is right for a type. The layout has the type's
+-- number of cells, and a record's layout also has the offset of each field.
 -- Rule: none; used in contracts of lowering.
 use Rattle.std.specs.Prelude.{◌≡◌, ℕ, ◌+◌, List, [], ◌∷◌, Some, None, Option}
 use Rattle.std.specs.Borrow.{Bor}

@@ -1,10 +1,11 @@
 -- States that statements are lowered to correct code. A scene (`Scene`) is the data that is needed
 -- to lower a body. A clause about statements covers all checked names, slots and targets that agree
--- with the scene (`SceneAgreesWithChecker`). It says that the code of a tree is correct, if the tree is
--- well-typed with these names (`HoldsInScene`). If the tree isn't well-typed, nothing is claimed
--- about its code. The parts of a well-typed tree are well-typed, so each law of `ob0_run_cells` is
--- lifted to this form once (`proofs/HoldsInScene`). Only the clause of `lower_body` has another
--- form (`LowersBody`): it is about each environment and each placement that agree with the scene.
+-- with the scene (`SceneAgreesWithChecker`). It says that the code of a tree is correct, if the
+-- tree is well-typed with these names (`HoldsInScene`). If the tree isn't well-typed, nothing is
+-- claimed about its code. The parts of a well-typed tree are well-typed, so each law of
+-- `ob0_run_cells` is lifted to this form once (`proofs/HoldsInScene`). Only the clause of
+-- `lower_body` has another form (`LowersBody`): it is about each environment and each placement
+-- that agree with the scene.
 -- Rule: none; used in contracts of lowering.
 use Rattle.std.specs.Prelude.{◌≡◌, ◌&&◌, Bool, List, [], IsTrue, Option, Some, None}
 use Rattle.std.specs.declared.alloc.Global.{Global}
@@ -22,8 +23,8 @@ use Rattle.ob0_run_lowering.specs.declared.scene.Scene.{Scene}
 use Rattle.ob0_run_lowering.specs.Scenes.{SceneAgreesWithChecker}
 
 -- States that `Means` holds for all checked names, slots and targets that agree with a scene
--- (`SceneAgreesWithChecker`) and for which `fits` is true. In each use, `fits` says that a tree is well-typed
--- with the checked names, and `Means` that its code is correct.
+-- (`SceneAgreesWithChecker`) and for which `fits` is true. In each use, `fits` says that a tree is
+-- well-typed with the checked names, and `Means` that its code is correct.
 abbrev pub HoldsInScene : Scene
     → (TypeMeanings Label → Bool)
     → (TypeMeanings Label → (Label → Slot) → (Label → Target) → Type 0)
@@ -107,8 +108,8 @@ LowersElsifs scene bs cs rest last =
     (λ checked slots targets. CodeMeansElsifs checked slots targets bs cs rest last)
 
 -- States that the instructions are correct code for a body, in each environment and each placement
--- that agree with the scene (`SceneAgreesWithChecker`). Claims nothing if the body isn't well-typed in the
--- environment.
+-- that agree with the scene (`SceneAgreesWithChecker`). Claims nothing if the body isn't well-typed
+-- in the environment.
 abbrev pub LowersBody : Scene → lowered.Instructions → Tree Label (maybe body) → Type 0
 LowersBody scene cs b =
     (env : TypeEnvironment Label) (placement : Placement Label)

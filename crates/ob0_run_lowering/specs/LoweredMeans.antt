@@ -1,6 +1,6 @@
--- States that expressions, designators and arguments are lowered to correct code. This holds for
--- all checked names and slots that agree with the scene (`SceneAgreesWithChecker`), which is the data that is
--- needed to lower a body.
+-- States that expressions, designators and arguments are lowered to correct code. A scene (`Scene`)
+-- is the data that is needed to lower a body. The code is correct for all checked names and slots
+-- that agree with the scene (`SceneAgreesWithChecker`).
 -- Rule: none; used in contracts of lowering.
 use Rattle.std.specs.Prelude.{◌≡◌, ℕ, true, Some}
 use Rattle.ob0_tree.specs.Tree.{Tree, expression, items, selector}
@@ -30,7 +30,8 @@ use Rattle.ob0_run_lowering.specs.declared.scene.Scene.{Scene}
 abbrev pub LoweredMeans : TypeMeanings Label → (Label → Slot) → LoweredExpression → Shape → OutcomeByMoment Label Value → Type 0
 LoweredMeans checked slots l s value = CodeMeans checked slots (code_of l) s value
 
--- States that `P` holds for all checked names and slots that agree with a scene (`SceneAgreesWithChecker`).
+-- States that `P` holds for all checked names and slots that agree with a scene
+-- (`SceneAgreesWithChecker`).
 abbrev pub ForAllAgreeingNames : Scene → (TypeMeanings Label → (Label → Slot) → Type 0) → Type 0
 ForAllAgreeingNames scene P =
     (checked : TypeMeanings Label) (slots : Label → Slot) (targets : Label → Target)

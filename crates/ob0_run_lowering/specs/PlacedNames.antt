@@ -1,12 +1,12 @@
 -- States where lowered code finds the names of a block or a heading. The names get their places one
--- by one: a variable gets cells, a VAR parameter gets an index. The site of a name
--- (`LoweredSite`) has the depth of the activation to which the name belongs. The place of a
--- name has the number of levels out instead, as seen from one activation. Constants and types need
--- no code, so their place is `nowhere`, and `SitesMatchPlacement` claims nothing about them.
--- `place_variable_declarations` and `place_parameter_sections` depend only on names and their sizes, so loops
--- over names need no types or environments. The lemmas `sizes_declared` and `sections_placed` show
--- that these sizes are the sizes of the declared types, if the declarations are well-typed. A frame
--- (`Frame`: depth, cells, VAR parameters) has the counts of a placement so far, without its names
+-- by one: a variable gets cells, a VAR parameter gets an index. The site of a name (`LoweredSite`)
+-- has the depth of the activation to which the name belongs. The place of a name has the number of
+-- levels out instead, as seen from one activation. Constants and types need no code, so their place
+-- is `nowhere`, and `SitesMatchPlacement` claims nothing about them. `place_variable_declarations`
+-- and `place_parameter_sections` depend only on names and their sizes, so loops over names need no
+-- types or environments. The lemmas `sizes_declared` and `sections_placed` show that these sizes
+-- are the sizes of the declared types, if the declarations are well-typed. A frame (`Frame`: depth,
+-- cells, VAR parameters) has the counts of a placement so far, without its names
 -- (`FrameMatchesPlacement`).
 -- Rule: none; used in contracts of lowering.
 use Rattle.std.specs.Prelude.{◌≡◌, ℕ, zero, suc, ◌≤◌, List, [], ◌∷◌, ◌++◌, length, if◌then◌else◌, ◌==◌, Some, None, Option}
@@ -47,8 +47,8 @@ depth_of_site (site.InActivation at offset) = at
 depth_of_site (site.ByReference at index) = at
 depth_of_site (site.Procedure at index) = at
 
--- States that a site, seen from an activation of this depth, is the given place of a name, and that
--- the site isn't deeper than this activation. Claims nothing if the place is `nowhere`.
+-- States that a site, seen from an activation of this depth, is the given place of a name. Also
+-- states that the site isn't deeper than this activation. Claims nothing if the place is `nowhere`.
 abbrev pub SiteMatchesPlace : ℕ → LoweredSite → BindingPlace → Type 0
 SiteMatchesPlace depth s nowhere = Unit {0}
 SiteMatchesPlace depth s (in_slot slot) = (depth_of_site s ≤ depth) × (place_seen_from depth s ≡ in_slot slot)
@@ -67,8 +67,8 @@ PlaceMatchesObject (a_variable s) w = (slot : Slot) × (w ≡ in_slot slot)
 PlaceMatchesObject (a_procedure p) w = (t : Target) × (w ≡ at_target t)
 PlaceMatchesObject _ w = Unit {0}
 
--- states that an environment and a placement bind the same names in the same order, and that each
--- place has the right kind for its name's object (`PlaceMatchesObject`)
+-- States that an environment and a placement bind the same names in the same order. Also states
+-- that each place has the right kind for its name's object (`PlaceMatchesObject`).
 abbrev pub PlacementMatchesEnvironment : TypeEnvironment Label → Placement Label → Type 0
 PlacementMatchesEnvironment [] [] = Unit {0}
 PlacementMatchesEnvironment (b ∷ env) (w ∷ placement) = (b.0 ≡ w.0) × PlaceMatchesObject b.1 w.1 × PlacementMatchesEnvironment env placement
@@ -83,8 +83,8 @@ optional_shape_size (Some s) = size s
 abbrev pub declared_size : DeclarationTableView → Label → ℕ
 declared_size t x = optional_shape_size (type_of_object (object_of_label t x))
 
--- returns the slot of a variable at an offset: in the cells of the module if the depth is 0,
--- otherwise in the cells of the running activation
+-- Returns the slot of a variable at an offset. The slot is in the cells of the module if the depth
+-- is 0, otherwise in the cells of the running activation.
 abbrev pub variable_slot_at_depth : ℕ → ℕ → Slot
 variable_slot_at_depth zero = of_module
 variable_slot_at_depth (suc depth) = in_activation 0

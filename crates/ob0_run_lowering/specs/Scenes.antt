@@ -53,8 +53,8 @@ object_of_label t (declared k) = declared_object_in t k
 object_of_label t (as_written x) = None
 
 -- States that a scene agrees with the checker about the names of a body. The scene has the object
--- that the checker found for each bound name (`checked`), the slot of each variable (`slots`), and
--- the target of each procedure (`targets`).
+-- that the checker found for each bound name (`checked`). It also has the slot of each variable
+-- (`slots`) and the target of each procedure (`targets`).
 pub record SceneAgreesWithChecker (scene : Scene) (checked : TypeMeanings Label) (slots : Label → Slot)
     (targets : Label → Target) : Type 0 where
   pub bound : (x : Label) (o : Object Shape Signature)

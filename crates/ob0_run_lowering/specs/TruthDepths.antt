@@ -40,7 +40,7 @@ pub record IsNotNestedOnLeft (l : LoweredExpression) : Type 0 where
   pub bounds_or_depth : or_depth_of_code l ≤ 1
 
 -- States that the code `whole` of an operation is nested no deeper than the code `left` of its left
--- operand, neither in conjunctions nor in disjunctions. A depth of 1 is always allowed.
+-- operand. This holds for conjunctions and for disjunctions. A depth of 1 is always allowed.
 pub record LeftIsNoDeeperThanWhole (left whole : LoweredExpression) : Type 0 where
   pub bounds_and_depth : and_depth_of_code whole ≤ max 1 (and_depth_of_code left)
   pub bounds_or_depth : or_depth_of_code whole ≤ max 1 (or_depth_of_code left)

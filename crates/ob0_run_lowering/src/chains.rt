@@ -125,10 +125,9 @@ fn single_operation_on_variable(
 }
 
 /// Returns the operation with a variable as the left operand and the number `right` as the right
-/// operand. For a sum, a difference or a product whose right operand is an operation or a chain,
-/// the result is one chain, which evaluates the variable last. The variable has the same value
-/// then, since the evaluation of `right` changes no variable. In all other cases, the result is a
-/// single operation.
+/// operand. A sum, a difference or a product becomes one chain if `right` is an operation or a
+/// chain. This chain evaluates the variable last. The variable has the same value then, since the
+/// evaluation of `right` changes no variable. In all other cases, the result is a single operation.
 fn operation_on_variable(
     alloc: Global,
     operator: Operator,

@@ -6,7 +6,7 @@
 //! For code in the body, a variable has a slot (`Slot`), from which its place is computed. A
 //! procedure has a target (`Target`), which a call enters. The contracts of the first two layers
 //! hold if the scene has the object, the slot or the target of each checked name
-//! (`SceneAgreesWithChecker`), so they mention no environments, placements or blocks. The third
+//! (`SceneAgreesWithChecker`). So they mention no environments, placements or blocks. The third
 //! layer proves `SceneAgreesWithChecker` for each body. If an expression has a type, its code is
 //! correct (`LowersExpression`). If an expression has no type, nothing is claimed about its code.
 //! So every tree is accepted and lowered.

@@ -50,8 +50,8 @@ impl CallTarget {
     }
 }
 
-/// The data that is needed to lower a body: the module, the layouts of its types, the sites of
-/// declarations in lowered code, and the depth of the body's activation. `sites` has the site of
+/// The data that is needed to lower a body. It has the module, the layouts of its types, the sites
+/// of declarations in lowered code, and the depth of the body's activation. `sites` has the site of
 /// each declaration at the declaration's ordinal. The depth of the module is 0.
 #[derive(Clone, Copy)]
 pub struct Scene<'s, 'k, 't> {

@@ -1,10 +1,9 @@
 //! Lowers statements.
 //!
-//! Each loop has this invariant: whatever correct code the remaining parts (statements, branches or
-//! arguments) get, the code so far followed by that code is correct for the whole
-//! (`SequenceMade`, `BranchesMade`, `ArgumentsMade`). At the end of the loop
-//! no part remains. An empty statement has no code, so there may be fewer instructions than
-//! statements.
+//! Each loop visits parts: statements, branches or arguments. Its invariant (`SequenceMade`,
+//! `BranchesMade`, `ArgumentsMade`) is about any correct code for the remaining parts. The code so
+//! far, followed by that code, is correct for the whole. At the end of the loop no part remains. An
+//! empty statement has no code, so there may be fewer instructions than statements.
 
 ghost use Rattle.std.specs.Prelude.{◌≡◌, ◌++◌, IfOk, OnOk, option_map, option_to_list};
 ghost use Rattle.ob0_tree.specs.View as view;

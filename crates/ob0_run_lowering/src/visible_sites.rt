@@ -32,9 +32,8 @@ pub(crate) struct VisibleSites {
     pub(crate) hidden: Vec<HiddenSite>,
 }
 
-/// The state of an activation while its variables and parameters get their sites: its depth, the
-/// number of its cells so far, and the number of its VAR parameters so far. The depth of the module
-/// is 0.
+/// The state of an activation while its variables and parameters get their sites: its depth, and
+/// the numbers of its cells and VAR parameters so far. The depth of the module is 0.
 #[derive(Clone, Copy)]
 pub(crate) struct Frame {
     pub(crate) depth: usize,

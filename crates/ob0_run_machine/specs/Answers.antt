@@ -1,5 +1,5 @@
--- Converts the results that the machine's functions return (`Result`, `FlatOutcome`, `StopReason`) to the
--- outcomes and the ends of a run that the definitions use (`StepResult`, `Halt`).
+-- Converts the results of the machine's functions (`Result`, `FlatOutcome`, `StopReason`) to the
+-- outcomes and ends of runs that the definitions use (`StepResult`, `Halt`).
 -- Rule: none; used in contracts of the machine's steps.
 use Rattle.std.specs.Prelude.{ℤ, List, Option, Some, None, Ok, Err, Result}
 use Rattle.ob0_run_machine.specs.declared.ending.EvaluationFault.{EvaluationFault}

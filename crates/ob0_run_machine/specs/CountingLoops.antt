@@ -1,5 +1,5 @@
--- Defines the limit of a counting loop: a WHILE whose condition is `variable < limit`, and whose last
--- statement adds a literal to a variable.
+-- Defines the limit of a counting loop. A counting loop is a WHILE with the condition
+-- `variable < limit`, whose last statement adds a literal to a variable.
 -- Rule: none; for contracts of the machine.
 use Rattle.std.specs.Prelude.{◌≡◌, ℤ, List}
 use Rattle.ob0_run_machine.specs.declared.code.Comparator.TheVariants.{Less}
@@ -21,8 +21,8 @@ limit_value cells (limit.Address address) = cell_at cells address
 abbrev pub IsCountingLimit : Levels → lowered.Number → CountingLimit → Type 0
 IsCountingLimit ls n l = (cells : List ℤ) → number ls cells n ≡ gives (limit_value cells l)
 
--- States that the condition `t` compares the variable of `c` by `<` with an expression, and that
--- this expression has the value of the limit of `c`.
+-- States that the condition `t` compares the variable of `c` by `<` with an expression. This
+-- expression has the value of the limit of `c`.
 abbrev pub IsCountingCondition : Levels → Truth → CountingCondition → Type 0
 IsCountingCondition ls t c =
     (n : lowered.Number) × (truth_of t ≡ variable_comparison Less c.variable n) × IsCountingLimit ls n c.limit

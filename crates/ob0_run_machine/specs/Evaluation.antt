@@ -49,9 +49,9 @@ level_at ls up = innermost_level (drop up ls)
 abbrev pub add_offset : ℕ → ℕ → ℕ
 add_offset address offset = (address + offset) % 2 ^ 64
 
--- Returns the address of an array's element, given the address of the array's first element, the
--- array's length, the number of cells of each element (`stride`), and the index. The run ends with
--- Index if the index is negative or not below the length.
+-- Returns the address of an array's element, given the address of the array's first element. The
+-- array has `length` elements of `stride` cells each. The run ends with Index if the index is
+-- negative or not below the length.
 abbrev pub element_address : ℕ → ℕ → ℕ → ℤ → StepResult ℕ
 element_address address length stride (pos i) =
     if nat_lt i length then gives (add_offset address (i * stride)) else ends Index

@@ -41,7 +41,7 @@ continue_with (running s) next = next s
 continue_with (stopped e out) next = stopped e out
 continue_with no_room next = no_room
 
--- Continues a run with one of two steps, which the value of a condition chooses. If the evaluation
+-- Continues a run with one of two steps, depending on the value of a condition. If the evaluation
 -- of the condition ends the run, the run ends, and both steps are skipped.
 abbrev pub choose_by_truth : MachineState → StepResult Bool
     → (MachineState → MachineProgress)
@@ -97,8 +97,8 @@ abbrev pub with_passed_cells : CallArguments → List ℤ → CallArguments
 with_passed_cells p more = record p { cells = p.cells ++ more }
 
 -- Evaluates an argument over the cells before the call (`before`), and returns the passed arguments
--- with this one added: an address for a VAR parameter, otherwise the cells of a value. If the
--- evaluation ends the run, returns this end.
+-- with this one added. An argument for a VAR parameter adds an address, any other argument adds the
+-- cells of its value. If the evaluation ends the run, returns this end.
 abbrev pub pass_argument : Levels → (before : List ℤ) → LoweredArgument → CallArguments
     → StepResult CallArguments
 pass_argument ls before (by_place p) done =
@@ -250,7 +250,7 @@ run_result no_room = None
 abbrev pub module_levels : Levels
 module_levels = record { base = 0; addresses = [] } ∷ []
 
--- Returns the run of a program on an input, with the bounds `c` on open calls and `t` on the
+-- Returns the run of a program on an input. The bounds are `c` on open calls, and `t` on the
 -- iterations of each execution of a loop. Returns None if the number of cells would have more than
 -- 64 bits.
 unfoldable pub run : LoweredCode → List ℤ → ℕ → ℕ → Option MachineRun

@@ -6,8 +6,8 @@
 -- and a write there changes nothing. A block is copied only if all its cells exist at both places.
 -- If some cells of a block argument don't exist, zeros are passed. A procedure that doesn't exist
 -- does nothing. An activation that doesn't exist has base 0 and no addresses. Addresses wrap at 64
--- bits. All arguments of a call are evaluated over the cells before the call. Their values are added
--- one by one at the end of the cells (`pass_arguments`).
+-- bits. All arguments of a call are evaluated over the cells before the call. Their values are
+-- added one by one at the end of the cells (`pass_arguments`).
 -- Rule: none; used in contracts of the machine.
 use Rattle.std.specs.Prelude.{ℕ, Bool, List, ℤ}
 
@@ -70,7 +70,7 @@ mutual
     reads : Place → Instruction
     writes : Number → Instruction
     writes_line : Instruction
-    -- an IF: its conditions with their statements, and the statements that run if no condition is TRUE
+    -- an IF: its conditions with their statements, and the statements if no condition is TRUE
     chooses : Branches → Instructions → Instruction
     while_loop : Truth → Instructions → Instruction
     repeat_loop : Instructions → Truth → Instruction

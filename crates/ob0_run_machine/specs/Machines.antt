@@ -73,8 +73,8 @@ PerformsCalls post enters =
     → post at k l r after → IsProgressAfterStep r after.now (enters k (levels_of l.now) (state_of at.now))
 
 -- The type of the effect of a part of a program, for example of a statement. The effect is a
--- function from the effect of calls, and the state before the part runs, to the progress of the run
--- after the part.
+-- function of the effect of calls, and of the state before the part runs. It returns the progress
+-- of the run after the part.
 abbrev pub CodeEffect : Type 0
 CodeEffect = CallEffect → MachineState → MachineProgress
 
@@ -133,10 +133,10 @@ IsOutcomeOfPassing (Err s) memory cells addresses o = StopsPassing (end_of_stop_
 abbrev pub activation_effect : Option Routine → ℕ → Levels → CodeEffect
 activation_effect o t ls enters s = activate enters t ls o s
 
--- States that `m'` and `r` are the machine and the result after a call of a procedure in the
--- machine `m`, as `call` defines it (`IsProgressAfterStep`). `k` is the procedure's index, and `l`
--- is the level of the called activation. At most `c` calls may still be opened, including this
--- call. Each execution of a loop may make at most `t` iterations.
+-- States that a call of a procedure leads from the machine `m` to the machine `m'` with the result
+-- `r`, as `call` defines it (`IsProgressAfterStep`). `k` is the procedure's index, and `l` is the
+-- level of the called activation. At most `c` calls may still be opened, including this call. Each
+-- execution of a loop may make at most `t` iterations.
 abbrev pub IsProgressAfterCall : Result (Unit {0}) StopReason
     → Machine
     → Machine

@@ -1,5 +1,5 @@
--- Converts the values that the machine returns at the end of a run (`End`, `Outcome`) to the values
--- that the definitions of runs use (`Halt`, `MachineRun`).
+-- Converts the end and the outcome that the machine returns (`End`, `Outcome`) to the values that
+-- the definitions of runs use (`Halt`, `MachineRun`).
 -- Rule: none; used in contracts to give values of the code a meaning.
 use Rattle.std.specs.Prelude.{◌≡◌, ℕ, IsErr, Ok, Err, None, Option, Result, Some}
 use Rattle.std.specs.declared.alloc.AllocError.{AllocError}
@@ -41,7 +41,7 @@ IsEndAfterExecution (Err s) r = ReturnsEnd (end_of_stop_reason s) r
 abbrev pub run_of : Outcome → MachineRun
 run_of o = record { output = output_items o.output.items; ending = meaning_of_end o.end }
 
--- returns the progress of a run after a program's body, starting in the state `s`, with the bounds
--- `c` on open calls and `t` on the iterations of each execution of a loop
+-- Returns the progress of a run after a program's body, which starts in the state `s`. The bounds
+-- are `c` on open calls, and `t` on the iterations of each execution of a loop.
 abbrev pub progress_after_body : LoweredCode → ℕ → ℕ → MachineState → MachineProgress
 progress_after_body program c t s = execute_sequence (call program.procedures c t) t module_levels program.body s

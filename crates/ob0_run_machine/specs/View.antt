@@ -1,6 +1,7 @@
 -- Converts values of the machine's types (`src/code.rt`) to lowered code (`Lowered`), which defines
--- their meaning. A row (`Row_of-Link`, ..) is a list inside a recursive type, in the form over which
--- definitions can recurse. So some conversions have two forms, one for a row and one for a list.
+-- their meaning. A row (`Row_of-Link`, ..) is a list inside a recursive type, in the form over
+-- which definitions can recurse. So some conversions have two forms, one for a row and one for a
+-- list.
 -- Rule: none; used in contracts to give values of the code a meaning.
 use Rattle.std.specs.Prelude.{List, [], ◌∷◌, ℤ, map}
 use Rattle.ob0_run_machine.specs.declared.code.Place as place
@@ -53,8 +54,8 @@ variable_of (variable.Module offset) = lowered.in_module offset
 variable_of (variable.InOwnActivation offset) = lowered.in_own_activation offset
 variable_of (variable.ByReference index offset) = lowered.passed 0 index offset
 
--- converts a `VarParameterPlace` to a lowered place: a place at an offset from the address that was passed
--- for a VAR parameter
+-- converts a `VarParameterPlace` to a lowered place: a place at an offset from the address that was
+-- passed for a VAR parameter
 abbrev pub var_parameter_place_of : VarParameterPlace → lowered.Place
 var_parameter_place_of r = lowered.passed r.up r.index r.offset
 
@@ -91,8 +92,8 @@ abbrev mutual
   first_operand_of (first.Cell p) = lowered.cell (place_of p)
   first_operand_of (first.Negative' pointer n) = lowered.negative (number_of n)
 
-  -- returns the lowered operation that applies a link to a number; a link is a binary operator with
-  -- one of its operands, and the number is the other operand
+  -- Returns the lowered operation that applies a link to a number. A link is a binary operator with
+  -- one of its operands, and the number is the other operand.
   pub operation_with_link : Link → lowered.Number → lowered.Number
   operation_with_link (link.SumLiteral n) left = lowered.operation lowered.sum left (lowered.literal n)
   operation_with_link (link.SumVariable v) left =

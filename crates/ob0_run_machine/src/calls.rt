@@ -26,9 +26,9 @@ fn procedure_at<'p>(procedures: &'p [Routine], procedure: usize) -> Option<&'p R
     Some(&procedures[procedure])
 }
 
-/// Runs a procedure whose arguments have been passed: adds the cells of the variables that it
-/// declares, with the value 0, and then runs its body. Does nothing if `procedure` is None. The
-/// closure `enter` performs the calls in the body.
+/// Runs a procedure whose arguments have been passed. First adds the cells of the variables that it
+/// declares, with the value 0, then runs its body. Does nothing if `procedure` is None. The closure
+/// `enter` performs the calls in the body.
 fn activate<F: Fn(&mut Machine<'_>, usize, &Level<'_>) -> Result<(), StopReason>>(
     procedure: Option<&Routine>,
     level: &Level<'_>,

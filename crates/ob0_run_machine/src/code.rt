@@ -7,10 +7,10 @@
 //! of lowered code is defined without the special forms. The machine takes fewer steps for these
 //! forms:
 //!
-//! - A `Variable` has a single tag for its kind: a variable of the module, a variable of the
+//! - A `Variable` has a single tag for its kind. It is a variable of the module, a variable of the
 //!   running activation, or a place at an offset from the address of a VAR parameter. A `Variable`
-//!   occurs as a place, as a number, as an operand of a link or a comparison, as the target of an
-//!   assignment, and as the array or the index of a `VariableElement`.
+//!   occurs as a place, a number, an operand of a link or a comparison, and the target of an
+//!   assignment. It also occurs as the array or the index of a `VariableElement`.
 //! - The operations of a chain are links, which are applied to the result so far. A `Link` has the
 //!   operator and the kind of its operand, a literal or a variable, in one tag. Any other right
 //!   operand is evaluated by a called function (`apply_to_expression`). `v + i * j` is also a chain
@@ -19,11 +19,11 @@
 //!   variable is a `StoreChain`.
 //! - A variable compared with a literal or a variable is one node (`LessThanLiteral`,
 //!   `ComparedToLiteral`, `ComparedToVariable`). The same holds for an element compared with a
-//!   variable (`ElementToVariable`), for the assignment of TRUE or FALSE to an element
-//!   (`StoreConstant`), and for `~flag` (`Unset`).
-//! - Constants and comparisons of variables are evaluated inline, flags and comparisons of elements
-//!   by small functions (`evaluate_flag`, `compare_element`), all other conditions by a large
-//!   function (`evaluate_truth_flat`).
+//!   variable (`ElementToVariable`), and for `~flag` (`Unset`). It also holds for the assignment of
+//!   TRUE or FALSE to an element (`StoreConstant`).
+//! - Constants and comparisons of variables are evaluated inline. Small functions evaluate flags
+//!   and comparisons of elements (`evaluate_flag`, `compare_element`). A large function evaluates
+//!   all other conditions (`evaluate_truth_flat`).
 //!
 //! A long sum is a `Chain`, a long conjunction an `All`, and a long disjunction an `Any`. Each has
 //! the meaning of pairs that are nested on the left. A loop evaluates the operands, so a longer
@@ -147,8 +147,8 @@ pub struct Chain {
 }
 
 /// A binary operator with one of its two operands: a literal, a variable or another number. The
-/// other operand is the result so far. It is the left operand, except in the cases whose names
-/// begin with `Variable`. In these it is the right operand.
+/// other operand is the result so far. It is the left operand, except in `VariableSum`,
+/// `VariableDifference` and `VariableProduct`. In these cases it is the right operand.
 #[cycle(numbers)]
 #[derive(Drop)]
 pub enum Link {

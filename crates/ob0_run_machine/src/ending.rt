@@ -13,8 +13,8 @@ pub(crate) enum EvaluationFault {
     Index,
 }
 
-/// The reason why a statement ends a run. A `StopReason` has no payload, so a `Result<(),
-/// StopReason>` is returned in registers.
+/// The reason why a statement ends a run. A `StopReason` has no payload, so a
+/// `Result<(), StopReason>` is returned in registers.
 #[derive(Clone, Copy, PartialEq, Eq, Debug)]
 pub(crate) enum StopReason {
     Overflow,

@@ -1,7 +1,7 @@
 //! Represents the activations that running code can see, as a linked list.
 //!
 //! The list is the static chain. Each `Level` is a local variable of the Rust function that makes
-//! the call, and refers to the level of the activation in which the called procedure is declared.
+//! the call. It refers to the level of the activation in which the called procedure is declared.
 //! `levels_of` reads the list by structural recursion, so no invariant about a table of frames is
 //! needed.
 //!

@@ -548,8 +548,8 @@ fn run_counting_loop_body<F: Fn(&mut Machine<'_>, usize, &Level<'_>) -> Result<(
     increase_or_stop(address, by, machine)
 }
 
-/// Runs a counting loop: a WHILE whose condition is that a variable is less than a literal or a
-/// variable, and whose last statement adds a literal to a variable. The variables may differ. Their
+/// Runs a counting loop. The condition of this WHILE is that a variable is less than a literal or a
+/// variable. Its last statement adds a literal to a variable. The variables may differ. Their
 /// addresses are computed once, before the first iteration. The loop ends the run with TurnBound as
 /// `run_while` does.
 #[inline(always)]

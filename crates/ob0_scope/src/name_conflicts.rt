@@ -98,9 +98,9 @@ fn first_captured_occurrence(
     }
 }
 
-/// Returns the index of the first occurrence, among all occurrences in text order, to which the
-/// table `ordinals` gives another ordinal than the module's own table. Returns None if there is no
-/// such occurrence.
+/// Returns the index of the first occurrence that has different ordinals in the table `ordinals`
+/// and in the module's own table. The index is the occurrence's position among all occurrences in
+/// text order, from 0. Returns None if there is no such occurrence.
 fn first_rebound_occurrence(names: &Resolved, ordinals: &[OrdinalEntry]) -> Option<usize>
     ensures { result
         ≡ position_from (λ token. not

@@ -95,7 +95,7 @@ marks_few m w parsed scan =
     let before = before_at read n 7 ids order (omega arith) in
     record { read = read; bound = n; small = omega (arith, few, tokens); before = marks_before read n v.marks (subst (AreBeforeAt read n) (sym passed.tokens) before) has }
 
--- Entries have the ordinals of all marks of a module.
+-- The entries have the ordinals of all marks of a module.
 pub all_kept : (m : ParsedModule) (w : Spellings) (table : List (Option ℕ)) → IsParsed m → IsScan m.source
     → with_entries table (visit_module (tree_of m) (initial_walk_state w)).marks ≡ with_marks table (visit_module (tree_of m) (initial_walk_state w)).marks
 all_kept m w table parsed scan =

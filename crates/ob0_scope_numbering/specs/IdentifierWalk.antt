@@ -13,12 +13,12 @@ use Rattle.ob0_language_names.specs.Names.{Name, naming_by_spelling}
 use Rattle.ob0_language_names.specs.Parts.{names_in_list}
 use Rattle.ob0_language_names.specs.Scopes.{Scope, declare_names, ordinal_in_scope, predeclared_count, predeclared_scope}
 
--- The state of the walk over a module's identifiers. `writing` has the spellings of all identifiers, and
--- `scope` the names that are visible at the next identifier. The other fields are about the identifiers
--- visited so far: `declaration_tokens` has the tokens of declaring names, `uses` the tokens of looked-up
--- names, and `marks` the ordinals of all these identifiers, in a collection of the type `M`. The
--- function `put_ordinal` adds the ordinal of the identifier at a token (None if it has no ordinal) to
--- the collection.
+-- The state of the walk over a module's identifiers. `writing` has the spellings of all
+-- identifiers, and `scope` the names that are visible at the next identifier. The other fields are
+-- about the identifiers visited so far. `declaration_tokens` has the tokens of declaring names, and
+-- `uses` the tokens of looked-up names. `marks` has the ordinals of all these identifiers, in a
+-- collection of the type `M`. The function `put_ordinal` adds the ordinal of the identifier at a
+-- token (None if it has no ordinal) to the collection.
 pub record WalkState {M : Type 0} (put_ordinal : ℕ → Option ℕ → M → M) : Type 0 where
   pub writing : Spellings
   pub scope : Scope Name

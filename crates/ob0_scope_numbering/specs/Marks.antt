@@ -10,8 +10,8 @@ pub record OrdinalMark : Type 0 where
   pub token : ℕ
   pub ordinal : Option ℕ
 
--- returns the table after writing the ordinal of each mark, in order, at the index of the mark's
--- token
+-- returns the table in which the ordinal of each mark is entered, in order, at the index of the
+-- mark's token
 abbrev pub with_marks : List (Option ℕ) → List OrdinalMark → List (Option ℕ)
 with_marks table [] = table
 with_marks table (m ∷ ms) = with_marks (slice_set table m.token m.ordinal) ms

@@ -20,7 +20,7 @@
 //! So all other proofs are about the marks, which are in the order of their tokens.
 //!
 //! An entry of the table has 32 bits (`OrdinalEntry`). An ordinal that is too large for an entry is
-//! stored as the greatest one, so no function of the walk requires that ordinals are small. A text
+//! stored as the greatest one. So no function of the walk requires that ordinals are small. A text
 //! has at most 2^20 bytes and no more tokens than bytes, and each declaration has a different
 //! token. So entries can hold the ordinals of all marks.
 
@@ -298,7 +298,7 @@ impl<'t> NumberingWalk<'t> {
         self.visible.truncate_bindings(len);
     }
 
-    /// Returns whether the identifier at a token is bound to the renamed declaration, so that it
+    /// Returns whether the identifier at a token is bound to the renamed declaration. If it is, it
     /// has the new name instead of its spelling in the text.
     fn is_bound_to_renamed_declaration(&self, token: usize) -> bool
         ensures { result

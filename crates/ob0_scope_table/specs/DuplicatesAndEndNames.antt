@@ -25,8 +25,9 @@ duplicate_faults spelling before (x ∷ xs) =
     fault_unless (not (is_among (spelling x) before)) (fault_at_token code.Duplicate x)
     ++ duplicate_faults spelling (spelling x ∷ before) xs
 
--- returns a list with only the fault `EndName` if the closing name of a module or procedure (at the token
--- `closing`) differs from its name (at the token `x`), otherwise an empty list
+-- Returns a list with only the fault `EndName` if a closing name is wrong, otherwise an empty list.
+-- The closing name of a module or procedure (at the token `closing`) is wrong if it differs from
+-- its name (at the token `x`).
 abbrev pub closing_name_faults : (ℕ → Name) → ℕ → ℕ → List FaultAtTokens
 closing_name_faults spelling x closing =
     fault_unless (same_name (spelling x) (spelling closing)) (fault_at_token code.EndName closing)

@@ -16,8 +16,8 @@ fault_at_token c token = record { code = c; first = token; last = token }
 abbrev pub token_or_last : ℕ → ℕ → ℕ
 token_or_last count token = min token (count - 1)
 
--- returns a fault with its span in the text `source`, which goes from the start of the fault's first
--- token to the end of its last token
+-- Returns a fault with its span in the text `source`. The span goes from the start of the fault's
+-- first token to the end of its last token.
 abbrev pub fault_with_span : TextWithTokens → FaultAtTokens → Fault
 fault_with_span source f =
     record {

@@ -34,11 +34,11 @@ abbrev mutual
   is_range_in_body_of_block low high (forms_block (declares cs ts vs ps) statements) =
       is_range_in_body_of_procedures low high ps statements
 
-  -- Returns whether the tokens from `low` up to, but not including, `high` are in one body of a block
-  -- that has these procedures and these statements. If a procedure's closing name is at or after
-  -- `low`, the body must be in the first such procedure. Otherwise, `low` must be at or after the
-  -- first identifier of the statements. The caller checks that `high` is at or before the closing name
-  -- of the block.
+  -- Returns whether one body of a block contains the tokens from `low` up to, but not including,
+  -- `high`. The block has these procedures and these statements. If a procedure's closing name is
+  -- at or after `low`, the body must be in the first such procedure. Otherwise, `low` must be at or
+  -- after the first identifier of the statements. The caller checks that `high` is at or before the
+  -- closing name of the block.
   pub is_range_in_body_of_procedures : ℕ → ℕ → Tree ℕ (items procedure) → Tree ℕ (maybe body) → Bool
   is_range_in_body_of_procedures low high end statements = first_identifier_is_at_or_before low (identifiers role.Declaring statements)
   is_range_in_body_of_procedures low high (more p ps) statements =

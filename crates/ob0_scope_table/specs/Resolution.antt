@@ -131,8 +131,8 @@ undeclared_faults m = undeclared_faults_by_labels (occurrences (tree_of m)) (bin
 
 -- States that these are the faults of a module's names. Duplicate declarations and wrong closing
 -- names come first (`declaration_faults`). A fault for each undeclared name follows, in text order.
--- The list has no fault `Duplicate` or `EndName` exactly if no name is declared twice in a block or
--- record, and all closing names are right.
+-- The list has a fault `Duplicate` or `EndName` exactly if a name is declared twice in a block or
+-- record, or a closing name is wrong.
 pub record AreNameFaultsOf (m : ParsedModule) (faults : List FaultAtTokens) : Type 0 where
   pub by_kind : faults ≡ declaration_faults m ++ undeclared_faults m
   pub declared_twice : list_any is_duplicate_or_end_name faults ≡ not (has_consistent_names (named_tree_of m))

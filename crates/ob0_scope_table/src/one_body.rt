@@ -1,6 +1,7 @@
 //! Finds the body (the statements of one block) that contains a range of tokens, if there is one. A
-//! body contains the tokens from `low` up to, but not including, `high` if `low` is at or after the
-//! body's first identifier, and `high` is at or before the closing name of the body's block.
+//! range is the tokens from `low` up to, but not including, `high`. A body contains it if `low` is
+//! at or after the body's first identifier, and `high` is at or before the closing name of the
+//! body's block.
 
 ghost use Rattle.std.specs.Prelude.{◌≡◌};
 ghost use Rattle.ob0_tree.specs.ParsedModule.{tree_of};

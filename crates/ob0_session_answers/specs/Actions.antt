@@ -108,9 +108,9 @@ actions_array requested here everywhere =
     (action_values requested OneUse here ++ action_values requested Everywhere everywhere))
 
 -- States that the request asks for inlining (`wants_inlining`) and that the text is a well-typed
--- module. The JSON value lists the actions that are offered at the offset `actions_offset` of the
--- request's range. `here` and `everywhere` are the edits of the two actions. They are None for an
--- action that isn't offered.
+-- module. The JSON value lists the actions that are offered where actions apply in the request's
+-- range (`actions_offset`). `here` and `everywhere` are the edits of the two actions. They are None
+-- for an action that isn't offered.
 pub record ListsInlinings (unit : Unit) (requested : VersionedActionsRequest) (text : List ℕ)
     (value : Data) : Type 0 where
   pub here : Option (Vec Edit Global)

@@ -91,8 +91,9 @@ fn sorted_offsets_of(alloc: Global, reported: &[Diagnosis]) -> Result<Vec<usize>
     Ok(offsets)
 }
 
-/// Converts each diagnosis, which has byte offsets, to a diagnostic with positions. `positions` has
-/// the position of each byte offset in `offsets`, which is in ascending order.
+/// Converts each diagnosis, which has byte offsets, to a diagnostic with positions, in the same
+/// order. `positions` has the position of each byte offset in `offsets`, item by item. The offsets
+/// are in ascending order.
 fn attach_positions<T: TextStore>(
     alloc: Global,
     store: &T,

@@ -1,4 +1,5 @@
--- Defines which analyses the server keeps in its cache, and of which texts.
+-- Defines which analyses the cache contains, how a call may change it, and when each analysis in it
+-- belongs to its document's current text.
 use Rattle.std.specs.Prelude.{◌≡◌, ◌⊎◌, ℕ, ℤ, List, Contains, Option, Some, None, String, string_bytes}
 use Rattle.std.specs.Str.{chars}
 use Rattle.std.specs.declared.alloc.Global.{Global}

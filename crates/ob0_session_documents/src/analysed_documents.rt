@@ -143,7 +143,7 @@ impl<T: TextStore> AnalysedDocuments<T> {
         }
     }
 
-    /// Analyses the text of a document and keeps the analysis. `before` is the analysis of the
+    /// Makes the analysis of a document's text and keeps it. `before` is the analysis of the
     /// document's previous text, or None if there is none. Parts of it are reused. Does nothing if
     /// the document isn't open or is out of step.
     fn analyse_and_keep(&mut self, uri: &str, before: Option<Analysis>) -> Result<(), AllocError>

@@ -132,7 +132,8 @@ impl WriteJson for RenameProvider {
     }
 }
 
-/// The value of `textDocumentSync`: documents are opened, changed by ranges, and closed.
+/// The value of `textDocumentSync`. It asks the client to report when a document is opened, changed
+/// or closed, and to send each change as a range with its new text.
 #[derive(Drop)]
 pub struct TextDocumentSyncOptions {}
 

@@ -282,9 +282,9 @@ AnswersInPhase phase before content sent after = AnswersBeforeEnd before content
 abbrev pub Answers : ServerState → List ℕ → List (List ℕ) → ServerState → Type 0
 Answers before content sent after = AnswersInPhase before.phase before content sent after
 
--- States that the messages `sent` are the messages `first`, which reply to this content, followed
--- by the messages `later`. The fact `Follows` holds for `later` and for `between`, the state after
--- the first reply.
+-- States that the messages `sent` are the messages `first`, followed by the messages `later`. The
+-- messages `first` reply to this content, and `between` is the state after this reply. The fact
+-- `Follows` holds for `between` and `later`.
 pub record AnswersFirstContent (before : ServerState) (content : List ℕ) (sent : List (List ℕ))
     (Follows : ServerState → List (List ℕ) → Type 0) : Type 0 where
   pub between : ServerState

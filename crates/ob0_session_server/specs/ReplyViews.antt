@@ -11,8 +11,8 @@ use Rattle.ob0_session_documents.specs.declared.document_requests.RequestOutcome
 use Rattle.ob0_session_json.specs.Shapes.{edit_refusal}
 use Rattle.ob0_session_server.specs.Answers.{ServerState, Reaction, Reply, AreContentsOfReply, says}
 
--- States that the reply allows the code's message `sent`. If `sent` is None, states that the reply
--- is `nothing`.
+-- States that the code's message `sent` is one that this reply allows. If `sent` is None, states
+-- that the reply is `nothing`.
 abbrev pub SendsReply : Reply → Option (Vec ℕ Global) → Type 0
 SendsReply reply sent = AreContentsOfReply reply (option_to_list (option_map (λ v. v.items) sent))
 

@@ -27,7 +27,7 @@ pub enum TestQuestion {
     /// The ordinal of the declaration to which each occurrence would be bound if the declaration
     /// with this ordinal were renamed to this new name.
     BoundOrdinals(usize, &'static str),
-    /// The declaration or field that the name at this byte offset refers to, its uses, and its
+    /// The declaration or field that the name with this byte offset refers to, its uses, and its
     /// hover text.
     NameAt(usize),
     /// The hover text of each name, in text order, each followed by a bar.
@@ -37,7 +37,7 @@ pub enum TestQuestion {
     Run(&'static [i32], u32, u32),
     /// The names of nodes in the lowered body, as `push_names_of_nodes` appends them.
     Code,
-    /// The text after a renaming at a line and a character (from 0) to this name, or the refusal.
+    /// The text after the name with this line and character (from 0) gets this new name, or the refusal.
     Rename(u64, u64, &'static str),
     InlineHere(u64, u64),
     InlineAll(u64, u64),

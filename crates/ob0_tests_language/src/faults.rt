@@ -132,13 +132,13 @@ static TEXTS_WITH_CHANGES: &[(&str, u64, u64, &str)] = changes![
     "MODULE M; VAR x, u: INTEGER; PROCEDURE P(a: INTEGER); VAR y: BOOLEAN; PROCEDURE Q; BEGIN u := x; u := y END Q; \
         BEGIN x := a; w := w END P; PROCEDURE S; BEGIN w := 1 END S; BEGIN P(x); v := u END M.", 130, 131, "u";
     "MODULE M; VAR x: INTEGER; PROCEDURE P; VAR x: BOOLEAN; BEGIN x := TRUE END P; BEGIN x := 1; Write(x) END M.", 98, 99, "y";
-    // The first name of a body, a number before it, the last name, and two changes at once.
+    // The first name of a body with a number before it, and the first and the last name of a body.
     "MODULE M; VAR x, y: INTEGER; PROCEDURE P; BEGIN IF 1 < x THEN y := x END END P; BEGIN P; z := x END M.", 51, 56, "2 < q";
     ONE_PROCEDURE, 48, 54, "q := r";
     // A closing name, and a closing name together with the last name of its body.
     ONE_PROCEDURE, 59, 60, "Q";
     ONE_PROCEDURE, 53, 60, "q END Q";
-    // A parameter, a field at its declaration and at a selection, and a type.
+    // A parameter, a field in its declaration, and a field in a selection.
     RECORD_PARAMETERS, 70, 71, "a";
     RECORD_PARAMETERS, 29, 30, "f";
     RECORD_PARAMETERS, 100, 101, "h";

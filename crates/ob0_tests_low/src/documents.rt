@@ -12,13 +12,13 @@ use std::process::Abort;
 /// A change: its start and its end, each as line and character, and its new text.
 type ChangeRow = ((u64, u64), (u64, u64), &'static str);
 
-/// An action on a document.
+/// An action on a document. `Lose` puts the document out of step: its text becomes unknown.
 enum DocumentAction {
     Open(i64, &'static str),
-    /// A notification with a version and changes.
+    /// The document gets a notification with this version and these changes.
     Note(i64, &'static [ChangeRow]),
     Lose,
-    /// The document is closed. The Bool says whether it was open before.
+    /// The document is closed. The Bool says whether it is expected to be open before.
     Close(bool),
 }
 

@@ -25,8 +25,8 @@ enum TestedMessage {
     Sent(SentMessage),
 }
 
-/// A message that is sent. `Refusal` is an answer with an error, and each name with `Note` is a
-/// notification. Each other name describes the result of an answer.
+/// A message that is sent. `Refusal` is an answer with an error. `NoteOfNothing` and
+/// `NoteOfEachKind` are notifications. Each other name describes the result of an answer.
 #[derive(Clone, Copy)]
 enum SentMessage {
     Nothing,

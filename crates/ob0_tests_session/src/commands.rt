@@ -41,9 +41,9 @@ const RENAME_AT_KEYWORD: CommandLine<'static> = CommandLine::Rename {
 /// A command line, the bytes of its file and the bytes of the standard input.
 type CommandWithInput = (CommandLine<'static>, &'static [u8], &'static [u8]);
 
-/// Performs a command, whose output goes to a writer of which only the first `flushes` flushes
-/// succeed. Returns the status, and the number of bytes that this writer passed on. A command line
-/// without a file isn't performed; the status is 2.
+/// Performs a command with an output writer whose first `flushes` flushes succeed; later ones fail.
+/// Returns the command's status, and the number of bytes that this writer passed on. If the command
+/// line has no file, performs nothing and returns the status 2.
 fn status_and_passed_on_bytes(alloc: Global, call: CommandWithInput, flushes: u32) -> (u8, usize) {
     let (line, file, bytes) = call;
     let Some(_path) = line.file() else {

@@ -100,7 +100,7 @@ fn list_of_one_change(alloc: Global, range: Range, text: &str) -> Result<Vec<Cha
     Ok(changes)
 }
 
-/// Returns the request for renaming the name at a position to `name`.
+/// Returns the request for renaming the name with this position to `name`.
 fn rename_ask(alloc: Global, position: Position, name: &str) -> Result<Ask, AllocError> {
     let name = String::from_str(alloc, name)?;
     Ok(Ask::Rename { position, name })

@@ -132,7 +132,7 @@ fn ends_line(c: char, rest: &str) -> bool
     c == '\n' || (c == '\r' && !rest.starts_with('\n'))
 }
 
-/// Returns the width of a character: its length in UTF-16 units or in bytes of UTF-8.
+/// Returns the number of units of a character: its length in UTF-16 units or in bytes of UTF-8.
 fn width(c: char, unit: Unit) -> u64
     ensures { result ≡ width_of unit c }
 {

@@ -1,3 +1,3 @@
-//! Proves that the code can represent each `Tree` of the specification that has token indexes as
-//! leaves and spells at most 1,048,576 tokens: some syntax tree of the code has this `Tree`.
+//! Proves that the code has a syntax tree for each `Tree` of the definitions. The `Tree` must have
+//! token indexes as leaves and spell at most 1,048,576 tokens.
 #![tactic(auto)]

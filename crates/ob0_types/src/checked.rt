@@ -174,7 +174,7 @@ pub fn check_result_after_body_change<'t>(
 /// Returns the result of checking a module after the statements of one body were replaced, perhaps
 /// by a different number of tokens. `before` is the result before the replacement, and `same` gives
 /// the tokens that are the same before and after it. If the module was valid before, only its
-/// declarations and the new body are checked again, and if possible only the new body is searched
+/// declarations and the new body are checked again. If possible, only the new body is then searched
 /// for fields. Otherwise the whole module is checked again.
 pub fn check_result_with_new_body<'t>(
     alloc: Global,

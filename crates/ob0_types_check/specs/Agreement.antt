@@ -126,8 +126,9 @@ TokensAgreeWithLabels facts shape label meaning [] = Unit {0}
 TokensAgreeWithLabels facts shape label meaning (x ∷ xs) =
     TokenAgreesWithLabel facts shape label meaning x.0 x.1 × TokensAgreeWithLabels facts shape label meaning xs
 
--- states that the types in `facts` agree with their shapes, and that the meaning that `facts` has for each identifier
--- in the tree `t` agrees with the identifier's label (`TokensAgreeWithLabels`)
+-- States that the types in `facts` agree with their shapes. Also states that the meaning that
+-- `facts` has for each identifier in the tree `t` agrees with the identifier's label
+-- (`TokensAgreeWithLabels`).
 pub record FactsAgreeWithShapesAndLabels
     {T N : Type 0} (facts : Facts T) (shape : T → Option Shape) (label : ℕ → N) (meaning : TypeMeanings N)
     {s : Sort} (t : Tree ℕ s) : Type 0 where

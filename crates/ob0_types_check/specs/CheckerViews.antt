@@ -139,9 +139,9 @@ heading_in_state s formals = record { formals = map formal_of formals; following
 abbrev pub capped_size : Size → Size
 capped_size z = record { scalars = min z.scalars (2 ^ 64 - 1); depth = min z.depth (2 ^ 64 - 1) }
 
--- States that the fields `now`, which the code has found, are the fields of `g`, and that their total size is the size
--- in `g`, capped at 2^64 - 1. Also states that the code's state `s` is the state in `g`, which is the state after these
--- fields.
+-- States that the fields `now`, which the code has found, are the fields of `g`. Their total size
+-- must be the size in `g`, capped at 2^64 - 1. Also states that the code's state `s` is the state
+-- in `g`, which is the state after these fields.
 pub record HasKnownFields (g : KnownFields) (s : CheckerState) (now : gathering.KnownFields) : Type 0 where
   pub fields : known_fields_of now.fields.items ≡ g.fields
   pub size : size_of now.size ≡ capped_size g.size

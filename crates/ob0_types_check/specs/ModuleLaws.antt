@@ -42,8 +42,9 @@ pub record KnowsDeclarations (p : KnownDeclarations) (m : Tree Name module_text)
 abbrev pub HasDeclarations : Tree Name module_text → DeclarationTableView → Type 0
 HasDeclarations m t = (k : ℕ) → declared_object_in t k ≡ declared_object m k
 
--- States that if no fault of types and no undeclared name is reported for a module, the walk over the module has found
--- the right meaning of each declaration (`KnowsDeclarations`).
+-- States that a walk that reports nothing finds correct meanings. If no fault of types and no
+-- undeclared name is reported for a module, the walk has found the right meaning of each
+-- declaration (`KnowsDeclarations`).
 abbrev pub WalkWithoutFaultFindsCorrectMeanings : Type 0
 WalkWithoutFaultFindsCorrectMeanings =
     (r : Resolution)

@@ -262,9 +262,10 @@ field_type_or_fault facts token None =
     record { known = facts.types.unknown; faults = fault_at_token code.NoField token }
 field_type_or_fault facts token (Some t) = without_fault t
 
--- Returns the type of the field with the name at a token, given the form of the type before the `.`. `NotRecord` is
--- reported at the `.` if that type is known and isn't a record, and `NoField` at the name if the record has no such
--- field. In both cases, and if the type before the `.` is unknown, the result is the unknown type.
+-- Returns the type of the field with the name at a token, given the form of the type before the
+-- `.`. If that type is known and isn't a record, `NotRecord` is reported at the `.`. If the record
+-- has no such field, `NoField` is reported at the name. In both cases, and if the type before the
+-- `.` is unknown, the result is the unknown type.
 abbrev pub field_type_in_form : {T : Type 0} → Facts T → ℕ → TypeForm T → ResultWithFaults T
 field_type_in_form facts token (a_record fields) =
     field_type_or_fault facts token (fields (token_text_at facts.source token))

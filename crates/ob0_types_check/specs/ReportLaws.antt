@@ -45,8 +45,8 @@ FaultlessExpressionsHaveCorrectTypesAndValues N =
     → OperandAgreesWithExpression (shape_of_type_in shapes) (allowed_meanings only_constants meaning)
     (report_on_expression (facts_at p only_constants) e).known (mapped_tree label (token_value_at p.source) e)
 
--- states that the expression `e`, the right side of a constant's declaration, has a value, that this value is a scalar,
--- and that `reported` is this value
+-- States that the expression `e`, the right side of a constant's declaration, has a scalar value,
+-- and that `reported` is this value.
 pub record ConstantAgreesWithExpression
     {N : Type 0} (meaning : TypeMeanings N) (reported : Option Value) (e : Tree N expression)
     : Type 0 where
@@ -97,8 +97,8 @@ FaultlessStatementsAreWellTyped N =
     → sequence_faults (facts_at p false) statements ≡ []
     → sequence_is_well_typed meaning (mapped_tree label (token_value_at p.source) statements) ≡ true
 
--- States that every type agrees with its shape if each array and record type in the list `made` agrees with the shape
--- at the same index of `shapes`.
+-- States that every type agrees with its shape if the table of types does. The table agrees if each
+-- array and record type in the list `made` agrees with the shape at the same index of `shapes`.
 abbrev pub TypesAgreeWithShapesIfTableDoes : Type 0
 TypesAgreeWithShapesIfTableDoes =
     (made : List CompositeType) (shapes : List Shape)

@@ -32,8 +32,8 @@ target_type_by_meaning facts token (Some (a_procedure fs)) =
     record { known = facts.types.unknown; faults = fault_at_token code.WrongKind token }
 target_type_by_meaning facts token None = without_fault facts.types.unknown
 
--- returns the type of the name at a token that is assigned to, with a fault if the name refers to something other than
--- a variable or parameter
+-- Returns the type of the name at a token that is assigned to. Reports a fault if the name refers
+-- to something other than a variable or parameter.
 abbrev pub target_name_type : {T : Type 0} → Facts T → ℕ → ResultWithFaults T
 target_name_type facts token = target_type_by_meaning facts token (facts.object_for token)
 

@@ -68,15 +68,15 @@ ordinal_of_shape boolean_shape = None
 ordinal_of_shape (array_shape k n s) = Some k
 ordinal_of_shape (record_shape k fs) = Some k
 
--- states that no two array or record shapes in the list have the same ordinal, so that each comes
--- from a different occurrence of ARRAY or RECORD in the text
+-- States that no two array or record shapes in the list have the same ordinal. So each shape comes
+-- from a different occurrence of ARRAY or RECORD in the text.
 abbrev pub HaveDistinctOrdinals : List Shape → Type 0
 HaveDistinctOrdinals shapes =
     (i j k : ℕ) (s t : Shape) → slice_get shapes i ≡ Some s → slice_get shapes j ≡ Some t
     → ordinal_of_shape s ≡ Some k → ordinal_of_shape t ≡ Some k → i ≡ j
 
 -- States that no fault is reported for well-typed statements. The types and meanings known for the
--- names in the statements must be correct (`FactsAgreeWithShapesAndLabels`), and no two array or record
+-- names in the statements must be correct (`FactsAgreeWithShapesAndLabels`). No two array or record
 -- types may have the same ordinal (`HaveDistinctOrdinals`).
 abbrev pub WellTypedStatementsHaveNoFault : Type 0 → Type 0
 WellTypedStatementsHaveNoFault N =

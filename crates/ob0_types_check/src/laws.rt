@@ -48,8 +48,9 @@ pub fn modules_without_fault_pass_type_check()
     ensures { ModulesWithoutFaultPassTypeCheck }
 {}
 
-/// Proves that if no fault of types and no undeclared name is reported for a module, the walk over
-/// the module has found the right meaning of each declaration (`KnowsDeclarations`).
+/// Proves that a walk that reports nothing finds correct meanings. If no fault of types and no
+/// undeclared name is reported for a module, the walk has found the right meaning of each
+/// declaration (`KnowsDeclarations`).
 pub fn walk_without_fault_finds_correct_meanings()
     ensures { WalkWithoutFaultFindsCorrectMeanings }
 {}

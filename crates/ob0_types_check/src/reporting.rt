@@ -47,8 +47,8 @@
 //! walks the declarations, the changed body and the bodies that had faults, and skips all others.
 //! The report lists the bodies with faults, for the next change.
 //!
-//! If the statements of one body were replaced, and the module passes the type check without them,
-//! only these statements can have faults (`NewBody` of the proofs).
+//! Suppose that the statements of one body were replaced, and the module passes the type check
+//! without them. Then only these statements can have faults (`NewBody` of the proofs).
 //! `module_report_walking_one_body` walks the declarations and that body.
 //!
 //! The ordinal of a word ARRAY or RECORD is the number of such words before it in the text. The

@@ -49,8 +49,8 @@ constructor_walk_meanings w = meanings_by_token (declared_object_in w.table.now)
 abbrev pub shape_in_walk : ConstructorWalk → Option TypeId → Option Shape
 shape_in_walk w of = option_map (type_shape (shapes_of w.table.now)) of
 
--- converts a state of the code's search to a state of the definitions, given the list `shapes` of the array and record
--- types (`Shape`) in the table of declarations
+-- Converts a state of the code's search to a state of the definitions. The list `shapes` has the
+-- array and record types (`Shape`) in the table of declarations.
 abbrev pub search_view : List Shape → ConstructorSearch → ConstructorSearchState
 search_view shapes (search.Found of) = is_found (option_map (type_shape shapes) of)
 search_view shapes (search.Skipping n) = is_skipping n
@@ -60,7 +60,7 @@ search_view shapes (search.Skipping n) = is_skipping n
 abbrev pub search_view_in_walk : ConstructorWalk → ConstructorSearch → ConstructorSearchState
 search_view_in_walk w s = search_view (shapes_of w.table.now) s
 
--- converts a typed field of the code to a typed field of the definitions, given the list `shapes` of the array and
--- record types (`Shape`) in the table of declarations
+-- Converts a typed field of the code to a typed field of the definitions. The list `shapes` has the
+-- array and record types (`Shape`) in the table of declarations.
 abbrev pub typed_field_view : List Shape → code.TypedField → TypedField
 typed_field_view shapes f = record { field = f.field; shape = type_shape shapes f.type_id }

@@ -11,9 +11,9 @@
 //! (`fields_match_grammar`). So each found field replaces an old one, and all other fields keep
 //! their tokens.
 //!
-//! If the statements of one body were replaced, perhaps by a different number of tokens, the fields
-//! that the body selects are also found again (`ModuleFields::with_replaced_body`). The fields
-//! before the body are kept. The fields after the body get the new indexes of their tokens.
+//! If the statements of one body were replaced, the fields that the body selects are also found
+//! again (`ModuleFields::with_replaced_body`). The body may then have more or fewer tokens. The
+//! fields before the body are kept. The fields after the body get the new indexes of their tokens.
 //!
 //! A list has token indexes but not the text, so a caller may use the list with another text. If
 //! that text has no token with such an index, the code treats the field as an empty span at the

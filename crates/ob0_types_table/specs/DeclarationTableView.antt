@@ -71,8 +71,8 @@ RefersOnlyToFirstEntries n (type.Array i) = i < n
 RefersOnlyToFirstEntries n (type.Record i) = i < n
 RefersOnlyToFirstEntries n _ = Unit {0}
 
--- states that the element type of an array, or the type of each field of a record, refers to no entry of the table
--- or to one of the first `n` entries
+-- States that the types of an entry's parts refer to no entry of the table, or to one of the first
+-- `n` entries. The parts are an array's elements or a record's fields.
 abbrev pub PartsReferOnlyToFirstEntries : ℕ → code.TypeEntry → Type 0
 PartsReferOnlyToFirstEntries n (made.Array a) = RefersOnlyToFirstEntries n a.element
 PartsReferOnlyToFirstEntries n (made.Record r) = All (λ f. RefersOnlyToFirstEntries n f.of) r.fields

@@ -466,7 +466,8 @@ pub record HoldsForExchange (begin now : Exchange) : Type 0 where
   pub unpublished_documents : List AnnouncedDocument
   pub announced : now.announced ≡ published_documents ++ unpublished_documents
   pub right : AreCorrectForDocuments (versioned_publications_in since) published_documents
-  -- the contents that still wait for the session announce the other documents, `unpublished_documents`
+  -- the contents that still wait for the session announce the other documents,
+  -- `unpublished_documents`
   pub unpublished_are_queued : map uri_and_version_of unpublished_documents ≡ uris_and_versions_announced_in (notifications_in now.wire.to_server)
   -- If no notification about a document waits for the session, the latest list of diagnostics of
   -- each open document is for the document's present version and text.
@@ -487,8 +488,8 @@ pub record HoldsForExchange (begin now : Exchange) : Type 0 where
       → IsConversation now.wire.session (shutdown ∷ exit ∷ []) sent end
       → EndsAfterShutdown id now.wire.session sent end
 
--- states that the guarantees (`HoldsForExchange`) hold for every exchange between a session and an
--- editor that keeps ob0's rules
+-- states that the guarantees (`HoldsForExchange`) hold for every exchange between a
+-- session and an editor that keeps ob0's rules
 abbrev pub HoldsForEveryExchange : Type 0
 HoldsForEveryExchange =
     (unit : Unit) (begin now : Exchange) (turns : List Turn)

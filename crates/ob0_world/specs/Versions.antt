@@ -81,9 +81,9 @@ MentionsDocumentOfAsk requested content =
     → option_and_then request_number_from_id (get (codes "id") answer) ≡ Some k
     → (a : SentAsk) × (request_numbered requested k ≡ Some a) × MentionsAskedDocument a answer
 
--- States that after any list of events, `MentionsDocumentOfAsk` holds for each content that waits
--- for the editor. Each content that the editor has taken waited before, so it also holds for the
--- taken contents.
+-- States that after any list of events, `MentionsDocumentOfAsk` holds for each content that
+-- waits for the editor. Each content that the editor has taken waited before, so it also holds for
+-- the taken contents.
 abbrev pub AnswersMentionVersions : Type 0
 AnswersMentionVersions =
     (unit : Unit) (begin : Connection) (events : List Event) (now : Connection)

@@ -195,7 +195,7 @@ pub record MakesStep (old : World) (event : Event) (seen : Seen) (new : World) :
   pub has_not_ended : new.ended ≡ false
 
 -- States that the world makes this step (`MakesStep`). The first argument is true if the world had
--- ended before the step. Then this never holds.
+-- ended before the step. In that case, the statement is false.
 abbrev pub StepsUnlessEnded : Bool → World → Event → Seen → World → Type 0
 StepsUnlessEnded false old event seen new = MakesStep old event seen new
 StepsUnlessEnded true old event seen new = ⊥

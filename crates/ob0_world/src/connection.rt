@@ -177,7 +177,7 @@ impl<T: TextStore> Connection<T> {
         send(&mut self.to_server, content)
     }
 
-    /// Lets the session take the first waiting content, and queues its replies for the editor. If
+    /// Gives the first waiting content to the session, and queues its replies for the editor. If
     /// the first reply publishes diagnostics with a version, the publication is recorded with its
     /// document's text in the session. If no content waits, nothing happens.
     fn serve(&mut self) -> Result<Seen, AllocError>
@@ -269,8 +269,8 @@ impl<T: TextStore> Connection<T> {
     }
 }
 
-/// Moves the first content of `waiting` to the end of `got`. If nothing waits, does nothing. The
-/// list `got` must have room for one more content.
+/// Removes the first content of `waiting` and appends it to `got`. If nothing waits, does nothing.
+/// The list `got` must have room for one more content.
 fn move_first_content(waiting: &mut VecDeque<Vec<u8>>, got: &mut Vec<Vec<u8>>)
     requires { vec_len got.old < vec_capacity got.old }
     ensures { MovesFirstContent waiting.old.items got.old.items waiting.new.items got.new.items }

@@ -126,9 +126,9 @@ FramingExists =
 -- ---- a conversation, as bytes
 
 -- States that `serve` answers as the session does. If the input of `serve` is the frames of the
--- contents that a session took, the output is the frames of the contents that the session sent. The
--- law excludes calls that return `Memory` or `Write`, and contents of more than `max_content_length`
--- bytes.
+-- contents that a session took, the output is the frames of the contents that the session sent.
+-- The law excludes calls that return `Memory` or `Write`, and contents of more than
+-- `max_content_length` bytes.
 abbrev pub ConversationIsServed : Type 0
 ConversationIsServed =
     (taken sent : List (List ℕ)) (after : ServerState)
@@ -154,8 +154,8 @@ ConversationIsServedAsPrefix =
 -- States that `serve` ends as the session does. Suppose that the input of `serve` is the frames of
 -- the contents of a conversation that ended, followed by any bytes. Then `serve` writes the frames
 -- of the contents that the session sent, and no more, and returns the conversation's status. The
--- law excludes calls that return `Memory` or `Write`, and contents of more than `max_content_length`
--- bytes.
+-- law excludes calls that return `Memory` or `Write`, and contents of more than
+-- `max_content_length` bytes.
 abbrev pub EndedConversationIsServed : Type 0
 EndedConversationIsServed =
     (taken sent : List (List ℕ)) (after : ServerState) (status : ℕ)

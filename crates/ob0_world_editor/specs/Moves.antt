@@ -92,8 +92,8 @@ pub record Rewrites (old : Editor) (done : ActResult) (r : rewritten.RewrittenDo
   pub says : done.sent ≡ text_notification r ∷ []
   pub few : r.version < 2 ^ 63
 
--- states that the act gives the document the new text in `r` (`Rewrites`), or that there is neither
--- an act nor a new text (both are None)
+-- states that the act gives the document the new text in `r` (`Rewrites`), or that there
+-- is neither an act nor a new text (both are None)
 abbrev pub IsRewritten : Editor → Option ActResult → Option rewritten.RewrittenDocument → Type 0
 IsRewritten e None None = ⊤
 IsRewritten e None (Some r) = ⊥

@@ -24,8 +24,8 @@ pub data Move : Type 0 where
   to_revise : List ℕ → List Revision → Move
   to_close : List ℕ → Move
   to_ask : List ℕ → Ask → Move
-  -- `to_apply` makes the edits of the answer to the request with this number, and sends them as
-  -- revisions; `to_discard` discards the answer
+  -- `to_apply` makes the edits of the answer to the request with this number, and sends them
+  -- as revisions; `to_discard` discards the answer
   to_apply : ℕ → List Revision → Move
   to_discard : ℕ → Move
 
@@ -40,8 +40,9 @@ abbrev pub with_document : Editor → List ℕ → OpenDocument → Editor
 with_document e uri d = record e { documents = map_of.insert e.documents uri d }
 
 -- States that these revisions of the open document `uri`, made in order, lead from editor `e` to
--- `new`. `announced` is the document after each revision. The changes of each revision turn the text
--- before it into the text after it. Positions are counted in the editor's unit. Any version is allowed.
+-- `new`. `announced` is the document after each revision. The changes of each revision turn the
+-- text before it into the text after it. Positions are counted in the editor's unit. Any version
+-- is allowed.
 abbrev pub Revises : Editor → List ℕ → List Revision → Editor → List AnnouncedDocument → Type 0
 Revises e uri [] new announced = (new ≡ e) × (announced ≡ [])
 Revises e uri (r ∷ more) new announced =

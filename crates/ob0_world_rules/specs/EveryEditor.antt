@@ -139,8 +139,8 @@ MayLeadTo w (turn ∷ turns) new =
 
 -- ---- the laws
 
--- states the guarantees for the state `w`; according to the law `HoldsForEveryEditor`, they hold
--- for each state to which turns lead
+-- states the guarantees for the state `w`; according to the law `HoldsForEveryEditor`,
+-- they hold for each state to which turns lead
 pub record HoldsForEditorAndServer (w : EditorAndServer) : Type 0 where
   -- Each applied edit keeps the module's run. Each list of diagnostics is empty exactly if its text
   -- is a well-typed module. If no message of the model waits for the server, the latest diagnostics

@@ -42,8 +42,8 @@ PublicationsAreUpToDate e made =
 
 -- ---- the guarantees for a list of events
 
--- states the guarantees for the state `w`; according to the law `HoldsInEveryInterleaving`, they
--- hold for each state to which events lead
+-- states the guarantees for the state `w`; according to the law
+-- `HoldsInEveryInterleaving`, they hold for each state to which events lead
 pub record GuaranteesHold (w : ClientAndServer) : Type 0 where
   -- each applied edit keeps the module's run
   pub applied : All PreservesRun w.applied

@@ -22,8 +22,8 @@ terminals_of_lexeme lexeme.Space text = []
 terminals_of_lexeme lexeme.Comment text = []
 terminals_of_lexeme (lexeme.Token kind) text = terminal_of_kind text kind ∷ []
 
--- States that these bytes are the text of a module with this tree. The text has at most `max_text_length`
--- bytes, and the tree isn't nested deeper than `max_nesting`.
+-- States that these bytes are the text of a module with this tree. The text has at most
+-- `max_text_length` bytes, and the tree isn't nested deeper than `max_nesting`.
 pub record IsModuleText (tree : Tree Name module_text) (bytes : List ℕ) : Type 0 where
   pub utf8 : IsUtf8 bytes
   pub lexemes : List Lexeme

@@ -110,7 +110,7 @@ impl<'t> ReportingWalk<'t> {
     }
 
     /// Reports the faults of a procedure. The meaning of the procedure's name is recorded after the
-    /// heading and before the block is walked, so the procedure's own body can call the procedure.
+    /// heading and before the block is walked. So the procedure's own body can call the procedure.
     #[cycle(blocks)]
     fn report_procedure(
         &mut self,
